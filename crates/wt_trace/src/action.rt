@@ -4,7 +4,7 @@ ghost use Rattle.std.specs.Prelude.{◌≡◌, []};
 use crate::piece::Piece;
 use std::alloc::Global;
 use std::marker::Model;
-use wt_proto::StreamId;
+use wt_proto::ids::StreamId;
 
 /// What the transport is told to do.
 #[derive(Debug, Drop)]

@@ -5,7 +5,8 @@ use crate::action::Actions;
 use crate::piece::Piece;
 use std::alloc::Global;
 use std::marker::Model;
-use wt_proto::{HeaderList, SessionId, StreamId};
+use wt_proto::header_list::HeaderList;
+use wt_proto::ids::{SessionId, StreamId};
 
 /// The reply to one turn.
 #[derive(Debug, Drop)]

@@ -4,7 +4,8 @@ ghost use Rattle.std.specs.Prelude.{◌≡◌, []};
 use crate::piece::Piece;
 use std::alloc::Global;
 use std::marker::Model;
-use wt_proto::{HeaderList, StreamId};
+use wt_proto::header_list::HeaderList;
+use wt_proto::ids::StreamId;
 
 /// What the transport tells about datagrams (RFC 9221).
 #[derive(Clone, Copy, PartialEq, Eq, Debug)]
