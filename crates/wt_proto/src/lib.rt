@@ -3,6 +3,9 @@
 
 pub mod alpn;
 pub mod error;
+mod front;
 pub mod ids;
 pub mod side;
 pub mod varint;
+pub mod verdict;
+pub mod walk;
