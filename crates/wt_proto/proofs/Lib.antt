@@ -1,1 +1,4 @@
 pub mod VarintAgain
+pub mod VarintLaws
+pub mod WalkLaws
+pub mod FrameLaws
