@@ -121,5 +121,38 @@ module _ (id_at : List ℕ → Option (ℕ × ℕ)) (on : ReadsOn id_at) where
   }
 
 -- what a frame does takes that frame's bytes
-pub IsEffect : {S O : Type 0} → (S → ℕ → Frame → Step S O) → Type 0
-IsEffect {S} {O} effect = (s : S) (n : ℕ) (f : Frame) → taken (effect s n f) ≡ Some n
+pub record IsEffect {S O : Type 0} (effect : S → ℕ → Frame → Step S O) : Type 0 where
+  pub takes : (s : S) (n : ℕ) (f : Frame) → taken (effect s n f) ≡ Some n
+
+module _ {S O : Type 0} (id_at : List ℕ → Option (ℕ × ℕ)) (on : ReadsOn id_at) (effect : S → ℕ → Frame → Step S O) (whole : IsEffect effect) where
+  same-more : (s : S) (xs ys : List ℕ) (n : ℕ) (f : Option (Frame × ℕ)) → frame_at id_at xs ≡ f → taken (decided (effect s) f) ≡ Some n →
+      decided (effect s) (frame_at id_at (xs ++ ys)) ≡ decided (effect s) f
+  same-more s xs ys n None is e = absurd cc
+  same-more s xs ys n (Some f) is e = rw ((frame-reader id_at on).more xs ys f is) refl
+
+  same-front : (s : S) (xs ys : List ℕ) (n : ℕ) (f : Option (Frame × ℕ)) → frame_at id_at (xs ++ ys) ≡ f → taken (decided (effect s) f) ≡ Some n → n ≤ length xs →
+      decided (effect s) (frame_at id_at xs) ≡ decided (effect s) f
+  same-front s xs ys n None is e le = absurd cc
+  same-front s xs ys n (Some f) is e le =
+      let size : f.1 ≡ n = grind (arith, whole.takes s f.1 f.0) in
+      let within : f.1 ≤ length xs = omega arith in
+      rw ((frame-reader id_at on).front xs ys f is within) refl
+
+  some-taken : (s : S) (xs : List ℕ) (n : ℕ) (f : Option (Frame × ℕ)) → frame_at id_at xs ≡ f → taken (decided (effect s) f) ≡ Some n → 1 ≤ n
+  some-taken s xs n None is e = absurd cc
+  some-taken s xs n (Some f) is e =
+      let size : f.1 ≡ n = grind (arith, whole.takes s f.1 f.0) in
+      omega (arith, (frame-reader id_at on).some xs f is)
+
+  nothing-decided : (s : S) → decided (effect s) (frame_at id_at []) ≡ Cut
+  nothing-decided s = rw (frame-reader id_at on).nothing refl
+
+-- a walk over frames is steady
+pub frames-steady : {S O : Type 0} (id_at : List ℕ → Option (ℕ × ℕ)) → ReadsOn id_at → (effect : S → ℕ → Frame → Step S O) → IsEffect effect →
+    IsSteady (λ s xs. decided (effect s) (frame_at id_at xs))
+frames-steady id_at on effect whole = record {
+  nothing = nothing-decided id_at on effect whole;
+  more = λ s xs ys n e. same-more id_at on effect whole s xs ys n (frame_at id_at xs) refl e;
+  front = λ s xs ys n e le. same-front id_at on effect whole s xs ys n (frame_at id_at (xs ++ ys)) refl e le;
+  some = λ s xs n e. some-taken id_at on effect whole s xs n (frame_at id_at xs) refl e;
+}

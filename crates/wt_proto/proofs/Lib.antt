@@ -2,3 +2,4 @@ pub mod VarintAgain
 pub mod VarintLaws
 pub mod WalkLaws
 pub mod FrameLaws
+pub mod UniLaws

@@ -6,6 +6,7 @@ pub mod error;
 pub mod frame;
 mod front;
 pub mod ids;
+pub mod laws;
 pub mod side;
 pub mod stream_header;
 pub mod varint;
