@@ -1,1 +1,5 @@
 pub mod VarintAgain
+pub mod VarintLaws
+pub mod WalkLaws
+pub mod FrameLaws
+pub mod UniLaws

@@ -1,3 +1,10 @@
 pub mod Varint
 pub mod Ids
 pub mod Codes
+pub mod Uni
+pub mod Walk
+pub mod Frames
+pub mod Front
+pub mod Steady
+pub mod FrameBytes
+pub mod StreamHeader

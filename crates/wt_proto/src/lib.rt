@@ -3,6 +3,12 @@
 
 pub mod alpn;
 pub mod error;
+pub mod frame;
+mod front;
 pub mod ids;
+pub mod laws;
 pub mod side;
+pub mod stream_header;
 pub mod varint;
+pub mod verdict;
+pub mod walk;
