@@ -1,3 +1,4 @@
+pub mod Equality
 pub mod History
 pub mod Seam
 pub mod Verdicts

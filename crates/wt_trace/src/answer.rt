@@ -1,15 +1,14 @@
 //! Answers: the reply to a turn, and the actions that go out.
-ghost use Rattle.std.specs.Prelude.{◌≡◌, []};
+ghost use Rattle.std.specs.Prelude.{◌≡◌, ◌↔◌, ◌++◌, ◌∷◌, [], IfOk, IsTrue, OnErr, OnOk};
 
 use crate::action::Actions;
 use crate::piece::Piece;
 use std::alloc::Global;
 use std::marker::Model;
-use wt_proto::header_list::HeaderList;
-use wt_proto::ids::{SessionId, StreamId};
+use wt_proto::{HeaderList, OutOfMemory, SessionId, StreamId};
 
 /// The reply to one turn.
-#[derive(Debug, Drop)]
+#[derive(PartialEq, Eq, Debug, Drop)]
 pub enum Reply {
     /// The turn was taken.
     Done,
@@ -29,13 +28,124 @@ pub enum Reply {
     Read(Option<Piece>),
 }
 
+impl Reply {
+    /// A reply that is equal to this one.
+    pub fn copy(&self, alloc: Global) -> Result<Reply, OutOfMemory>
+        ensures { IfOk result (λ r. r ≡ self.now) }
+    {
+        Ok(match self {
+            Reply::Done => Reply::Done,
+            Reply::Pending => Reply::Pending,
+            Reply::NoSession => Reply::NoSession,
+            Reply::NoStream => Reply::NoStream,
+            Reply::Request { id, headers } => Reply::Request {
+                id: *id,
+                headers: headers.copy(alloc)?,
+            },
+            Reply::Session(id) => Reply::Session(*id),
+            Reply::Uni(id) => Reply::Uni(*id),
+            Reply::Read(None) => Reply::Read(None),
+            Reply::Read(Some(piece)) => Reply::Read(Some(piece.copy()?)),
+        })
+    }
+
+    /// Whether both are the same reply with the same fields.
+    pub fn is_equal(&self, other: &Reply) -> bool
+        ensures { IsTrue result ↔ (self.now ≡ other.now) }
+    {
+        match self {
+            Reply::Done => match other {
+                Reply::Done => true,
+                _ => false,
+            },
+            Reply::Pending => match other {
+                Reply::Pending => true,
+                _ => false,
+            },
+            Reply::NoSession => match other {
+                Reply::NoSession => true,
+                _ => false,
+            },
+            Reply::NoStream => match other {
+                Reply::NoStream => true,
+                _ => false,
+            },
+            Reply::Request { id, headers } => match other {
+                Reply::Request {
+                    id: other_id,
+                    headers: other_headers,
+                } => is_same_request(*id, headers, *other_id, other_headers),
+                _ => false,
+            },
+            Reply::Session(id) => match other {
+                Reply::Session(other_id) => id == other_id,
+                _ => false,
+            },
+            Reply::Uni(id) => match other {
+                Reply::Uni(other_id) => id == other_id,
+                _ => false,
+            },
+            Reply::Read(piece) => match other {
+                Reply::Read(other_piece) => is_same_read(piece, other_piece),
+                _ => false,
+            },
+        }
+    }
+}
+
+#[tactic(auto, using(crate::proofs::Equality::fields_decide))]
+fn is_same_request(
+    id: SessionId,
+    headers: &HeaderList,
+    other_id: SessionId,
+    other_headers: &HeaderList,
+) -> bool
+    ensures { IsTrue result ↔ ((id ≡ other_id) × (headers.now ≡ other_headers.now)) }
+{
+    id == other_id && headers == other_headers
+}
+
+fn is_same_read(piece: &Option<Piece>, other: &Option<Piece>) -> bool
+    ensures { IsTrue result ↔ (piece.now ≡ other.now) }
+{
+    match piece {
+        None => match other {
+            None => true,
+            Some(_) => false,
+        },
+        Some(piece) => match other {
+            None => false,
+            Some(other) => piece.is_equal(other),
+        },
+    }
+}
+
 /// The answer to one turn.
-#[derive(Debug, Drop)]
+#[derive(PartialEq, Eq, Debug, Drop)]
 pub struct Answer {
     /// What the caller is told.
     pub reply: Reply,
     /// What goes out, in order.
     pub actions: Actions,
+}
+
+impl Answer {
+    /// An answer that is equal to this one.
+    pub fn copy(&self, alloc: Global) -> Result<Answer, OutOfMemory>
+        ensures { IfOk result (λ a. a ≡ self.now) }
+    {
+        Ok(Answer {
+            reply: self.reply.copy(alloc)?,
+            actions: self.actions.copy()?,
+        })
+    }
+
+    /// Whether both have the same reply and the same actions.
+    pub fn is_equal(&self, other: &Answer) -> bool
+        ensures { IsTrue result ↔ (self.now ≡ other.now) }
+    {
+        self.reply.is_equal(&other.reply) && self.actions.is_equal(&other.actions)
+    }
 }
 
 /// A list of answers. Contracts see it as the list.
@@ -63,10 +173,31 @@ impl Answers {
         }
     }
 
+    /// Adds an answer at the end. Where no memory is there for it, nothing changes.
+    pub fn push(&mut self, answer: Answer) -> Result<(), OutOfMemory>
+        ensures ok { OnOk result (self.new ≡ self.old ++ answer ∷ []) }
+        ensures err { OnErr result (self.new ≡ self.old) }
+    {
+        self.items.push(answer)?;
+        Ok(())
+    }
+
     /// The answers as a slice.
     pub fn as_slice(&self) -> &[Answer]
         ensures { result.now ≡ self.now }
     {
         self.items.as_slice()
+    }
+
+    /// A list of equal answers.
+    pub fn copy(&self) -> Result<Answers, OutOfMemory>
+        ensures { IfOk result (λ answers. answers ≡ self.now) }
+    {
+        let alloc = *self.items.allocator();
+        let mut copied = Answers::new(alloc);
+        for answer in self.items.as_slice() {
+            copied.push(answer.copy(alloc)?)?;
+        }
+        Ok(copied)
     }
 }

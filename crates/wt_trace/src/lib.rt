@@ -8,6 +8,7 @@
 pub mod action;
 pub mod answer;
 pub mod piece;
+pub mod send;
 pub mod turn;
 
 pub use action::{Action, Actions};

@@ -1,11 +1,10 @@
 //! What happens to a connection, one turn after another.
-ghost use Rattle.std.specs.Prelude.{◌≡◌, []};
+ghost use Rattle.std.specs.Prelude.{◌≡◌, ◌↔◌, ◌++◌, ◌∷◌, [], IfOk, IsTrue, OnErr, OnOk};
 
 use crate::piece::Piece;
 use std::alloc::Global;
 use std::marker::Model;
-use wt_proto::header_list::HeaderList;
-use wt_proto::ids::StreamId;
+use wt_proto::{HeaderList, OutOfMemory, StreamId};
 
 /// What the transport tells about datagrams (RFC 9221).
 #[derive(Clone, Copy, PartialEq, Eq, Debug)]
@@ -19,7 +18,7 @@ pub enum DatagramFact {
 }
 
 /// A call of the application.
-#[derive(Debug, Drop)]
+#[derive(PartialEq, Eq, Debug, Drop)]
 pub enum Call {
     /// Asks for the peer's request.
     Incoming,
@@ -31,8 +30,35 @@ pub enum Call {
     Read { id: StreamId, size: u64 },
 }
 
+impl Call {
+    /// A call that is equal to this one.
+    pub fn copy(&self, alloc: Global) -> Result<Call, OutOfMemory>
+        ensures { IfOk result (λ c. c ≡ self.now) }
+    {
+        Ok(match self {
+            Call::Incoming => Call::Incoming,
+            Call::Accept { headers } => Call::Accept {
+                headers: headers.copy(alloc)?,
+            },
+            Call::AcceptUni => Call::AcceptUni,
+            Call::Read { id, size } => Call::Read {
+                id: *id,
+                size: *size,
+            },
+        })
+    }
+
+    /// Whether both are the same call with the same fields.
+    #[tactic(auto, using(crate::proofs::Equality::fields_decide))]
+    pub fn is_equal(&self, other: &Call) -> bool
+        ensures { IsTrue result ↔ (self.now ≡ other.now) }
+    {
+        self == other
+    }
+}
+
 /// One event of the QUIC transport, or one call of the application.
-#[derive(Debug, Drop)]
+#[derive(PartialEq, Eq, Debug, Drop)]
 pub enum Turn {
     /// The connection stands: how many streams of each kind this end may open, how many bytes each
     /// sending half may send, and what holds of datagrams.
@@ -47,9 +73,86 @@ pub enum Turn {
     /// The peer opened its next bidirectional stream.
     PeerBi,
     /// Bytes arrived on a stream.
-    Bytes { id: StreamId, piece: Piece },
+    Bytes {
+        id: StreamId,
+        piece: Piece,
+    },
     /// The application called.
     Call(Call),
+}
+
+impl Turn {
+    /// A turn that is equal to this one.
+    pub fn copy(&self, alloc: Global) -> Result<Turn, OutOfMemory>
+        ensures { IfOk result (λ t. t ≡ self.now) }
+    {
+        Ok(match self {
+            Turn::Connected {
+                uni,
+                bi,
+                credit,
+                datagrams,
+            } => Turn::Connected {
+                uni: *uni,
+                bi: *bi,
+                credit: *credit,
+                datagrams: *datagrams,
+            },
+            Turn::PeerUni => Turn::PeerUni,
+            Turn::PeerBi => Turn::PeerBi,
+            Turn::Bytes { id, piece } => Turn::Bytes {
+                id: *id,
+                piece: piece.copy()?,
+            },
+            Turn::Call(call) => Turn::Call(call.copy(alloc)?),
+        })
+    }
+
+    /// Whether both are the same turn with the same fields.
+    pub fn is_equal(&self, other: &Turn) -> bool
+        ensures { IsTrue result ↔ (self.now ≡ other.now) }
+    {
+        match self {
+            Turn::Connected {
+                uni,
+                bi,
+                credit,
+                datagrams,
+            } => match other {
+                Turn::Connected {
+                    uni: other_uni,
+                    bi: other_bi,
+                    credit: other_credit,
+                    datagrams: other_datagrams,
+                } => {
+                    uni == other_uni
+                        && bi == other_bi
+                        && credit == other_credit
+                        && datagrams == other_datagrams
+                }
+                _ => false,
+            },
+            Turn::PeerUni => match other {
+                Turn::PeerUni => true,
+                _ => false,
+            },
+            Turn::PeerBi => match other {
+                Turn::PeerBi => true,
+                _ => false,
+            },
+            Turn::Bytes { id, piece } => match other {
+                Turn::Bytes {
+                    id: other_id,
+                    piece: other_piece,
+                } => id == other_id && piece.is_equal(other_piece),
+                _ => false,
+            },
+            Turn::Call(call) => match other {
+                Turn::Call(other_call) => call.is_equal(other_call),
+                _ => false,
+            },
+        }
+    }
 }
 
 /// A list of turns. Contracts see it as the list.
@@ -77,10 +180,31 @@ impl Turns {
         }
     }
 
+    /// Adds a turn at the end. Where no memory is there for it, nothing changes.
+    pub fn push(&mut self, turn: Turn) -> Result<(), OutOfMemory>
+        ensures ok { OnOk result (self.new ≡ self.old ++ turn ∷ []) }
+        ensures err { OnErr result (self.new ≡ self.old) }
+    {
+        self.items.push(turn)?;
+        Ok(())
+    }
+
     /// The turns as a slice.
     pub fn as_slice(&self) -> &[Turn]
         ensures { result.now ≡ self.now }
     {
         self.items.as_slice()
+    }
+
+    /// A list of equal turns.
+    pub fn copy(&self) -> Result<Turns, OutOfMemory>
+        ensures { IfOk result (λ ts. ts ≡ self.now) }
+    {
+        let alloc = *self.items.allocator();
+        let mut copied = Turns::new(alloc);
+        for turn in self.items.as_slice() {
+            copied.push(turn.copy(alloc)?)?;
+        }
+        Ok(copied)
     }
 }
