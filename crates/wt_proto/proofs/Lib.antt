@@ -3,3 +3,4 @@ pub mod VarintLaws
 pub mod WalkLaws
 pub mod FrameLaws
 pub mod UniLaws
+pub mod HeaderAgain

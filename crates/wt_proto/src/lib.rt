@@ -3,6 +3,7 @@
 
 pub mod alpn;
 pub mod error;
+mod exercise;
 pub mod frame;
 mod front;
 pub mod ids;
