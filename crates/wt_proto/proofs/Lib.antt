@@ -4,3 +4,4 @@ pub mod WalkLaws
 pub mod FrameLaws
 pub mod UniLaws
 pub mod HeaderAgain
+pub mod FrameAgain
