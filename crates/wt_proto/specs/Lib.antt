@@ -8,3 +8,14 @@ pub mod Front
 pub mod Steady
 pub mod FrameBytes
 pub mod StreamHeader
+pub mod Utf8
+pub mod HeaderList
+pub mod Equality
+pub mod PrefixedInteger
+pub mod FieldSection
+pub mod Requests
+pub mod Responses
+pub mod Settings
+pub mod Capsule
+pub mod Datagram
+pub mod Addresses
