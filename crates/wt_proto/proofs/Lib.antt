@@ -20,3 +20,5 @@ pub mod OptionLaws
 pub mod SectionAgain
 pub mod PairLaws
 pub mod SettingsAgain
+pub mod ControlLaws
+pub mod SessionLaws

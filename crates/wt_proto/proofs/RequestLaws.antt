@@ -31,10 +31,13 @@ for_session fields h = for_session_with fields (value_of (codes ":method") field
 -- the four parts of what is judged beside the method
 abbrev scheme : Fields → Bool
 scheme fields = is_value (codes "https") (value_of (codes ":scheme") fields)
+
 abbrev protocol : Fields → Bool
 protocol fields = is_value (codes "webtransport") (value_of (codes ":protocol") fields)
+
 abbrev authority : Fields → Bool
 authority fields = is_some (value_of (codes ":authority") fields)
+
 abbrev path : Fields → Bool
 path fields = is_some (value_of (codes ":path") fields)
 

@@ -237,6 +237,7 @@ past_char c rest s = by (ltb c 128) (ltb c 2048) (ltb c 65536) refl refl refl
   where
     ranges : (c < 55296) ⊎ ((57344 ≤ c) × (c < 1114112))
     ranges = scalar_cases c s
+
     by : (t u v : Bool) → ltb c 128 ≡ t → ltb c 2048 ≡ u → ltb c 65536 ≡ v → is_text (encode c ++ rest) ≡ is_text rest
     by true u v e f g = let h : c < 128 = ltb-true c 128 e in ap (λ bs. is_text (bs ++ rest)) (encode_one c h) ∙ behind c rest _ (lead_one c h)
     by false true v e f g =

@@ -19,3 +19,5 @@ pub mod Settings
 pub mod Capsule
 pub mod Datagram
 pub mod Addresses
+pub mod ControlWalk
+pub mod SessionWalk

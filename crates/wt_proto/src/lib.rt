@@ -4,6 +4,7 @@
 pub mod addr;
 pub mod alpn;
 pub mod capsule;
+pub mod control_walk;
 pub mod error;
 mod exercise;
 pub mod field_section;
@@ -15,6 +16,7 @@ pub mod ids;
 pub mod laws;
 pub mod prefixed_integer;
 pub mod session;
+pub mod session_walk;
 pub mod settings;
 pub mod side;
 pub mod status;

@@ -2,9 +2,8 @@ ghost use Rattle.std.specs.Prelude.{◌≡◌, ◌≤◌, ◌++◌, length, IfSo
 ghost use Rattle.std.specs.Option.{option_map};
 ghost use Rattle.wt_proto.specs.Settings.{AreSmall, IsSmall, Pair, known_setting, no_settings, pair_at, pairs_from, setting, setting_bytes, settings_bytes, settings_of, with_pair, with_setting};
 
-use crate::error::ErrorCode;
+use crate::error::{ErrorCode, OutOfMemory};
 use crate::frame::Frame;
-use crate::error::OutOfMemory;
 use crate::varint::{VarInt, read_varint, write_varint};
 use std::alloc::Global;
 
@@ -162,7 +161,7 @@ impl Settings {
     }
 
     #[tactic(auto, using(crate::proofs::PairLaws::pairs_end, crate::proofs::PairLaws::pairs_cut))]
-    fn read(payload: &[u8]) -> Result<Settings, ErrorCode>
+    pub(crate) fn read(payload: &[u8]) -> Result<Settings, ErrorCode>
         ensures { result ≡ settings_of payload.now }
     {
         let mut settings = Settings::none();
@@ -184,7 +183,7 @@ impl Settings {
     /// pair at fault: `Frame` where it is cut, and `Settings` where its id is reserved (0 and from
     /// 2 to 5), or known and given before. Unknown ids are skipped.
     pub fn with_frame(frame: &Frame) -> Result<Settings, ErrorCode>
-        ensures { result ≡ settings_of frame.now.payload.items }
+        ensures { result ≡ settings_of frame.now.payload }
     {
         Settings::read(frame.payload())
     }
@@ -207,8 +206,8 @@ impl Settings {
     /// A SETTINGS frame of the settings that are there, by ascending ids.
     #[tactic(auto, using(crate::proofs::SettingsAgain::settings_again))]
     pub fn generate_frame(&self, alloc: Global) -> Result<Frame, OutOfMemory>
-        ensures frame { IfOk result (λ f. f.payload.items ≡ settings_bytes self.now) }
-        ensures again { IfOk result (λ f. settings_of f.payload.items ≡ Ok self.now) }
+        ensures frame { IfOk result (λ f. f.payload ≡ settings_bytes self.now) }
+        ensures again { IfOk result (λ f. settings_of f.payload ≡ Ok self.now) }
     {
         Ok(Frame::of_settings(self.payload(alloc)?))
     }
