@@ -20,3 +20,4 @@ pub mod OptionLaws
 pub mod SectionAgain
 pub mod PairLaws
 pub mod SettingsAgain
+pub mod DatagramLaws

@@ -1,10 +1,9 @@
 -- What holds of requests for a session.
-use Rattle.std.proofs.Common.{◌≡◌, ℕ, Bool, true, false, cond, List, [], ◌∷◌, Option, Some, None, Ok, Err, Result, refl, sym, ap, ◌∙◌, subst}
+use Rattle.std.proofs.Common.{◌≡◌, ℕ, Bool, true, false, cond, List, Option, Some, None, Ok, Err, refl, sym, ap, ◌∙◌, subst}
 use Rattle.std.specs.Prelude.{codes, is_some, ◌&&◌, ◌||◌}
 use Rattle.std.specs.Cmp.{first_so, second_so}
 use Rattle.std.specs.Cmp.Lexicographic.{nat_list_eq_equiv}
 use Rattle.std.specs.Str.{bytes_eq}
-use Rattle.wt_proto.specs.declared.session.HeadersParseError.{HeadersParseError}
 use Rattle.wt_proto.specs.declared.session.HeadersParseError.TheVariants.{MethodNotConnect, Other}
 use Rattle.wt_proto.specs.HeaderList.{Fields, with_field, value_of}
 use Rattle.wt_proto.specs.Requests.{is_value, is_for_session, is_reserved, request_with, request_of, request_fields}
@@ -31,10 +30,13 @@ for_session fields h = for_session_with fields (value_of (codes ":method") field
 -- the four parts of what is judged beside the method
 abbrev scheme : Fields → Bool
 scheme fields = is_value (codes "https") (value_of (codes ":scheme") fields)
+
 abbrev protocol : Fields → Bool
 protocol fields = is_value (codes "webtransport") (value_of (codes ":protocol") fields)
+
 abbrev authority : Fields → Bool
 authority fields = is_some (value_of (codes ":authority") fields)
+
 abbrev path : Fields → Bool
 path fields = is_some (value_of (codes ":path") fields)
 

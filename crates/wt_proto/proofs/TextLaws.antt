@@ -1,10 +1,9 @@
 -- The test of UTF-8 that computes is std's.
-use Rattle.std.proofs.Common.{ltb, ◌⊎◌, ◌≡◌, ◌≤◌, ◌<◌, ◌+◌, ◌-◌, ◌*◌, ◌/◌, ◌%◌, ℕ, zero, suc, Bool, true, false, List, [], ◌∷◌, ◌++◌, length, refl, sym, ap, ◌∙◌, subst, arith, inl, inr}
+use Rattle.std.proofs.Common.{ltb, ◌⊎◌, ◌≡◌, ◌≤◌, ◌<◌, ◌+◌, ◌-◌, ◌*◌, ◌/◌, ℕ, zero, suc, Bool, true, false, List, [], ◌∷◌, ◌++◌, length, refl, sym, ap, ◌∙◌, subst, arith, inl, inr}
 use Rattle.std.proofs.lemmas.Bool.{lt-ltb, le-ltb, ltb-true, ltb-false, eqb-true, eqb-false}
 use Rattle.std.proofs.lemmas.Bool.Decides.{nat_tests}
 use Rattle.std.proofs.lemmas.Str.{IsUtf8-nil, IsUtf8-append, IsUtf8-encode}
 use Rattle.std.specs.Cmp.{first_so, second_so}
-use Rattle.std.specs.Char.{IsScalar}
 use Rattle.std.specs.Prelude.{nat_lt, not, ◌&&◌, ◌==◌}
 use Rattle.std.specs.Str.{IsUtf8}
 use lib.Utf8.{encode, encodes, scalar, scalars, next, scalar_cases, low_scalar}
@@ -237,6 +236,7 @@ past_char c rest s = by (ltb c 128) (ltb c 2048) (ltb c 65536) refl refl refl
   where
     ranges : (c < 55296) ⊎ ((57344 ≤ c) × (c < 1114112))
     ranges = scalar_cases c s
+
     by : (t u v : Bool) → ltb c 128 ≡ t → ltb c 2048 ≡ u → ltb c 65536 ≡ v → is_text (encode c ++ rest) ≡ is_text rest
     by true u v e f g = let h : c < 128 = ltb-true c 128 e in ap (λ bs. is_text (bs ++ rest)) (encode_one c h) ∙ behind c rest _ (lead_one c h)
     by false true v e f g =

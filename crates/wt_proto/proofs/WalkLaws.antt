@@ -1,9 +1,8 @@
 -- How a walk goes on, and that a walk that stopped stays.
-use Rattle.std.proofs.Common.{◌≡◌, ℕ, zero, suc, ◌+◌, ◌-◌, ◌<◌, ◌≤◌, true, false, List, [], ◌∷◌, ◌++◌, length, take, drop, Option, Some, None, refl, sym, ap, ◌∙◌, arith}
-use Rattle.std.proofs.lemmas.List.{take-append-drop, length-take-le, length-drop, drop-drop}
+use Rattle.std.proofs.Common.{◌≡◌, ℕ, zero, suc, ◌-◌, ◌<◌, ◌≤◌, true, false, List, [], ◌∷◌, ◌++◌, length, drop, Option, Some, None, refl, ap, ◌∙◌, arith}
 use Rattle.wt_proto.specs.declared.walk.Step.{Step}
 use Rattle.wt_proto.specs.declared.walk.Step.TheVariants.{Cut, Goes, Stops}
-use Rattle.wt_proto.specs.Walk.{Reached, led, walk, walked}
+use Rattle.wt_proto.specs.Walk.{led, walk, walked}
 use Rattle.wt_proto.specs.Steady.{taken, IsSteady}
 
 pub stopped : {S O : Type 0} (decide : S → List ℕ → Step S O) (s : S) (o : O) (bytes : List ℕ) →

@@ -19,3 +19,4 @@ pub mod Settings
 pub mod Capsule
 pub mod Datagram
 pub mod Addresses
+pub mod FixedBytes

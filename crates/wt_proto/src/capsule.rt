@@ -3,8 +3,7 @@ ghost use Rattle.std.specs.Option.{option_copied};
 ghost use Rattle.wt_proto.specs.Capsule.{capsule_with_size, close_of, close_value_at};
 ghost use Rattle.wt_proto.specs.Varint.{varint_at};
 
-use crate::error::ErrorCode;
-use crate::error::OutOfMemory;
+use crate::error::{ErrorCode, OutOfMemory};
 use crate::text::Text;
 use crate::utf8::from_utf8;
 use crate::varint::{VarInt, read_varint};

@@ -2,8 +2,8 @@ ghost use Rattle.std.specs.Prelude.{◌≡◌, ◌<◌, ◌≤◌, ◌+◌, ◌+
 ghost use Rattle.std.specs.Option.{option_map};
 ghost use Rattle.wt_proto.specs.FieldSection.{line_at, line_bytes, lines_from, section_at, section_bytes, string_at, string_bytes_of};
 
-use crate::header_list::HeaderList;
 use crate::error::OutOfMemory;
+use crate::header_list::HeaderList;
 use crate::prefixed_integer::{read_prefixed, write_prefixed};
 use crate::utf8::from_utf8;
 use std::alloc::Global;
@@ -77,10 +77,7 @@ fn read_lines(mut list: HeaderList, bytes: &[u8]) -> Result<Option<HeaderList>, 
 
 /// What a field section says (RFC 9204, section 4.5), where it is made of literal field lines with
 /// literal names alone; the last value of a repeated name stands.
-pub(crate) fn read_section(
-    alloc: Global,
-    payload: &[u8],
-) -> Result<Option<HeaderList>, OutOfMemory>
+pub(crate) fn read_section(alloc: Global, payload: &[u8]) -> Result<Option<HeaderList>, OutOfMemory>
     ensures { IfOk result (λ r. r ≡ section_at payload.now) }
 {
     match payload {

@@ -1,13 +1,13 @@
-ghost use Rattle.std.specs.Prelude.{◌≡◌, [], IfOk, OnOk, OnErr, Ok, Err};
+ghost use Rattle.std.specs.Prelude.{◌≡◌, [], IfOk, OnOk, OnErr, Ok, Err, None};
 ghost use Rattle.std.specs.Option.{option_copied};
 ghost use Rattle.wt_proto.specs.FieldSection.{AreShort, headers_of, section_bytes};
 ghost use Rattle.wt_proto.specs.HeaderList.{IsHeaderList, value_of, with_field};
+ghost use Rattle.wt_proto.specs.declared.frame.FrameKind.TheVariants as kinds;
 
-use crate::error::ErrorCode;
+use crate::error::{ErrorCode, OutOfMemory};
 use crate::field_section::{read_section, write_section};
 use crate::frame::Frame;
 use crate::header_list::HeaderList;
-use crate::error::OutOfMemory;
 use std::alloc::Global;
 use std::marker::Model;
 
@@ -41,7 +41,7 @@ impl Headers {
         alloc: Global,
         frame: &Frame,
     ) -> Result<Result<Headers, ErrorCode>, OutOfMemory>
-        ensures { IfOk result (λ r. r ≡ headers_of frame.now.payload.items) }
+        ensures { IfOk result (λ r. r ≡ headers_of frame.now.payload) }
     {
         match read_section(alloc, frame.payload())? {
             Some(list) => Ok(Ok(Headers { list })),
@@ -61,8 +61,8 @@ impl Headers {
     /// `HeaderList`.
     #[tactic(auto, using(crate::proofs::SectionAgain::headers_again))]
     pub fn generate_frame(&self, alloc: Global) -> Result<Frame, OutOfMemory>
-        ensures frame { IfOk result (λ f. f.payload.items ≡ section_bytes self.now) }
-        ensures again { AreShort self.now → IfOk result (λ f. headers_of f.payload.items ≡ Ok self.now) }
+        ensures frame { IfOk result (λ f. f ≡ record { kind = kinds.Headers; payload = section_bytes self.now; session = None }) }
+        ensures again { AreShort self.now → IfOk result (λ f. headers_of f.payload ≡ Ok self.now) }
     {
         Ok(Frame::of_headers(self.section(alloc)?))
     }

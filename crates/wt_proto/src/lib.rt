@@ -4,6 +4,7 @@
 pub mod addr;
 pub mod alpn;
 pub mod capsule;
+pub mod datagram;
 pub mod error;
 mod exercise;
 pub mod field_section;
@@ -13,6 +14,7 @@ pub mod header_list;
 pub mod headers;
 pub mod ids;
 pub mod laws;
+pub mod lookup;
 pub mod prefixed_integer;
 pub mod session;
 pub mod settings;

@@ -43,7 +43,6 @@ pub(crate) fn read_prefixed(bytes: &[u8], full: u8) -> Option<(u64, usize)>
     Some((full as u64 + more, len + 1))
 }
 
-
 #[tactic(auto, using(crate::proofs::WrittenIntegers::pushed_more, crate::proofs::WrittenIntegers::continuation_last))]
 fn write_continuation(out: &mut Vec<u8>, number: usize, most: u8) -> Result<(), OutOfMemory>
     ensures { OnOk result (out.new.items ≡ out.old.items ++ continuation_bytes most number) }

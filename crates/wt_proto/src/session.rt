@@ -5,9 +5,9 @@ ghost use Rattle.wt_proto.specs.Requests.{is_for_session, is_reserved, is_value,
 ghost use Rattle.wt_proto.specs.Responses.{response_of, status_fields, status_of, with_added};
 ghost use Rattle.wt_proto.specs.HeaderList.{value_of, with_field};
 
+use crate::error::OutOfMemory;
 use crate::header_list::HeaderList;
 use crate::headers::Headers;
-use crate::error::OutOfMemory;
 use crate::status::StatusCode;
 use std::alloc::Global;
 use std::marker::Model;
