@@ -1,14 +1,14 @@
 -- A frame that is written reads back, whatever follows.
-use Rattle.std.proofs.Common.{◌≡◌, ◌≢◌, ℕ, ◌+◌, ◌<◌, ◌≤◌, ◌%◌, ◌^◌, Bool, true, false, cond, eqb, ltb, List, ◌++◌, length, take, drop, append_assoc, Option, Some, None, IsSome, IfSome, IsTrue, refl, ap, ◌∙◌, sym, arith}
+use Rattle.std.proofs.Common.{◌≡◌, ℕ, ◌+◌, ◌<◌, ◌≤◌, ◌^◌, true, false, eqb, List, ◌++◌, length, take, drop, append_assoc, Option, Some, None, IfSome, IsTrue, refl, ap, ◌∙◌, sym, arith}
 use Rattle.std.proofs.lemmas.List.{length-append}
-use Rattle.std.proofs.lemmas.Bool.{le-ltb, ne_eqb}
+use Rattle.std.proofs.lemmas.Bool.{le-ltb}
 use Rattle.std.proofs.lemmas.Bool.Decides.{nat_tests}
 use Rattle.std.proofs.Math.Seq.{drop-append_seam, take-append_seam}
 use Rattle.wt_proto.specs.declared.frame.FrameKind.{FrameKind}
 use Rattle.wt_proto.specs.declared.frame.FrameKind.TheVariants as kinds
 use Rattle.wt_proto.specs.Varint.{varint_at, varint_bytes}
-use Rattle.wt_proto.specs.Frames.{Frame, Data, Headers, Settings, Signal, Skipped, frame_at, with_type, with_header, with_id, given, is_given, is_exercise}
-use Rattle.wt_proto.specs.FrameBytes.{FrameParts, IsFrame, IsReadable, frame_bytes, frame_of, kind_number, payload_bytes, session_or_payload}
+use Rattle.wt_proto.specs.Frames.{Signal, Skipped, frame_at, with_header, given, is_given, is_exercise}
+use Rattle.wt_proto.specs.FrameBytes.{FrameParts, IsFrame, IsReadable, frame_bytes, frame_of, kind_number}
 use Rattle.wt_proto.proofs.VarintAgain.{varint_again}
 use Rattle.wt_proto.proofs.HeaderAgain.{first_again, second_again}
 

@@ -1,10 +1,10 @@
 -- What is written in front of a stream reads back.
-use Rattle.std.proofs.Common.{◌≡◌, ℕ, ◌+◌, ◌<◌, ◌%◌, ◌^◌, List, ◌++◌, length, drop, append_assoc, Option, Some, None, refl, ap, ◌∙◌, sym, arith}
+use Rattle.std.proofs.Common.{◌≡◌, ℕ, ◌<◌, ◌%◌, ◌^◌, List, ◌++◌, length, drop, append_assoc, Some, None, refl, ap, ◌∙◌, arith}
 use Rattle.std.proofs.lemmas.List.{length-append}
 use Rattle.std.proofs.Math.Seq.{drop-append_seam}
 use Rattle.wt_proto.specs.declared.side.StreamEnd.{StreamEnd}
 use Rattle.wt_proto.specs.Varint.{varint_at, varint_bytes}
-use Rattle.wt_proto.specs.Uni.{uni_verdict_of, with_type, with_session}
+use Rattle.wt_proto.specs.Uni.{uni_verdict_of}
 use Rattle.wt_proto.specs.StreamHeader.{header_bytes, header_verdict}
 use Rattle.wt_proto.proofs.VarintAgain.{varint_again}
 

@@ -22,3 +22,4 @@ pub mod PairLaws
 pub mod SettingsAgain
 pub mod ControlLaws
 pub mod SessionLaws
+pub mod DatagramLaws

@@ -1,10 +1,9 @@
 -- What holds of requests for a session.
-use Rattle.std.proofs.Common.{◌≡◌, ℕ, Bool, true, false, cond, List, [], ◌∷◌, Option, Some, None, Ok, Err, Result, refl, sym, ap, ◌∙◌, subst}
+use Rattle.std.proofs.Common.{◌≡◌, ℕ, Bool, true, false, cond, List, Option, Some, None, Ok, Err, refl, sym, ap, ◌∙◌, subst}
 use Rattle.std.specs.Prelude.{codes, is_some, ◌&&◌, ◌||◌}
 use Rattle.std.specs.Cmp.{first_so, second_so}
 use Rattle.std.specs.Cmp.Lexicographic.{nat_list_eq_equiv}
 use Rattle.std.specs.Str.{bytes_eq}
-use Rattle.wt_proto.specs.declared.session.HeadersParseError.{HeadersParseError}
 use Rattle.wt_proto.specs.declared.session.HeadersParseError.TheVariants.{MethodNotConnect, Other}
 use Rattle.wt_proto.specs.HeaderList.{Fields, with_field, value_of}
 use Rattle.wt_proto.specs.Requests.{is_value, is_for_session, is_reserved, request_with, request_of, request_fields}

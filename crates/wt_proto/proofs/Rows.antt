@@ -1,7 +1,6 @@
 -- The definitions on a request that is spelled out.
-use Rattle.std.proofs.Common.{◌≡◌, ℕ, List, [], ◌∷◌, Ok, Err, refl}
+use Rattle.std.proofs.Common.{◌≡◌, ℕ, List, [], ◌∷◌, Ok, refl}
 use Rattle.std.specs.Prelude.{codes}
-use Rattle.wt_proto.specs.Varint.{varint_at, varint_bytes}
 use Rattle.wt_proto.specs.Utf8.{is_text_from}
 use Rattle.wt_proto.specs.PrefixedInteger.{continuation_at, prefixed_at, prefixed_bytes}
 use Rattle.wt_proto.specs.FieldSection.{string_at, line_at, lines_from, headers_of, section_bytes}

@@ -1,5 +1,5 @@
 -- SETTINGS that are written are read again.
-use Rattle.std.proofs.Common.{◌≡◌, ◌<◌, ◌^◌, ℕ, List, [], ◌++◌, length, drop, Option, Some, None, Ok, refl, sym, ap, ◌∙◌, arith, append_assoc, length-append}
+use Rattle.std.proofs.Common.{◌≡◌, ◌≤◌, ◌<◌, ◌^◌, ℕ, List, [], ◌++◌, length, drop, Option, Some, None, Ok, refl, sym, ap, ◌∙◌, arith, append_assoc, length-append}
 use Rattle.std.proofs.lemmas.List.{drop_at}
 use Rattle.wt_proto.specs.declared.settings.SettingId.{SettingId}
 use Rattle.wt_proto.specs.declared.settings.SettingId.TheVariants.{QPackMaxTableCapacity, MaxFieldSectionSize, QPackBlockedStreams, EnableConnectProtocol, H3Datagram, EnableWebTransport, WebTransportMaxSessions}
@@ -7,7 +7,8 @@ use Rattle.wt_proto.specs.declared.settings.Settings.{Settings}
 use Rattle.wt_proto.specs.Varint.{varint_at, varint_bytes}
 use Rattle.wt_proto.specs.Settings.{pair_at, and_id, and_value, pairs_from, go_on, with_pair, setting, with_setting, no_settings, settings_of, setting_bytes, settings_bytes, IsSmall, AreSmall}
 use Rattle.wt_proto.proofs.PairLaws.{pair_in_front}
-use Rattle.wt_proto.proofs.VarintAgain.{varint_again, varint_not_empty}
+use Rattle.wt_proto.proofs.VarintAgain.{varint_again}
+use Rattle.wt_proto.proofs.VarintLaws.{varint_at-within}
 
 abbrev number : SettingId → ℕ
 number QPackMaxTableCapacity = 0x01
@@ -47,13 +48,16 @@ pair_again i v more h k =
     ∙ ap (and_value i at) (ap (λ bs. varint_at (drop at bs)) cut ∙ ap varint_at (drop_at (varint_bytes i) (varint_bytes v ++ more) at refl) ∙ varint_again v more k)
     ∙ ap (λ l. Some (record { id = i; value = v; len = l })) (sym (length-append (varint_bytes i) (varint_bytes v)))
 
+varint_not_empty : (n : ℕ) → n < 2 ^ 62 → 1 ≤ length (varint_bytes n)
+varint_not_empty n h = (varint_at-within (varint_bytes n ++ []) (n, length (varint_bytes n)) (varint_again n [] h)).0
+
 -- one setting more
 one_more : (t : Settings) (id : SettingId) (o : Option ℕ) (more : List ℕ) → setting t id ≡ None → with_setting id None t ≡ t → IsSmall o → pairs_from t 0 (setting_bytes (number id) o ++ more) ≡ pairs_from (with_setting id o t) 0 more
 one_more t id None more n same h = ap (λ s. pairs_from s 0 more) (sym same)
 one_more t id (Some v) more n same h =
     let pair : List ℕ = varint_bytes (number id) ++ varint_bytes v in
     pair_in_front t (pair ++ more) (record { id = number id; value = v; len = length pair }) (sym (pair_again (number id) v more (number_small id) h))
-    (omega (arith, varint_not_empty (number id), length-append (varint_bytes (number id)) (varint_bytes v))) (omega (arith, length-append pair more))
+    (omega (arith, varint_not_empty (number id) (number_small id), length-append (varint_bytes (number id)) (varint_bytes v))) (omega (arith, length-append pair more))
     ∙ ap (λ r. go_on r (λ s. pairs_from s 0 (drop (length pair) (pair ++ more)))) (with_new_pair t id v n)
     ∙ ap (λ bs. pairs_from (with_setting id (Some v) t) 0 bs) (drop_at pair more (length pair) refl)
 

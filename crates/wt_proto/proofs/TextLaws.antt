@@ -1,10 +1,9 @@
 -- The test of UTF-8 that computes is std's.
-use Rattle.std.proofs.Common.{ltb, ◌⊎◌, ◌≡◌, ◌≤◌, ◌<◌, ◌+◌, ◌-◌, ◌*◌, ◌/◌, ◌%◌, ℕ, zero, suc, Bool, true, false, List, [], ◌∷◌, ◌++◌, length, refl, sym, ap, ◌∙◌, subst, arith, inl, inr}
+use Rattle.std.proofs.Common.{ltb, ◌⊎◌, ◌≡◌, ◌≤◌, ◌<◌, ◌+◌, ◌-◌, ◌*◌, ◌/◌, ℕ, zero, suc, Bool, true, false, List, [], ◌∷◌, ◌++◌, length, refl, sym, ap, ◌∙◌, subst, arith, inl, inr}
 use Rattle.std.proofs.lemmas.Bool.{lt-ltb, le-ltb, ltb-true, ltb-false, eqb-true, eqb-false}
 use Rattle.std.proofs.lemmas.Bool.Decides.{nat_tests}
 use Rattle.std.proofs.lemmas.Str.{IsUtf8-nil, IsUtf8-append, IsUtf8-encode}
 use Rattle.std.specs.Cmp.{first_so, second_so}
-use Rattle.std.specs.Char.{IsScalar}
 use Rattle.std.specs.Prelude.{nat_lt, not, ◌&&◌, ◌==◌}
 use Rattle.std.specs.Str.{IsUtf8}
 use lib.Utf8.{encode, encodes, scalar, scalars, next, scalar_cases, low_scalar}

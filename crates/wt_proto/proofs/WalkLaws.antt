@@ -4,7 +4,7 @@ use Rattle.std.proofs.lemmas.List.{length-drop, drop-drop, take_rest}
 use Rattle.std.proofs.Math.ListN.{drop_of_length-le}
 use Rattle.wt_proto.specs.declared.walk.Step.{Step}
 use Rattle.wt_proto.specs.declared.walk.Step.TheVariants.{Cut, Goes, Stops}
-use Rattle.wt_proto.specs.Walk.{Reached, led, walk, walked}
+use Rattle.wt_proto.specs.Walk.{led, walk, walked}
 use Rattle.wt_proto.specs.Steady.{taken, IsSteady}
 
 pub stopped : {S O : Type 0} (decide : S → List ℕ → Step S O) (s : S) (o : O) (bytes : List ℕ) →

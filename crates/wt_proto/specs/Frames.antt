@@ -1,7 +1,7 @@
 -- Frames (RFC 9114, section 7): a type, a length and a payload; the first two are variable-length integers.
-use Rattle.std.specs.Prelude.{ℕ, ◌+◌, ◌-◌, ◌%◌, List, length, take, drop, Option, Some, None, Bool, nat_lt, ◌==◌, ◌||◌, ◌&&◌, if◌then◌else◌}
+use Rattle.std.specs.Prelude.{ℕ, ◌+◌, ◌%◌, List, length, take, drop, Option, Some, None, Bool, nat_lt, ◌==◌, ◌||◌, ◌&&◌, if◌then◌else◌}
 use Rattle.wt_proto.specs.declared.walk.Step.{Step}
-use Rattle.wt_proto.specs.declared.walk.Step.TheVariants.{Cut, Goes, Stops}
+use Rattle.wt_proto.specs.declared.walk.Step.TheVariants.{Cut}
 use Rattle.wt_proto.specs.Varint.{varint_at}
 
 -- DATA, HEADERS and SETTINGS are given once their last byte has come; the signal of a WebTransport stream has no length, and an id of a session behind it

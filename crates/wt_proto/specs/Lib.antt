@@ -21,3 +21,4 @@ pub mod Datagram
 pub mod Addresses
 pub mod ControlWalk
 pub mod SessionWalk
+pub mod FixedBytes

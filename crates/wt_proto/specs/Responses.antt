@@ -1,5 +1,5 @@
 -- Responses: a list of fields with a status code (RFC 9114 section 4.3.2, RFC 9110 section 15).
-use Rattle.std.specs.Prelude.{ℕ, [], ◌∷◌, ◌+◌, ◌-◌, ◌*◌, ◌≡◌, ◌&&◌, Bool, nat_lt, List, Option, Some, None, Result, Ok, Err, codes, IsSome, if◌then◌else◌}
+use Rattle.std.specs.Prelude.{ℕ, [], ◌∷◌, ◌+◌, ◌-◌, ◌*◌, ◌&&◌, Bool, nat_lt, List, Option, Some, None, Result, Ok, Err, codes, if◌then◌else◌}
 use Rattle.wt_proto.specs.declared.session.BadStatus.{BadStatus}
 use Rattle.wt_proto.specs.HeaderList.{Fields, value_of, with_field}
 use Rattle.std.specs.Str.{bytes_eq}

@@ -1,5 +1,5 @@
 -- What stands in front of a unidirectional stream (RFC 9114, section 6.2; RFC 9204, section 4.2; draft-ietf-webtrans-http3, section 4.2).
-use Rattle.std.specs.Prelude.{ℕ, List, [], ◌++◌, length, Option, Some, None, ◌==◌, if◌then◌else◌}
+use Rattle.std.specs.Prelude.{ℕ, List, ◌++◌, length, Option, Some, None, ◌==◌, if◌then◌else◌}
 use Rattle.wt_proto.specs.declared.stream_header.StreamKind.{StreamKind}
 use Rattle.wt_proto.specs.declared.stream_header.StreamKind.TheVariants.{Control, QPackEncoder, QPackDecoder, WebTransport, Exercise}
 use Rattle.wt_proto.specs.declared.verdict.Verdict.{Verdict}

@@ -1,7 +1,8 @@
-ghost use Rattle.std.specs.Prelude.{◌≡◌, [], IfOk, OnOk, OnErr, Ok, Err};
+ghost use Rattle.std.specs.Prelude.{◌≡◌, [], IfOk, OnOk, OnErr, Ok, Err, None};
 ghost use Rattle.std.specs.Option.{option_copied};
 ghost use Rattle.wt_proto.specs.FieldSection.{AreShort, headers_of, section_bytes};
 ghost use Rattle.wt_proto.specs.HeaderList.{IsHeaderList, value_of, with_field};
+ghost use Rattle.wt_proto.specs.declared.frame.FrameKind.TheVariants as kinds;
 
 use crate::error::{ErrorCode, OutOfMemory};
 use crate::field_section::{read_section, write_section};
@@ -60,7 +61,7 @@ impl Headers {
     /// `HeaderList`.
     #[tactic(auto, using(crate::proofs::SectionAgain::headers_again))]
     pub fn generate_frame(&self, alloc: Global) -> Result<Frame, OutOfMemory>
-        ensures frame { IfOk result (λ f. f.payload ≡ section_bytes self.now) }
+        ensures frame { IfOk result (λ f. f ≡ record { kind = kinds.Headers; payload = section_bytes self.now; session = None }) }
         ensures again { AreShort self.now → IfOk result (λ f. headers_of f.payload ≡ Ok self.now) }
     {
         Ok(Frame::of_headers(self.section(alloc)?))

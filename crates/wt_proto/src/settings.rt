@@ -1,11 +1,15 @@
-ghost use Rattle.std.specs.Prelude.{◌≡◌, ◌≤◌, ◌++◌, length, IfSome, IfOk, OnOk, Some, Ok};
+ghost use Rattle.std.specs.Prelude.{◌≡◌, ◌≤◌, ◌++◌, length, IfSome, IfOk, OnOk, Some, None, Ok};
 ghost use Rattle.std.specs.Option.{option_map};
 ghost use Rattle.wt_proto.specs.Settings.{AreSmall, IsSmall, Pair, known_setting, no_settings, pair_at, pairs_from, setting, setting_bytes, settings_bytes, settings_of, with_pair, with_setting};
+ghost use Rattle.wt_proto.specs.FixedBytes.{own_settings};
+ghost use Rattle.wt_proto.specs.declared.frame.FrameKind.TheVariants as kinds;
+ghost use Rattle.wt_proto.specs.declared.settings.SettingId.TheVariants as ids;
 
 use crate::error::{ErrorCode, OutOfMemory};
 use crate::frame::Frame;
 use crate::varint::{VarInt, read_varint, write_varint};
 use std::alloc::Global;
+use std::marker::Model;
 
 /// The settings that are known here.
 #[derive(Clone, Copy, Debug, PartialEq, Eq)]
@@ -112,6 +116,21 @@ impl Settings {
         }
     }
 
+    /// The settings that this side sends: no dynamic table of QPACK and no blocked streams, extended
+    /// CONNECT, HTTP/3 datagrams, WebTransport, and one session.
+    pub fn own() -> Settings
+        ensures { result ≡ own_settings }
+    {
+        Settings::builder()
+            .qpack_max_table_capacity(VarInt::from_u32(0))
+            .qpack_blocked_streams(VarInt::from_u32(0))
+            .enable_connect_protocol()
+            .enable_webtransport()
+            .enable_h3_datagrams()
+            .webtransport_max_sessions(VarInt::from_u32(1))
+            .build()
+    }
+
     /// The value of a setting; `None` exactly where it is absent.
     pub fn get(&self, id: SettingId) -> Option<VarInt>
         ensures { result ≡ setting self.now id }
@@ -206,7 +225,7 @@ impl Settings {
     /// A SETTINGS frame of the settings that are there, by ascending ids.
     #[tactic(auto, using(crate::proofs::SettingsAgain::settings_again))]
     pub fn generate_frame(&self, alloc: Global) -> Result<Frame, OutOfMemory>
-        ensures frame { IfOk result (λ f. f.payload ≡ settings_bytes self.now) }
+        ensures frame { IfOk result (λ f. f ≡ record { kind = kinds.Settings; payload = settings_bytes self.now; session = None }) }
         ensures again { IfOk result (λ f. settings_of f.payload ≡ Ok self.now) }
     {
         Ok(Frame::of_settings(self.payload(alloc)?))
@@ -214,7 +233,73 @@ impl Settings {
 }
 
 /// Settings that are being chosen.
-#[derive(Clone, Copy, Debug)]
+#[derive(Debug, Drop)]
 pub struct SettingsBuilder {
     settings: Settings,
+}
+
+impl Model for SettingsBuilder {
+    ghost use Rattle.wt_proto.specs.declared.settings.Settings.{Settings};
+
+    ghost Value = { Settings };
+
+    ghost view = { λ b. b.settings };
+}
+
+impl SettingsBuilder {
+    fn with(mut self, id: SettingId, value: VarInt) -> SettingsBuilder
+        ensures { result ≡ with_setting id (Some value) self }
+    {
+        self.settings.put(id, value);
+        self
+    }
+
+    /// Sets QPACK_MAX_TABLE_CAPACITY.
+    pub fn qpack_max_table_capacity(self, value: VarInt) -> SettingsBuilder
+        ensures { result ≡ with_setting ids.QPackMaxTableCapacity (Some value) self }
+    {
+        self.with(SettingId::QPackMaxTableCapacity, value)
+    }
+
+    /// Sets QPACK_BLOCKED_STREAMS.
+    pub fn qpack_blocked_streams(self, value: VarInt) -> SettingsBuilder
+        ensures { result ≡ with_setting ids.QPackBlockedStreams (Some value) self }
+    {
+        self.with(SettingId::QPackBlockedStreams, value)
+    }
+
+    /// Sets the maximum of sessions.
+    pub fn webtransport_max_sessions(self, value: VarInt) -> SettingsBuilder
+        ensures { result ≡ with_setting ids.WebTransportMaxSessions (Some value) self }
+    {
+        self.with(SettingId::WebTransportMaxSessions, value)
+    }
+
+    /// Sets ENABLE_CONNECT_PROTOCOL to 1.
+    pub fn enable_connect_protocol(self) -> SettingsBuilder
+        ensures { result ≡ with_setting ids.EnableConnectProtocol (Some 1) self }
+    {
+        self.with(SettingId::EnableConnectProtocol, VarInt::from_u32(1))
+    }
+
+    /// Sets the setting that enables WebTransport to 1.
+    pub fn enable_webtransport(self) -> SettingsBuilder
+        ensures { result ≡ with_setting ids.EnableWebTransport (Some 1) self }
+    {
+        self.with(SettingId::EnableWebTransport, VarInt::from_u32(1))
+    }
+
+    /// Sets H3_DATAGRAM to 1.
+    pub fn enable_h3_datagrams(self) -> SettingsBuilder
+        ensures { result ≡ with_setting ids.H3Datagram (Some 1) self }
+    {
+        self.with(SettingId::H3Datagram, VarInt::from_u32(1))
+    }
+
+    /// The settings that were chosen.
+    pub fn build(self) -> Settings
+        ensures { result ≡ self }
+    {
+        self.settings
+    }
 }
