@@ -23,3 +23,5 @@ pub mod SettingsAgain
 pub mod ControlLaws
 pub mod SessionLaws
 pub mod DatagramLaws
+pub mod BiLaws
+pub mod ResponseWalkLaws

@@ -3,6 +3,7 @@
 
 pub mod addr;
 pub mod alpn;
+pub mod bi;
 pub mod capsule;
 pub mod control_walk;
 pub mod datagram;
@@ -17,6 +18,7 @@ pub mod ids;
 pub mod laws;
 pub mod lookup;
 pub mod prefixed_integer;
+pub mod response_walk;
 pub mod session;
 pub mod session_walk;
 pub mod settings;
