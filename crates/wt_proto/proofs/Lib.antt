@@ -25,3 +25,4 @@ pub mod SessionLaws
 pub mod DatagramLaws
 pub mod BiLaws
 pub mod ResponseWalkLaws
+pub mod FirstLaws

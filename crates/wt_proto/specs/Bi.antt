@@ -1,5 +1,5 @@
 -- The verdict of a bidirectional stream that the peer opened, over all its bytes and its end (RFC 9114, sections 4.1 and 7; RFC 9220, section 3; draft-ietf-webtrans-http3, sections 3.3 and 4.3).
-use Rattle.std.specs.Prelude.{ℕ, ◌+◌, List, Option, Some, None, Result, Ok, Err}
+use Rattle.std.specs.Prelude.{ℕ, List, Option, Some, None, Result, Ok, Err}
 use Rattle.wt_proto.specs.declared.error.ErrorCode.{ErrorCode}
 use Rattle.wt_proto.specs.declared.error.ErrorCode.TheVariants.{FrameUnexpected, ExcessiveLoad, RequestRejected, Message}
 use Rattle.wt_proto.specs.declared.session.HeadersParseError.{HeadersParseError}
@@ -8,7 +8,6 @@ use Rattle.wt_proto.specs.declared.side.StreamEnd.{StreamEnd}
 use Rattle.wt_proto.specs.declared.verdict.Verdict.{Verdict}
 use Rattle.wt_proto.specs.declared.verdict.Verdict.TheVariants.{Request, Refused, Fault}
 use Rattle.wt_proto.specs.declared.walk.Step.{Step}
-use Rattle.wt_proto.specs.declared.walk.Step.TheVariants.{Goes, Stops}
 use Rattle.wt_proto.specs.FieldSection.{headers_of}
 use Rattle.wt_proto.specs.Frames as frames
 use Rattle.wt_proto.specs.HeaderList.{Fields}
@@ -27,17 +26,15 @@ abbrev pub headers_verdict : ℕ → Result Fields ErrorCode → Verdict
 headers_verdict at (Ok fields) = parsed_verdict at (request_of fields)
 headers_verdict at (Err fault) = Fault fault
 
--- the state is the offset of the frame; the first frame that isn't skipped decides
-abbrev pub bi_effect : ℕ → ℕ → frames.Frame → Step ℕ Verdict
-bi_effect at size (frames.Data payload) = Stops (Fault FrameUnexpected) size
-bi_effect at size (frames.Headers payload) = Stops (headers_verdict (at + size) (headers_of payload)) size
-bi_effect at size (frames.Settings payload) = Stops (Fault FrameUnexpected) size
-bi_effect at size frames.TooLong = Stops (Fault ExcessiveLoad) size
-bi_effect at size (frames.Signal id) = Stops (session_verdict id (at + size)) size
-bi_effect at size (frames.Skipped kind) = Goes (at + size) size
+-- the first frame that isn't skipped, in front of this offset
+abbrev pub bi_judged : frames.Frame → ℕ → Verdict
+bi_judged (frames.Signal id) at = session_verdict id at
+bi_judged (frames.Headers payload) at = headers_verdict at (headers_of payload)
+bi_judged frames.TooLong at = Fault ExcessiveLoad
+bi_judged frame at = Fault FrameUnexpected
 
 unfoldable pub bi_decides : ℕ → List ℕ → Step ℕ Verdict
-bi_decides at bytes = frames.decided (bi_effect at) (frames.frame_at varint_at bytes)
+bi_decides at bytes = frames.decided (frames.first_judged bi_judged at) (frames.frame_at varint_at bytes)
 
 abbrev pub or_cut : StreamEnd → Option Verdict → Verdict
 or_cut end (Some verdict) = verdict
