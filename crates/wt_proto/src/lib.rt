@@ -3,6 +3,7 @@
 
 pub mod addr;
 pub mod alpn;
+pub mod byte_strings;
 pub mod capsule;
 pub mod control_walk;
 pub mod datagram;
