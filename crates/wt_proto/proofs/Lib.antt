@@ -8,7 +8,6 @@ pub mod FrameAgain
 pub mod OrderLaws
 pub mod EqualityLaws
 pub mod TextLaws
-pub mod Rows
 pub mod SevenBits
 pub mod WrittenIntegers
 pub mod WrittenSections

@@ -16,6 +16,7 @@ pub mod FieldSection
 pub mod Requests
 pub mod Responses
 pub mod Settings
+pub mod SessionClose
 pub mod Capsule
 pub mod Datagram
 pub mod Addresses
