@@ -1,9 +1,9 @@
 -- A frame at the front stays under more bytes, and is read from its own bytes alone; so does what it decides.
-use Rattle.std.proofs.Common.{◌≡◌, ℕ, ◌+◌, ◌-◌, ◌<◌, ◌≤◌, Bool, true, false, List, [], ◌∷◌, ◌++◌, length, take, drop, Option, Some, None, cond, eqb, refl, sym, ap, ◌∙◌, arith}
+use Rattle.std.proofs.Common.{◌≡◌, ℕ, ◌+◌, ◌≤◌, Bool, true, false, List, [], ◌++◌, length, drop, Option, Some, None, cond, eqb, refl, arith}
 use Rattle.std.proofs.lemmas.List.{length-append, length-drop, drop-append-le, take-append-le}
 use Rattle.std.proofs.lemmas.Grind.{common_steps}
 use Rattle.wt_proto.specs.declared.walk.Step.{Step}
-use Rattle.wt_proto.specs.declared.walk.Step.TheVariants.{Cut, Goes, Stops}
+use Rattle.wt_proto.specs.declared.walk.Step.TheVariants.{Cut}
 use Rattle.wt_proto.specs.Varint.{varint_at}
 use Rattle.wt_proto.specs.Frames.{Frame, frame_at, with_type, with_length, with_header, with_id, unread, decided}
 use Rattle.wt_proto.specs.Steady.{taken, IsReader, IsSteady}

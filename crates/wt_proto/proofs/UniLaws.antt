@@ -1,6 +1,6 @@
 -- A verdict of a unidirectional stream that isn't Incomplete stays; what is written in front of a stream is read again.
-use Rattle.std.proofs.Common.{◌≡◌, ℕ, ◌+◌, ◌<◌, ◌≤◌, ◌%◌, ◌^◌, true, List, [], ◌∷◌, ◌++◌, length, drop, append_assoc, Option, Some, None, refl, ap, ◌∙◌, arith}
-use Rattle.std.proofs.lemmas.List.{drop-append-le, length-append}
+use Rattle.std.proofs.Common.{◌≡◌, ℕ, true, List, ◌++◌, drop, Option, Some, None, refl, arith}
+use Rattle.std.proofs.lemmas.List.{drop-append-le}
 use Rattle.wt_proto.specs.declared.side.StreamEnd.{StreamEnd}
 use Rattle.wt_proto.specs.declared.side.StreamEnd.TheVariants.{Running}
 use Rattle.wt_proto.specs.Varint.{varint_at}

@@ -1,8 +1,9 @@
 //! Frames (RFC 9114, section 7), and the signal that begins a bidirectional WebTransport stream
 //! (draft-ietf-webtrans-http3, section 4.3).
-ghost use Rattle.std.specs.Prelude.{◌≡◌, ◌++◌, ◌≤◌, IsTrue, [], List, ℕ, length, IfOk, OnOk, Some, None};
-ghost use Rattle.wt_proto.specs.FrameBytes.{frame_bytes, kind_number, payload_bytes};
-ghost use Rattle.wt_proto.specs.Frames.{is_exercise};
+ghost use Rattle.std.specs.Prelude.{◌≡◌, ◌++◌, ◌<◌, ◌^◌, IsTrue, [], List, ℕ, length, IfOk, OnOk, Some, None};
+ghost use Rattle.wt_proto.specs.FrameBytes.{IsReadable, frame_bytes, frame_of, kind_fits, kind_number, payload_bytes};
+ghost use Rattle.wt_proto.specs.Frames.{frame_at, is_exercise};
+ghost use Rattle.wt_proto.specs.Varint.{varint_at};
 ghost use Rattle.wt_proto.specs.declared.frame.FrameKind.TheVariants as kinds;
 
 use crate::error::OutOfMemory;
@@ -50,15 +51,18 @@ pub struct Frame {
 }
 
 impl Model for Frame {
-    ghost use Rattle.wt_proto.specs.FrameBytes.{FrameParts};
+    ghost use Rattle.wt_proto.specs.FrameBytes.{FrameParts, IsFrame};
 
     ghost Value = { FrameParts };
 
     ghost view = { λ f. record { kind = f.kind; payload = f.payload.items; session = f.session } };
+
+    ghost invariant = { λ f. IsFrame (record { kind = f.kind; payload = f.payload.items; session = f.session }) };
 }
 
 impl Frame {
     fn with_payload(kind: FrameKind, payload: Vec<u8>) -> Frame
+        requires { kind_fits kind None payload.items }
         ensures { result ≡ record { kind = kind; payload = payload.items; session = None } }
     {
         Frame {
@@ -139,9 +143,11 @@ impl Frame {
     }
 
     /// Appends the frame's bytes: its type, and its payload behind the payload's length, or the
-    /// session's id.
+    /// session's id. A peer reads the frame again, where it isn't too long to be given.
+    #[tactic(auto, using(crate::proofs::FrameAgain::frame_again))]
     pub fn write(&self, out: &mut Vec<u8>) -> Result<(), OutOfMemory>
         ensures bytes { OnOk result (out.new.items ≡ out.old.items ++ frame_bytes self.now) }
+        ensures again { OnOk result (IsReadable self.now → (more : List ℕ) → frame_at varint_at (frame_bytes self.now ++ more) ≡ Some (frame_of self.now, length (frame_bytes self.now))) }
     {
         write_varint(self.kind.number(), out)?;
         match self.session {
@@ -154,7 +160,8 @@ impl Frame {
 /// Appends a payload behind its length. A length above 2^62 - 1 has no spelling: it is more than
 /// any memory holds.
 fn write_payload(payload: &[u8], out: &mut Vec<u8>) -> Result<(), OutOfMemory>
-    ensures { OnOk result (out.new.items ≡ out.old.items ++ payload_bytes payload.now) }
+    ensures bytes { OnOk result (out.new.items ≡ out.old.items ++ payload_bytes payload.now) }
+    ensures short { OnOk result (length payload.now < 2 ^ 62) }
 {
     let length = payload.len() as u64;
     let Some(length) = VarInt::try_from_u64(length) else {

@@ -1,10 +1,12 @@
 //! What stands in front of a stream that this side opens.
-ghost use Rattle.std.specs.Prelude.{◌≡◌, ◌++◌, OnOk, Some, None};
-ghost use Rattle.wt_proto.specs.StreamHeader.{header_bytes, stream_type};
-ghost use Rattle.wt_proto.specs.declared.stream_header.StreamKind.TheVariants as kinds;
+ghost use Rattle.std.specs.Prelude.{◌≡◌, ◌++◌, ◌<◌, ◌^◌, OnOk, Some, None, List, ℕ};
+ghost use Rattle.wt_proto.specs.StreamHeader.{header_bytes, header_kind, header_verdict, kind_of_type, stream_type};
+ghost use Rattle.wt_proto.specs.Uni.{uni_verdict_of};
+ghost use Rattle.wt_proto.specs.declared.side.StreamEnd.{StreamEnd};
 
 use crate::error::OutOfMemory;
-use crate::ids::SessionId;
+use crate::exercise::is_exercise;
+use crate::ids::{SessionId, StreamId};
 use crate::varint::{VarInt, write_varint};
 use std::marker::Model;
 
@@ -25,7 +27,7 @@ pub enum StreamKind {
 
 impl StreamKind {
     /// The stream's type on the wire.
-    fn number(self) -> VarInt
+    pub fn number(self) -> VarInt
         ensures { result ≡ stream_type self }
     {
         match self {
@@ -36,67 +38,89 @@ impl StreamKind {
             StreamKind::Exercise(number) => number,
         }
     }
+
+    /// The kind of a type on the wire; None exactly for a type that is neither known nor reserved.
+    pub fn of_number(number: VarInt) -> Option<StreamKind>
+        ensures { result ≡ kind_of_type number }
+    {
+        match number.into_inner() {
+            0x00 => Some(StreamKind::Control),
+            0x02 => Some(StreamKind::QPackEncoder),
+            0x03 => Some(StreamKind::QPackDecoder),
+            0x54 => Some(StreamKind::WebTransport),
+            n if is_exercise(n) => Some(StreamKind::Exercise(number)),
+            _ => None,
+        }
+    }
 }
 
-/// The header of a unidirectional stream: its kind, and the session that it is of.
+/// The header of a unidirectional stream that this side opens: the control stream or a stream of a
+/// session. Contracts see the session, or None for the control stream.
 #[derive(Clone, Copy, Debug, PartialEq, Eq)]
 pub struct StreamHeader {
-    kind: StreamKind,
     session: Option<SessionId>,
 }
 
 impl Model for StreamHeader {
-    ghost use Rattle.wt_proto.specs.StreamHeader.{HeaderParts};
+    ghost use Rattle.std.specs.Prelude.{ℕ, Option};
 
-    ghost Value = { HeaderParts };
+    ghost Value = { Option ℕ };
 
-    ghost view = { λ h. record { kind = h.kind; session = h.session } };
+    ghost view = { λ h. h.session };
 
-    ghost inverse = { λ h. record { kind = h.kind; session = h.session } };
+    ghost inverse = { λ s. record { session = s } };
 }
 
 impl StreamHeader {
     /// The header of a control stream.
     pub fn new_control() -> StreamHeader
-        ensures { result ≡ record { kind = kinds.Control; session = None } }
+        ensures { result ≡ None }
     {
-        StreamHeader {
-            kind: StreamKind::Control,
-            session: None,
-        }
+        StreamHeader { session: None }
     }
 
     /// The header of a stream of this session.
     pub fn new_webtransport(session: SessionId) -> StreamHeader
-        ensures { result ≡ record { kind = kinds.WebTransport; session = Some session } }
+        ensures { result ≡ Some session }
     {
         StreamHeader {
-            kind: StreamKind::WebTransport,
             session: Some(session),
         }
     }
 
     pub fn kind(&self) -> StreamKind
-        ensures { result ≡ self.now.kind }
+        ensures { result ≡ header_kind self.now }
     {
-        self.kind
+        match self.session {
+            None => StreamKind::Control,
+            Some(_) => StreamKind::WebTransport,
+        }
     }
 
-    /// The session that the stream is of; None for a stream of another kind.
+    /// The session that the stream is of; None for the control stream.
     pub fn session_id(&self) -> Option<SessionId>
-        ensures { result ≡ self.now.session }
+        ensures { result ≡ self.now }
     {
         self.session
     }
 
-    /// Appends the stream's type, and the session's id.
+    /// Appends the stream's type, and the session's id; the peer reads that header again.
+    #[tactic(auto, using(crate::proofs::HeaderAgain::control_again, crate::proofs::HeaderAgain::session_again))]
     pub fn write(&self, out: &mut Vec<u8>) -> Result<(), OutOfMemory>
-        ensures { OnOk result (out.new.items ≡ out.old.items ++ header_bytes self.now) }
+        ensures bytes { OnOk result (out.new.items ≡ out.old.items ++ header_bytes self.now) }
+        ensures again { OnOk result ((more : List ℕ) (end : StreamEnd) → uni_verdict_of (header_bytes self.now ++ more) end ≡ header_verdict self.now) }
     {
-        write_varint(self.kind.number(), out)?;
         match self.session {
-            Some(session) => write_varint(session.session_stream().into_varint(), out),
-            None => Ok(()),
+            None => write_varint(StreamKind::Control.number(), out),
+            Some(session) => write_session(session.session_stream(), out),
         }
     }
+}
+
+fn write_session(session: StreamId, out: &mut Vec<u8>) -> Result<(), OutOfMemory>
+    ensures bytes { OnOk result (out.new.items ≡ out.old.items ++ header_bytes (Some session)) }
+    ensures small { OnOk result (session < 2 ^ 62) }
+{
+    write_varint(StreamKind::WebTransport.number(), out)?;
+    write_varint(session.into_varint(), out)
 }

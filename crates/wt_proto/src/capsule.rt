@@ -1,0 +1,105 @@
+ghost use Rattle.std.specs.Prelude.{◌≡◌, ◌<◌, ◌≤◌, ◌^◌, length, IfOk, IfErr};
+ghost use Rattle.std.specs.Option.{option_copied};
+ghost use Rattle.wt_proto.specs.Capsule.{capsule_with_size, close_of, close_value_at};
+ghost use Rattle.wt_proto.specs.Varint.{varint_at};
+ghost use Rattle.wt_proto.specs.declared.error.ErrorCode.TheVariants as errors;
+
+use crate::error::{ErrorCode, OutOfMemory};
+use crate::text::Text;
+use crate::utf8::from_utf8;
+use crate::varint::{VarInt, read_varint};
+use std::alloc::Global;
+use std::marker::Model;
+
+/// What a capsule CLOSE_WEBTRANSPORT_SESSION says (draft-ietf-webtrans-http3, section 5).
+/// Contracts see a record of the code and the reason.
+#[derive(Debug, Drop)]
+pub struct CloseWebTransportSession {
+    error_code: VarInt,
+    reason: Text,
+}
+
+impl Model for CloseWebTransportSession {
+    ghost use Rattle.wt_proto.specs.SessionClose.{IsSessionClose, SessionClose};
+
+    ghost Value = { SessionClose };
+
+    ghost view = { λ c. record { error_code = c.error_code; reason = c.reason } };
+
+    ghost invariant = { λ c. IsSessionClose (record { error_code = c.error_code; reason = c.reason }) };
+}
+
+/// The value of the capsule at the front of a DATA frame's payload, where the capsule is whole and
+/// of type CLOSE_WEBTRANSPORT_SESSION (0x2843).
+#[tactic(auto, unfolding(crate::specs::Capsule::close_value_at))]
+pub fn find_close(payload: &[u8]) -> Option<&[u8]>
+    ensures { option_copied result ≡ close_value_at payload.now }
+{
+    let (kind, at) = read_varint(payload)?;
+    value_of_size(kind.into_inner(), &payload[at..])
+}
+
+fn value_of_size(kind: u64, bytes: &[u8]) -> Option<&[u8]>
+    ensures { option_copied result ≡ capsule_with_size kind bytes.now (varint_at bytes.now) }
+{
+    let (size, at) = read_varint(bytes)?;
+    let size = size.into_inner();
+    if ((bytes.len() - at) as u64) < size || kind != 0x2843 {
+        return None;
+    }
+    Some(&bytes[at..at + size as usize])
+}
+
+impl CloseWebTransportSession {
+    /// Reads a capsule's value: a code of four bytes, the highest first, and a reason of at most
+    /// 1024 bytes of UTF-8. The error is `Message`, where it is anything else.
+    pub fn with_capsule(
+        alloc: Global,
+        value: &[u8],
+    ) -> Result<Result<CloseWebTransportSession, ErrorCode>, OutOfMemory>
+        ensures close { IfOk result (λ r. r ≡ close_of value.now) }
+        ensures error { IfOk result (λ r. IfErr r (λ e. e ≡ errors.Message)) }
+    {
+        if value.len() < 4 || value.len() - 4 > 1024 {
+            return Ok(Err(ErrorCode::Message));
+        }
+        let Some(reason) = from_utf8(&value[4..]) else {
+            return Ok(Err(ErrorCode::Message));
+        };
+        let error_code = VarInt::from_u32(
+            u32::from(value[0]) * 16777216
+                + u32::from(value[1]) * 65536
+                + u32::from(value[2]) * 256
+                + u32::from(value[3]),
+        );
+        Ok(Ok(CloseWebTransportSession {
+            error_code,
+            reason: Text::from_text(alloc, reason)?,
+        }))
+    }
+
+    /// The code, which an application chose.
+    pub fn error_code(&self) -> VarInt
+        ensures value { result ≡ self.now.error_code }
+        ensures small { result < 2 ^ 32 }
+    {
+        self.error_code
+    }
+
+    /// The reason, which an application chose.
+    pub fn reason(&self) -> &str
+        ensures value { result.now ≡ self.now.reason }
+        ensures short { length result.now ≤ 1024 }
+    {
+        self.reason.as_str()
+    }
+}
+
+impl CloseWebTransportSession {
+    /// The code and the reason.
+    pub(crate) fn into_parts(self) -> (VarInt, Text)
+        ensures { result ≡ (self.error_code, self.reason) }
+    {
+        (self.error_code, self.reason)
+    }
+}
