@@ -8,6 +8,7 @@
 pub mod action;
 pub mod answer;
 pub mod piece;
+pub mod print;
 pub mod send;
 pub mod turn;
 
