@@ -1,2 +1,4 @@
 pub mod Equality
 pub mod PrintLaws
+pub mod NumberLaws
+pub mod ScriptLaws

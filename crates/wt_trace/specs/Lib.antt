@@ -1,2 +1,5 @@
 pub mod Equality
 pub mod Print
+pub mod Words
+pub mod Numbers
+pub mod Script

@@ -9,6 +9,7 @@ pub mod action;
 pub mod answer;
 pub mod piece;
 pub mod print;
+pub mod script;
 pub mod send;
 pub mod turn;
 
