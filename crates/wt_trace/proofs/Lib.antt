@@ -1,4 +1,3 @@
-pub mod Equality
 pub mod PrintLaws
 pub mod NumberLaws
 pub mod ScriptLaws

@@ -3,3 +3,10 @@ pub mod Print
 pub mod Words
 pub mod Numbers
 pub mod Script
+pub mod History
+pub mod Seam
+pub mod Verdicts
+pub mod Driver
+pub mod Session
+pub mod Calls
+pub mod Next

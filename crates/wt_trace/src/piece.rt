@@ -3,7 +3,7 @@ ghost use Rattle.std.specs.Prelude.{◌≡◌, IfOk, IsTrue, ◌↔◌, []};
 
 use std::alloc::Global;
 use std::marker::Model;
-use wt_proto::OutOfMemory;
+use wt_proto::error::OutOfMemory;
 
 /// A string of bytes, as it came or as it goes out. Contracts see the list of its bytes.
 #[derive(Debug, Drop)]

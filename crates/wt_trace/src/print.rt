@@ -12,7 +12,10 @@ use crate::action::Action;
 use crate::answer::{Answer, Reply};
 use crate::piece::Piece;
 use std::alloc::Global;
-use wt_proto::{HeaderList, OutOfMemory, SessionId, StreamId, Text};
+use wt_proto::error::OutOfMemory;
+use wt_proto::header_list::HeaderList;
+use wt_proto::ids::{SessionId, StreamId};
+use wt_proto::text::Text;
 
 /// The line of an answer, without its line feed.
 pub fn print_answer(alloc: Global, answer: &Answer) -> Result<Text, OutOfMemory>

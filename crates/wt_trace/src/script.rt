@@ -11,7 +11,8 @@ use crate::script::lines::read_turn;
 use crate::script::words::is_name;
 use crate::turn::Turns;
 use std::alloc::Global;
-use wt_proto::{OutOfMemory, Side};
+use wt_proto::error::OutOfMemory;
+use wt_proto::side::Side;
 
 /// What a script says.
 #[derive(Debug, Drop)]

@@ -8,7 +8,8 @@ use crate::script::numbers::{read_bytes, read_count, read_fact, read_id};
 use crate::script::words::{cut_word, four_words_of, is_end, is_name, two_words_of};
 use crate::turn::{Call, Turn};
 use std::alloc::Global;
-use wt_proto::{HeaderList, OutOfMemory};
+use wt_proto::error::OutOfMemory;
+use wt_proto::header_list::HeaderList;
 
 /// The turn that a line spells; None exactly where the line is none of the script's lines of a turn
 /// or a call.

@@ -11,7 +11,9 @@ use crate::script::words::is_name;
 use crate::turn::DatagramFact;
 use hex::FromHexError;
 use std::alloc::Global;
-use wt_proto::{OutOfMemory, StreamId, VarInt};
+use wt_proto::error::OutOfMemory;
+use wt_proto::ids::StreamId;
+use wt_proto::varint::VarInt;
 
 fn is_digit_byte(byte: u8) -> bool
     ensures { result ≡ is_digit byte }
