@@ -1,3 +1,4 @@
 pub mod PrintLaws
 pub mod NumberLaws
 pub mod ScriptLaws
+pub mod OutsideLaws

@@ -10,3 +10,4 @@ pub mod Driver
 pub mod Session
 pub mod Calls
 pub mod Next
+pub mod Outside

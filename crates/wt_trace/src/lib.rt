@@ -7,6 +7,7 @@
 
 pub mod action;
 pub mod answer;
+pub mod outside;
 pub mod piece;
 pub mod print;
 pub mod script;
