@@ -1,1 +1,4 @@
-pub mod Equality
+pub mod PrintLaws
+pub mod NumberLaws
+pub mod ScriptLaws
+pub mod OutsideLaws

@@ -17,9 +17,9 @@ pub record Ripe : Type 0 where
   pub verdict : Verdict
 
 pub record Walk : Type 0 where
-  pub taken : List ℕ      -- the streams that are taken
-  pub ripe : List Ripe    -- the ripe ones, in ripe order: by moment, then by id
-  pub settings : Bool     -- the peer's SETTINGS came
+  pub taken : List ℕ  -- the streams that are taken
+  pub ripe : List Ripe  -- the ripe ones, in ripe order: by moment, then by id
+  pub settings : Bool  -- the peer's SETTINGS came
 
 abbrev pub start : Walk
 start = record { taken = []; ripe = []; settings = false }

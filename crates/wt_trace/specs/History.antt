@@ -12,12 +12,12 @@ pub data Event : Type 0 where
 
 -- what a call of the application did
 pub data Deed : Type 0 where
-  HandedOut : (id : ℕ) → Deed        -- an accept gave this stream
-  Given : (id : ℕ) → Deed            -- the request of this stream was given
-  Begun : (head : List ℕ) → Deed     -- a response was begun, and part of this head waits for credit
-  Stands : (session : ℕ) → Deed      -- the session stands
-  ReadOut : (id count : ℕ) → Deed    -- so many bytes of this stream were read
-  Asked : Deed                       -- the call itself, where it did nothing else
+  HandedOut : (id : ℕ) → Deed  -- an accept gave this stream
+  Given : (id : ℕ) → Deed  -- the request of this stream was given
+  Begun : (head : List ℕ) → Deed  -- a response was begun, and part of this head waits for credit
+  Stands : (session : ℕ) → Deed  -- the session stands
+  ReadOut : (id count : ℕ) → Deed  -- so many bytes of this stream were read
+  Asked : Deed  -- the call itself, where it did nothing else
 
 -- Each byte that comes is a fact of its own. A fact that is no action is a moment: what a call sends stands
 -- before its deed, and what its work sends behind it.

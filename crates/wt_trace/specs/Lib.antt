@@ -1,4 +1,8 @@
 pub mod Equality
+pub mod Print
+pub mod Words
+pub mod Numbers
+pub mod Script
 pub mod History
 pub mod Seam
 pub mod Verdicts
@@ -6,3 +10,4 @@ pub mod Driver
 pub mod Session
 pub mod Calls
 pub mod Next
+pub mod Outside

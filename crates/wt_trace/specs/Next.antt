@@ -181,7 +181,7 @@ abbrev pub run_from : Side → Past → List Turn → Run
 run_from side h [] = stops_at Finished
 run_from side h (t ∷ ts) =
     elim (is_lawful side h t) [
-      true ↦ elim (is_built side h t) [ true ↦ with_answer (next side h t) (run_from side (then_turn side h t) ts) | false ↦ stops_at AtUnbuilt ]
+      | true ↦ elim (is_built side h t) [ true ↦ with_answer (next side h t) (run_from side (then_turn side h t) ts) | false ↦ stops_at AtUnbuilt ]
       | false ↦ stops_at AtUnlawful
     ]
 

@@ -5,7 +5,9 @@ use crate::action::Actions;
 use crate::piece::Piece;
 use std::alloc::Global;
 use std::marker::Model;
-use wt_proto::{HeaderList, OutOfMemory, SessionId, StreamId};
+use wt_proto::error::OutOfMemory;
+use wt_proto::header_list::HeaderList;
+use wt_proto::ids::{SessionId, StreamId};
 
 /// The reply to one turn.
 #[derive(PartialEq, Eq, Debug, Drop)]
@@ -93,7 +95,7 @@ impl Reply {
     }
 }
 
-#[tactic(auto, using(crate::proofs::Equality::fields_decide))]
+#[tactic(auto, using(wt_proto::proofs::EqualityLaws::fields_decide))]
 fn is_same_request(
     id: SessionId,
     headers: &HeaderList,

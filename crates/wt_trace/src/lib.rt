@@ -7,7 +7,10 @@
 
 pub mod action;
 pub mod answer;
+pub mod outside;
 pub mod piece;
+pub mod print;
+pub mod script;
 pub mod send;
 pub mod turn;
 

@@ -4,7 +4,9 @@ ghost use Rattle.std.specs.Prelude.{◌≡◌, ◌↔◌, ◌++◌, ◌∷◌, [
 use crate::piece::Piece;
 use std::alloc::Global;
 use std::marker::Model;
-use wt_proto::{HeaderList, OutOfMemory, StreamId};
+use wt_proto::error::OutOfMemory;
+use wt_proto::header_list::HeaderList;
+use wt_proto::ids::StreamId;
 
 /// What the transport tells about datagrams (RFC 9221).
 #[derive(Clone, Copy, PartialEq, Eq, Debug)]
@@ -49,7 +51,7 @@ impl Call {
     }
 
     /// Whether both are the same call with the same fields.
-    #[tactic(auto, using(crate::proofs::Equality::fields_decide))]
+    #[tactic(auto, using(wt_proto::proofs::EqualityLaws::fields_decide))]
     pub fn is_equal(&self, other: &Call) -> bool
         ensures { IsTrue result ↔ (self.now ≡ other.now) }
     {

@@ -1,0 +1,10 @@
+use Rattle.std.proofs.Common.{◌≡◌, ◌<◌, ◌^◌, drop, true}
+use Rattle.wt_trace.specs.Numbers.{value, all_digits}
+use Rattle.wt_trace.proofs.script.numbers.digits_value.Given as goal
+
+abbrev pub invariant-loop-byte : goal.invariant-loop-byte
+invariant-loop-byte l = record {
+  joined : value l.number (drop l.byte-index l.word) ≡ value 0 l.word;
+  digits : all_digits (drop l.byte-index l.word) ≡ true;
+  small : l.number < 2 ^ 64;
+}

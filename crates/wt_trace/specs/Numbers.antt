@@ -1,0 +1,32 @@
+-- Numbers and bytes in a script.
+use Rattle.std.specs.Prelude.{ℕ, ◌+◌, ◌-◌, ◌*◌, ◌==◌, Bool, true, false, ◌&&◌, not, nat_lt, nat_le, List, [], ◌∷◌, codes, Option, Some, None, if◌then◌else◌}
+use Rattle.std.specs.Result.{result_ok}
+use Rattle.hex.specs.Hex.{decode_of}
+use Rattle.wt_trace.specs.Words.{is_word}
+
+abbrev pub is_digit : ℕ → Bool
+is_digit c = nat_le 48 c && nat_le c 57
+
+abbrev pub all_digits : List ℕ → Bool
+all_digits [] = true
+all_digits (c ∷ digits) = is_digit c && all_digits digits
+
+-- the value of digits, behind those whose value is n
+abbrev pub value : ℕ → List ℕ → ℕ
+value n [] = n
+value n (c ∷ digits) = value (10 * n + (c - 48)) digits
+
+-- decimal digits, without a leading zero
+abbrev pub is_decimal : List ℕ → Bool
+is_decimal [] = false
+is_decimal (c ∷ []) = is_digit c
+is_decimal (c ∷ d ∷ digits) = not (c == 48) && all_digits (c ∷ d ∷ digits)
+
+-- the number that a word spells, where it is below the limit
+abbrev pub number : ℕ → List ℕ → Option ℕ
+number limit word = if is_decimal word && nat_lt (value 0 word) limit then Some (value 0 word) else None
+
+-- the bytes that a word spells: an even number of hexadecimal digits in either case, or '-' for none
+abbrev pub bytes_of : List ℕ → Option (List ℕ)
+bytes_of [] = None
+bytes_of (c ∷ word) = if is_word (c ∷ word) (codes "-") then Some [] else result_ok (decode_of (c ∷ word))

@@ -1,0 +1,67 @@
+//! Standard input and output. What comes and goes there is told by no contract.
+use crate::outside::{Failed, Sink, Source};
+use std::io::{Read, Stdin, Stdout, Write};
+
+/// Standard input.
+#[derive(Drop)]
+pub struct StdSource {
+    input: Stdin,
+    faults: u64,
+}
+
+impl StdSource {
+    /// Standard input, which hasn't failed yet.
+    pub fn new(input: Stdin) -> StdSource {
+        StdSource { input, faults: 0 }
+    }
+}
+
+impl Source for StdSource {
+    ghost use Rattle.std.specs.Prelude.{None};
+
+    ghost left = { λ _. None };
+
+    ghost faults = { λ s. s.faults };
+
+    fn read(&mut self, buf: &mut [u8]) -> Result<usize, Failed> {
+        match self.input.read(buf) {
+            Ok(count) => Ok(count),
+            Err(_) => {
+                self.faults = self.faults.saturating_add(1);
+                Err(Failed)
+            }
+        }
+    }
+}
+
+/// Standard output.
+#[derive(Drop)]
+pub struct StdSink {
+    output: Stdout,
+    faults: u64,
+}
+
+impl StdSink {
+    /// Standard output, which hasn't failed yet.
+    pub fn new(output: Stdout) -> StdSink {
+        StdSink { output, faults: 0 }
+    }
+}
+
+impl Sink for StdSink {
+    ghost use Rattle.std.specs.Prelude.{None};
+
+    ghost took = { λ _. None };
+
+    ghost faults = { λ s. s.faults };
+
+    fn write(&mut self, piece: &[u8]) -> Result<usize, Failed> {
+        match self.output.write(piece) {
+            Ok(count) if count > 0 || piece.is_empty() => Ok(count),
+            _ => {
+                self.faults = self.faults.saturating_add(1);
+                Err(Failed)
+            }
+        }
+    }
+}

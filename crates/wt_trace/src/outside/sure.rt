@@ -1,0 +1,63 @@
+//! A source and a sink that never fail.
+ghost use Rattle.std.specs.Prelude.{◌≡◌};
+
+use crate::outside::{Failed, Sink, Source};
+use std::marker::Model;
+
+/// A source of bytes that never fails. Contracts see the bytes that are left.
+#[derive(Debug, Drop)]
+pub struct SureSource {
+    bytes: Vec<u8>,
+    at: usize,
+}
+
+impl Model for SureSource {
+    ghost use Rattle.std.specs.Prelude.{List, ℕ, ◌≤◌, drop, length};
+
+    ghost Value = { List ℕ };
+
+    ghost view = { λ s. drop s.at s.bytes.items };
+
+    ghost invariant = { λ s. s.at ≤ length s.bytes.items };
+}
+
+impl SureSource {
+    /// All of these bytes are left.
+    pub fn new(bytes: Vec<u8>) -> SureSource
+        ensures { result ≡ bytes.items }
+    {
+        SureSource { bytes, at: 0 }
+    }
+}
+
+impl Source for SureSource {
+    ghost use Rattle.std.specs.Prelude.{Some};
+
+    ghost left = { λ s. Some s };
+
+    ghost faults = { λ _. 0 };
+
+    fn read(&mut self, buf: &mut [u8]) -> Result<usize, Failed> {
+        let count = buf.len().min(self.bytes.len() - self.at);
+        let end = self.at + count;
+        buf[..count].copy_from_slice(&self.bytes[self.at..end]);
+        self.at = end;
+        Ok(count)
+    }
+}
+
+/// A sink that takes all bytes, keeps none of them and never fails.
+#[derive(Clone, Copy, PartialEq, Eq, Debug)]
+pub struct SureSink;
+
+impl Sink for SureSink {
+    ghost use Rattle.std.specs.Prelude.{None};
+
+    ghost took = { λ _. None };
+
+    ghost faults = { λ _. 0 };
+
+    fn write(&mut self, piece: &[u8]) -> Result<usize, Failed> {
+        Ok(piece.len())
+    }
+}

@@ -1,0 +1,129 @@
+//! Numbers and bytes in a script.
+ghost use Rattle.std.specs.Prelude.{◌≡◌, ◌+◌, ◌-◌, ◌*◌, ◌<◌, ◌^◌, IsTrue, IfOk, Some, None};
+ghost use Rattle.std.specs.Option.{option_map, SomeIff};
+ghost use Rattle.wt_trace.specs.Numbers.{is_digit, all_digits, is_decimal, value, number, bytes_of};
+ghost use Rattle.std.specs.Result.{result_ok};
+ghost use Rattle.hex.specs.Hex.{decode_of};
+ghost use Rattle.wt_trace.specs.Script.{count_of, id_of, fact_of};
+
+use crate::piece::Piece;
+use crate::script::words::is_name;
+use crate::turn::DatagramFact;
+use hex::FromHexError;
+use std::alloc::Global;
+use wt_proto::error::OutOfMemory;
+use wt_proto::ids::StreamId;
+use wt_proto::varint::VarInt;
+
+fn is_digit_byte(byte: u8) -> bool
+    ensures { result ≡ is_digit byte }
+{
+    b'0' <= byte && byte <= b'9'
+}
+
+fn are_digits(word: &[u8]) -> bool
+    ensures { result ≡ all_digits word.now }
+{
+    for byte in word {
+        if !is_digit_byte(*byte) {
+            return false;
+        }
+    }
+    true
+}
+
+fn is_decimal_number(word: &[u8]) -> bool
+    ensures { result ≡ is_decimal word.now }
+{
+    match word {
+        [] => false,
+        [digit] => is_digit_byte(*digit),
+        [first, ..] => *first != b'0' && are_digits(word),
+    }
+}
+
+/// The number with one more digit; None where it doesn't fit.
+fn with_digit(number: u64, digit: u8) -> Option<u64>
+    requires { IsTrue (is_digit digit) }
+    ensures { SomeIff result (10 * number + (digit - 48) < 2 ^ 64) (10 * number + (digit - 48)) }
+{
+    match number.checked_mul(10) {
+        Some(tens) => tens.checked_add((digit - b'0') as u64),
+        None => None,
+    }
+}
+
+/// The value of decimal digits; None where it doesn't fit.
+#[tactic(auto, using(crate::proofs::NumberLaws::value_grows))]
+fn digits_value(word: &[u8]) -> Option<u64>
+    requires { IsTrue (all_digits word.now) }
+    ensures { SomeIff result (value 0 word.now < 2 ^ 64) (value 0 word.now) }
+{
+    let mut number: u64 = 0;
+    for byte in word {
+        match with_digit(number, *byte) {
+            Some(more) => number = more,
+            None => return None,
+        }
+    }
+    Some(number)
+}
+
+/// A number of 64 bits.
+pub fn read_count(word: &[u8]) -> Option<u64>
+    ensures { result ≡ count_of word.now }
+{
+    if is_decimal_number(word) {
+        digits_value(word)
+    } else {
+        None
+    }
+}
+
+/// The id of a stream.
+pub fn read_id(word: &[u8]) -> Option<StreamId>
+    ensures { result ≡ id_of word.now }
+{
+    let number = read_count(word)?;
+    let id = VarInt::try_from_u64(number)?;
+    Some(StreamId::new(id))
+}
+
+/// What the transport tells about datagrams.
+pub fn read_fact(word: &[u8]) -> Option<DatagramFact>
+    ensures { result ≡ fact_of word.now }
+{
+    if is_name(word, b"off") {
+        return Some(DatagramFact::Disabled);
+    }
+    if is_name(word, b"unsupported") {
+        return Some(DatagramFact::Unsupported);
+    }
+    match read_count(word) {
+        Some(limit) => Some(DatagramFact::Limit(limit)),
+        None => None,
+    }
+}
+
+fn decode_digits(alloc: Global, word: &[u8]) -> Result<Option<Piece>, OutOfMemory>
+    ensures { IfOk result (λ piece. piece ≡ result_ok (decode_of word.now)) }
+{
+    match hex::decode(alloc, word) {
+        Ok(bytes) => Ok(Some(Piece::from_vec(bytes))),
+        Err(FromHexError::OutOfMemory) => Err(OutOfMemory),
+        Err(_) => Ok(None),
+    }
+}
+
+/// Bytes in hexadecimal, `-` for none.
+pub fn read_bytes(alloc: Global, word: &[u8]) -> Result<Option<Piece>, OutOfMemory>
+    ensures { IfOk result (λ piece. piece ≡ bytes_of word.now) }
+{
+    if word.is_empty() {
+        return Ok(None);
+    }
+    if is_name(word, b"-") {
+        return Ok(Some(Piece::new(alloc)));
+    }
+    decode_digits(alloc, word)
+}
