@@ -11,7 +11,9 @@ pub mod outside;
 pub mod piece;
 pub mod print;
 pub mod script;
+pub mod seam;
 pub mod send;
+pub mod session;
 pub mod turn;
 
 pub use action::{Action, Actions};
