@@ -18,9 +18,10 @@ pub mod headers;
 pub mod ids;
 pub mod laws;
 pub mod lookup;
+pub mod outgoing;
 pub mod prefixed_integer;
-pub mod response_walk;
 pub mod read_back;
+pub mod response_walk;
 pub mod session;
 pub mod session_walk;
 pub mod settings;
@@ -32,3 +33,5 @@ pub mod utf8;
 pub mod varint;
 pub mod verdict;
 pub mod walk;
+#[cfg(test)]
+mod walk_tests;
