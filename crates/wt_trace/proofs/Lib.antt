@@ -10,5 +10,6 @@ pub mod Ranges
 pub mod AfterTurns
 pub mod Replay
 pub mod CallTurns
+pub mod Start
 pub mod ReplayCalls
 pub mod Standing

@@ -7,13 +7,16 @@
 
 pub mod action;
 pub mod answer;
+mod built;
+mod driver;
+pub mod machine;
 pub mod outside;
 pub mod piece;
 pub mod print;
 pub mod script;
-pub mod seam;
+mod seam;
 pub mod send;
-pub mod session;
+mod session;
 pub mod turn;
 
 pub use action::{Action, Actions};
