@@ -22,3 +22,6 @@ pub mod SettingsAgain
 pub mod ControlLaws
 pub mod SessionLaws
 pub mod DatagramLaws
+pub mod BiLaws
+pub mod ResponseWalkLaws
+pub mod FirstLaws

@@ -23,3 +23,5 @@ pub mod Addresses
 pub mod ControlWalk
 pub mod SessionWalk
 pub mod FixedBytes
+pub mod Bi
+pub mod ResponseWalk

@@ -51,3 +51,8 @@ session_end end reached = session_outcome end reached.between reached.stop
 
 unfoldable pub session_walk_of : List ℕ → StreamEnd → SessionWalk
 session_walk_of bytes end = session_end end (walked session_decides tt bytes)
+
+-- an outcome that more bytes and an end don't change
+abbrev pub is_over : SessionWalk → Bool
+is_over walks.Running = false
+is_over _ = true

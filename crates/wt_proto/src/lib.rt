@@ -3,6 +3,7 @@
 
 pub mod addr;
 pub mod alpn;
+pub mod bi;
 pub mod byte_strings;
 pub mod capsule;
 pub mod control_walk;
@@ -19,8 +20,10 @@ pub mod headers;
 pub mod ids;
 pub mod laws;
 pub mod lookup;
+pub mod outgoing;
 pub mod prefixed_integer;
 pub mod read_back;
+pub mod response_walk;
 pub mod session;
 pub mod session_walk;
 pub mod settings;
@@ -32,3 +35,5 @@ pub mod utf8;
 pub mod varint;
 pub mod verdict;
 pub mod walk;
+#[cfg(test)]
+mod walk_tests;
