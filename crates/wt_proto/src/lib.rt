@@ -11,6 +11,8 @@ pub mod datagram;
 pub mod error;
 mod exercise;
 pub mod field_section;
+#[cfg(test)]
+mod field_tests;
 pub mod frame;
 mod front;
 pub mod header_list;
