@@ -24,6 +24,7 @@ pub mod outgoing;
 pub mod prefixed_integer;
 pub mod read_back;
 pub mod response_walk;
+pub mod rows;
 pub mod session;
 pub mod session_walk;
 pub mod settings;
