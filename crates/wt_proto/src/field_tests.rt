@@ -9,11 +9,8 @@ use crate::header_list::HeaderList;
 use crate::headers::Headers;
 use crate::ids::{QStreamId, SessionId, StreamId};
 use crate::lookup::{ConnectOutcome, Lookup};
-use crate::session::{
-    BadStatus, HeadersParseError, ReservedHeader, SessionRequest, SessionResponse,
-};
+use crate::session::{ReservedHeader, SessionRequest, SessionResponse};
 use crate::settings::{SettingId, Settings};
-use crate::status::StatusCode;
 use crate::text::Text;
 use crate::utf8::from_utf8;
 use crate::varint::VarInt;
@@ -48,52 +45,28 @@ fn request_is_written_and_read(rt: HostRuntime) -> Result<(), Fail> {
     Ok(())
 }
 
-fn refused(rt: &HostRuntime, payload: &[u8]) -> Result<bool, Fail> {
-    match headers_of(rt, payload)? {
-        Ok(_) => Ok(false),
-        Err(error) => Ok(error == ErrorCode::Decompression),
-    }
-}
+/// Payloads that aren't field sections of literal lines with literal names.
+const REFUSED: [&[u8]; 12] = [
+    b"\x00",
+    b"\x01\x00",
+    b"\x00\x01",
+    b"\x00\x00\xd1",
+    b"\x00\x00\x51\x01b",
+    b"\x00\x00\x29a\x01b",
+    b"\x00\x00\x21a\x81b",
+    b"\x00\x00\x21a",
+    b"\x00\x00\x21a\x02b",
+    b"\x00\x00\x21\xff\x01b",
+    b"\x00\x00\x27\x80\x80\x80\x80\x00\x01b",
+    b"\x00\x00\x21a\x01\xed\xa0\x80",
+];
 
 #[test]
 fn field_sections_are_refused(rt: HostRuntime) -> Result<(), Fail> {
-    assert!(rt; !refused(&rt, b"\x00\x00".as_slice())?, "an empty list");
-    assert!(rt; !refused(&rt, b"\x00\x00\x31a\x01b".as_slice())?, "N is 1");
-    assert!(rt; refused(&rt, b"\x00".as_slice())?, "a cut prefix");
-    assert!(rt;
-        refused(&rt, b"\x01\x00".as_slice())?,
-        "another insert count"
-    );
-    assert!(rt; refused(&rt, b"\x00\x01".as_slice())?, "another base");
-    assert!(rt;
-        refused(&rt, b"\x00\x00\xd1".as_slice())?,
-        "an indexed line"
-    );
-    assert!(rt;
-        refused(&rt, b"\x00\x00\x51\x01b".as_slice())?,
-        "a name of the table"
-    );
-    assert!(rt;
-        refused(&rt, b"\x00\x00\x29a\x01b".as_slice())?,
-        "a name by Huffman"
-    );
-    assert!(rt;
-        refused(&rt, b"\x00\x00\x21a\x81b".as_slice())?,
-        "a value by Huffman"
-    );
-    assert!(rt; refused(&rt, b"\x00\x00\x21a".as_slice())?, "no value");
-    assert!(rt;
-        refused(&rt, b"\x00\x00\x21a\x02b".as_slice())?,
-        "a cut value"
-    );
-    assert!(rt;
-        refused(&rt, b"\x00\x00\x21\xff\x01b".as_slice())?,
-        "a name that isn't UTF-8"
-    );
-    assert!(rt;
-        refused(&rt, b"\x00\x00\x27\x80\x80\x80\x80\x00\x01b".as_slice())?,
-        "five bytes"
-    );
+    for payload in REFUSED {
+        let answer = headers_of(&rt, payload)?;
+        assert_eq!(rt; answer.err(), Some(ErrorCode::Decompression));
+    }
     Ok(())
 }
 
@@ -146,96 +119,55 @@ fn lists_are_copied(rt: HostRuntime) -> Result<(), Fail> {
 }
 
 #[test]
-fn requests_are_judged(rt: HostRuntime) -> Result<(), Fail> {
+fn a_request_takes_fields(rt: HostRuntime) -> Result<(), Fail> {
     let mut request = SessionRequest::new(rt.alloc(), "h:1", "/p?q")?;
     assert_eq!(rt; request.insert("origin", "https://o")?, Ok(()));
-    assert_eq!(rt; request.insert("user-agent", "u")?, Ok(()));
     assert_eq!(rt; request.insert(":path", "/other")?, Err(ReservedHeader));
     assert_eq!(rt; request.path(), "/p?q");
     assert_eq!(rt; request.origin(), Some("https://o"));
-    assert_eq!(rt; request.user_agent(), Some("u"));
-    let mut headers = Headers::new(rt.alloc());
-    headers.insert(":method", "GET")?;
-    let answer = SessionRequest::try_from(headers);
-    assert_eq!(rt; answer.err(), Some(HeadersParseError::MethodNotConnect));
-    let mut headers = Headers::new(rt.alloc());
-    headers.insert(":method", "CONNECT")?;
-    let answer = SessionRequest::try_from(headers);
-    assert_eq!(rt; answer.err(), Some(HeadersParseError::Other));
-    let answer = SessionRequest::try_from(Headers::new(rt.alloc()));
-    assert_eq!(rt; answer.err(), Some(HeadersParseError::Other));
+    assert_eq!(rt; request.user_agent(), None);
     Ok(())
 }
 
-fn is_response(
-    rt: &HostRuntime,
-    response: &SessionResponse,
-    code: &str,
-    payload: &[u8],
-) -> Result<bool, Fail> {
-    let frame = response.generate_frame(rt.alloc())?;
-    let code = StatusCode::try_from_text(code);
-    Ok(Some(response.code()) == code && frame.payload() == payload)
+fn payload_of(rt: &HostRuntime, response: &SessionResponse) -> Result<Frame, Fail> {
+    Ok(response.generate_frame(rt.alloc())?)
 }
 
 #[test]
 fn responses_are_written(rt: HostRuntime) -> Result<(), Fail> {
-    let ok = SessionResponse::ok(rt.alloc())?;
-    assert!(rt;
-        is_response(
-            &rt,
-            &ok,
-            "200",
-            b"\x00\x00\x27\x00:status\x03200".as_slice()
-        )?
+    let frame = payload_of(&rt, &SessionResponse::ok(rt.alloc())?)?;
+    assert_eq!(rt;
+        frame.payload(),
+        b"\x00\x00\x27\x00:status\x03200".as_slice()
     );
-    let forbidden = SessionResponse::forbidden(rt.alloc())?;
-    assert!(rt;
-        is_response(
-            &rt,
-            &forbidden,
-            "403",
-            b"\x00\x00\x27\x00:status\x03403".as_slice()
-        )?
+    let frame = payload_of(&rt, &SessionResponse::forbidden(rt.alloc())?)?;
+    assert_eq!(rt;
+        frame.payload(),
+        b"\x00\x00\x27\x00:status\x03403".as_slice()
     );
-    let not_found = SessionResponse::not_found(rt.alloc())?;
-    assert!(rt;
-        is_response(
-            &rt,
-            &not_found,
-            "404",
-            b"\x00\x00\x27\x00:status\x03404".as_slice()
-        )?
+    let frame = payload_of(&rt, &SessionResponse::not_found(rt.alloc())?)?;
+    assert_eq!(rt;
+        frame.payload(),
+        b"\x00\x00\x27\x00:status\x03404".as_slice()
     );
-    let many = SessionResponse::too_many_requests(rt.alloc())?;
-    assert!(rt;
-        is_response(
-            &rt,
-            &many,
-            "429",
-            b"\x00\x00\x27\x00:status\x03429".as_slice()
-        )?
+    let frame = payload_of(&rt, &SessionResponse::too_many_requests(rt.alloc())?)?;
+    assert_eq!(rt;
+        frame.payload(),
+        b"\x00\x00\x27\x00:status\x03429".as_slice()
     );
     Ok(())
 }
 
 #[test]
-fn responses_are_judged(rt: HostRuntime) -> Result<(), Fail> {
-    let mut response = SessionResponse::ok(rt.alloc())?;
+fn a_response_takes_fields(rt: HostRuntime) -> Result<(), Fail> {
+    let mut headers = Headers::new(rt.alloc());
+    headers.insert(":status", "204")?;
+    let mut response = SessionResponse::try_from(headers).ok().ok_or("refused")?;
     response.add(":status", "404")?;
     response.add("server", "s")?;
+    assert_eq!(rt; response.code().into_inner(), 204);
     assert!(rt; response.code().is_successful());
     assert_eq!(rt; response.headers().get("server"), Some("s"));
-    let mut headers = Headers::new(rt.alloc());
-    headers.insert(":status", "600")?;
-    assert_eq!(rt; SessionResponse::try_from(headers).err(), Some(BadStatus));
-    let mut headers = Headers::new(rt.alloc());
-    headers.insert(":status", "599")?;
-    let response = SessionResponse::try_from(headers).ok().ok_or("refused")?;
-    assert_eq!(rt; response.code().into_inner(), 599);
-    assert_eq!(rt; StatusCode::try_from_text("099"), None);
-    assert_eq!(rt; StatusCode::try_from_text("+20"), None);
-    assert_eq!(rt; StatusCode::try_from_text("2000"), None);
     Ok(())
 }
 
@@ -261,42 +193,14 @@ fn own_settings_are_written_and_read(rt: HostRuntime) -> Result<(), Fail> {
 }
 
 #[test]
-fn settings_are_refused(rt: HostRuntime) -> Result<(), Fail> {
-    let fault = settings_of(&rt, b"\x01\x00\x01\x00".as_slice())?;
-    assert_eq!(rt; fault, Err(ErrorCode::Settings), "a known id again");
-    let fault = settings_of(&rt, b"\x05\x00".as_slice())?;
-    assert_eq!(rt; fault, Err(ErrorCode::Settings), "a reserved id");
-    let fault = settings_of(&rt, b"\x05".as_slice())?;
-    assert_eq!(rt; fault, Err(ErrorCode::Frame), "a cut pair");
-    let unknown = settings_of(&rt, b"\x21\x00\x21\x07".as_slice())?;
-    assert_eq!(rt; unknown, Ok(Settings::builder().build()));
-    Ok(())
-}
-
-#[test]
 fn a_capsule_closes(rt: HostRuntime) -> Result<(), Fail> {
-    let value = find_close(b"\x68\x43\x06\x00\x00\x01\x02hiMORE".as_slice()).ok_or("none")?;
+    let payload = b"\x68\x43\x06\x00\x00\x01\x02hiMORE".as_slice();
+    let value = find_close(payload).ok_or("none")?;
     let close = CloseWebTransportSession::with_capsule(rt.alloc(), value)?
         .ok()
         .ok_or("refused")?;
     assert_eq!(rt; close.error_code().into_inner(), 258);
     assert_eq!(rt; close.reason(), "hi");
-    assert_eq!(rt;
-        find_close(b"\x68\x43\x06\x00\x00\x01\x02h".as_slice()),
-        None
-    );
-    assert_eq!(rt; find_close(b"\x00\x00".as_slice()), None);
-    let short = CloseWebTransportSession::with_capsule(rt.alloc(), b"\x00\x00\x00".as_slice())?;
-    assert_eq!(rt; short.err(), Some(ErrorCode::Message));
-    let mut long = [0u8; 4].to_vec(rt.alloc())?;
-    for _ in 0..1024 {
-        long.push(b'a')?;
-    }
-    let longest = CloseWebTransportSession::with_capsule(rt.alloc(), long.as_slice())?;
-    assert!(rt; longest.is_ok());
-    long.push(b'a')?;
-    let longer = CloseWebTransportSession::with_capsule(rt.alloc(), long.as_slice())?;
-    assert_eq!(rt; longer.err(), Some(ErrorCode::Message));
     Ok(())
 }
 
@@ -313,27 +217,26 @@ fn datagrams_are_written_and_read(rt: HostRuntime) -> Result<(), Fail> {
     let again = H3Datagram::read(bytes.as_slice()).ok().ok_or("refused")?;
     assert_eq!(rt; again.qstream_id(), quarter);
     assert_eq!(rt; again.payload(), b"xy".as_slice());
-    let cut = H3Datagram::read(b"\x40".as_slice()).err();
-    assert_eq!(rt; cut, Some(ErrorCode::Datagram));
-    let greater = H3Datagram::read(b"\xd0\x00\x00\x00\x00\x00\x00\x00".as_slice()).err();
-    assert_eq!(rt; greater, Some(ErrorCode::Datagram));
     Ok(())
 }
 
+/// Bytes that are no UTF-8.
+const NO_TEXTS: [&[u8]; 5] = [
+    b"\xc0\x80",
+    b"\xe0\x80\x80",
+    b"\xed\xa0\x80",
+    b"\xf4\x90\x80\x80",
+    b"\xe2\x82",
+];
+
 #[test]
 fn texts_are_utf8(rt: HostRuntime) -> Result<(), Fail> {
-    assert_eq!(rt;
-        from_utf8(b"a\xc3\xa4\xe2\x82\xac\xf0\x9f\x98\x80".as_slice()),
-        Some("a\u{e4}\u{20ac}\u{1f600}")
-    );
-    assert_eq!(rt; from_utf8(b"\xc0\x80".as_slice()), None);
-    assert_eq!(rt; from_utf8(b"\xed\xa0\x80".as_slice()), None);
-    assert_eq!(rt; from_utf8(b"\xf4\x90\x80\x80".as_slice()), None);
-    assert_eq!(rt; from_utf8(b"\xe2\x82".as_slice()), None);
-    let text = Text::from_text(rt.alloc(), "h\u{e4}")?;
-    let copy = text.copy(rt.alloc())?;
-    assert_eq!(rt; copy, text);
-    assert_eq!(rt; copy.as_str(), "h\u{e4}");
+    for bytes in NO_TEXTS {
+        assert_eq!(rt; from_utf8(bytes), None);
+    }
+    let text = from_utf8(b"a\xc3\xa4\xe2\x82\xac\xf0\x9f\x98\x80".as_slice()).ok_or("no text")?;
+    let text = Text::from_text(rt.alloc(), text)?;
+    assert_eq!(rt; text.copy(rt.alloc())?.as_str(), "a\u{e4}\u{20ac}\u{1f600}");
     Ok(())
 }
 
