@@ -1,1 +1,2 @@
 pub mod DigestReading
+pub mod DigestWriting

@@ -2,11 +2,17 @@
 -- of `wtransport`'s `Sha256DigestFmt`.
 use Rattle.std.specs.Prelude.{ℕ, ◌==◌, ◌&&◌, nat_lt, nat_le, not, if◌then◌else◌, List, [], ◌∷◌, ◌++◌, length, Option, Some, None}
 use Rattle.std.specs.List.{slice_split, list_all}
+use Rattle.std.specs.Prelude.{◌+◌, ◌/◌, ◌%◌, codes, flat_map, slice_index, ◌<◌}
+use Rattle.std.specs.Fmt.{decimal}
 use Rattle.std.specs.Char.{digit_value}
 use Rattle.std.specs.Str.{trim}
 use Rattle.std.specs.Str.Parse.{digits_value, without_leading_plus}
 use Rattle.wt_config.specs.declared.digest.Sha256DigestFmt.{Sha256DigestFmt}
 use Rattle.wt_config.specs.declared.digest.Sha256DigestFmt.TheVariants.{BytesArray, DottedHex}
+
+-- each number is a byte
+abbrev pub IsBytes : List ℕ → Type 0
+IsBytes bytes = (i : ℕ) → slice_index bytes i < 256
 
 -- The number that some digits write, where there is one digit or more, each is a digit of the radix
 -- (a letter in either case), and the number is at most 255.
@@ -76,3 +82,29 @@ without_brackets text = without_back 93 (without_front 91 text)
 abbrev pub digest_of_text : Sha256DigestFmt → List ℕ → Option (List ℕ)
 digest_of_text BytesArray text = numbers_of_text 10 44 (without_brackets text)
 digest_of_text DottedHex text = numbers_of_text 16 58 text
+
+-- the code of a hexadecimal digit: `0` to `9` are 48 to 57, and the lower-case `a` to `f` 97 to 102
+abbrev pub lower_digit : ℕ → ℕ
+lower_digit digit = if nat_lt digit 10 then 48 + digit else 87 + digit
+
+-- a byte in two hexadecimal digits, the high four bits first
+abbrev pub two_digits : ℕ → List ℕ
+two_digits byte = lower_digit (byte / 16) ∷ lower_digit (byte % 16) ∷ []
+
+-- some bytes, each as it is written, with a text between each two
+abbrev pub joined_by : List ℕ → (ℕ → List ℕ) → List ℕ → List ℕ
+joined_by between written [] = []
+joined_by between written (first ∷ following) = written first ++ flat_map (λ byte. between ++ written byte) following
+
+-- the dotted form: two lower-case hexadecimal digits for each byte, joined by colons
+abbrev pub dotted_hex : List ℕ → List ℕ
+dotted_hex bytes = joined_by (codes ":") two_digits bytes
+
+-- the array form: the decimal numbers, joined by a comma and a blank, within brackets
+abbrev pub bytes_array : List ℕ → List ℕ
+bytes_array bytes = codes "[" ++ (joined_by (codes ", ") decimal bytes ++ codes "]")
+
+-- the text of a digest in a form
+abbrev pub text_of_digest : Sha256DigestFmt → List ℕ → List ℕ
+text_of_digest BytesArray bytes = bytes_array bytes
+text_of_digest DottedHex bytes = dotted_hex bytes

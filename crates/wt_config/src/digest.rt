@@ -1,13 +1,16 @@
 //! SHA-256 digests of certificates, and the two forms in which they are written.
-ghost use Rattle.std.specs.Prelude.{◌≡◌, ◌≤◌, ◌<◌, ◌∷◌, Some, None, IfOk, OnErr};
+ghost use Rattle.std.specs.Prelude.{◌≡◌, ◌≤◌, ◌<◌, ◌∷◌, Some, None, IfOk, OnErr, string_bytes};
 ghost use Rattle.std.specs.Option.{option_copied};
 ghost use Rattle.sha2.specs.Sha256.{sha256};
-ghost use Rattle.wt_config.specs.DigestText.{number_of, pieces_of, remaining_pieces, numbers_of_text, without_brackets, digest_of_text};
+ghost use Rattle.wt_config.specs.DigestText.{number_of, pieces_of, remaining_pieces, numbers_of_text, without_brackets, digest_of_text, text_of_digest};
 
 use sha2::{Digest, Sha256};
+use std::alloc::Global;
+use std::fmt;
 use std::marker::Model;
 use std::str::FromStr;
 use thiserror::Error;
+use wt_proto::error::OutOfMemory;
 
 /// The text is no digest in the form that it was read in.
 #[derive(Debug, Drop, Error)]
@@ -28,11 +31,14 @@ pub enum Sha256DigestFmt {
 pub struct Sha256Digest([u8; 32]);
 
 impl Model for Sha256Digest {
-    ghost use Rattle.std.specs.Prelude.{List, ℕ};
+    ghost use Rattle.std.specs.Prelude.{◌≡◌, List, ℕ, length};
+    ghost use Rattle.wt_config.specs.DigestText.{IsBytes};
 
     ghost Value = { List ℕ };
 
     ghost view = { λ d. d.0 };
+
+    ghost invariant = { λ d. (length d.0 ≡ 32) × IsBytes d.0 };
 
     ghost inverse = { λ bytes. record { 0 = bytes } };
 }
@@ -52,6 +58,21 @@ impl Sha256Digest {
         Sha256Digest(Sha256::digest(der))
     }
 
+    /// The text of the digest in one form.
+    ///
+    /// # Errors
+    ///
+    /// `OutOfMemory` where the text found no memory.
+    pub fn fmt(&self, alloc: Global, fmt: Sha256DigestFmt) -> Result<String, OutOfMemory>
+        ensures { IfOk result (λ text. string_bytes text ≡ text_of_digest fmt self.now) }
+    {
+        let text = match fmt {
+            Sha256DigestFmt::BytesArray => BytesArray(self).to_string(alloc)?,
+            Sha256DigestFmt::DottedHex => self.to_string(alloc)?,
+        };
+        Ok(text)
+    }
+
     /// Reads a digest in one form, and takes no memory.
     ///
     /// # Errors
@@ -69,6 +90,61 @@ impl Sha256Digest {
             Some(bytes) => Ok(Sha256Digest(bytes)),
             None => Err(InvalidDigest),
         }
+    }
+}
+
+impl fmt::Display for Sha256Digest {
+    ghost use Rattle.std.specs.Prelude.{Some};
+    ghost use Rattle.wt_config.specs.DigestText.{dotted_hex};
+
+    ghost output = { λ digest. Some (dotted_hex digest) };
+
+    /// Writes the dotted form.
+    fn fmt<W: fmt::Write>(&self, f: &mut fmt::Formatter<W>) -> fmt::Result {
+        let first = TwoDigits(self.0[0]);
+        write!(f, "{first}")?;
+        for byte in &self.0[1..] {
+            let following = TwoDigits(*byte);
+            write!(f, ":{following}")?;
+        }
+        Ok(())
+    }
+}
+
+/// A byte, shown as two lower-case hexadecimal digits.
+#[derive(Clone, Copy)]
+struct TwoDigits(u8);
+
+impl fmt::Display for TwoDigits {
+    ghost use Rattle.std.specs.Prelude.{Some};
+    ghost use Rattle.wt_config.specs.DigestText.{two_digits};
+
+    ghost output = { λ byte. Some (two_digits byte.0) };
+
+    fn fmt<W: fmt::Write>(&self, f: &mut fmt::Formatter<W>) -> fmt::Result {
+        let byte = self.0;
+        write!(f, "{byte:02x}")
+    }
+}
+
+/// A digest, shown as an array of decimal numbers.
+#[derive(Clone, Copy)]
+struct BytesArray<'a>(&'a Sha256Digest);
+
+impl fmt::Display for BytesArray<'_> {
+    ghost use Rattle.std.specs.Prelude.{Some};
+    ghost use Rattle.wt_config.specs.DigestText.{bytes_array};
+
+    ghost output = { λ shown. Some (bytes_array shown.0.now) };
+
+    fn fmt<W: fmt::Write>(&self, f: &mut fmt::Formatter<W>) -> fmt::Result {
+        let digest = self.0;
+        let first = digest.0[0];
+        write!(f, "[{first}")?;
+        for byte in &digest.0[1..] {
+            write!(f, ", {byte}")?;
+        }
+        write!(f, "]")
     }
 }
 
