@@ -41,7 +41,7 @@ digits_all : (radix : ℕ) (ds : List ℕ) → list_all (λ c. nat_lt (digit_val
 digits_all radix [] h = tt
 digits_all radix (c ∷ cs) h = (grind (arith, nat_tests), digits_all radix cs (grind (arith, nat_tests)))
 
-byte_some : (radix : ℕ) (ds : List ℕ) → IsNumeral radix ds → digits_value radix ds < 2 ^ 8 → byte_of_digits radix ds ≡ Some (digits_value radix ds)
+pub byte_some : (radix : ℕ) (ds : List ℕ) → IsNumeral radix ds → digits_value radix ds < 2 ^ 8 → byte_of_digits radix ds ≡ Some (digits_value radix ds)
 byte_some radix [] h l = absurd (omega (arith, h.0))
 byte_some radix (c ∷ cs) h l =
     let all = digits_true radix (c ∷ cs) h.1 in
@@ -67,7 +67,7 @@ parsed_byte radix ds (Ok x) h = ap Some h.1 ∙ sym (byte_some radix ds h.0.0 h.
 parsed_byte radix ds (Err e) h = sym (byte_none radix ds h)
 
 -- ---- the brackets
-skip_front : (c : ℕ) (bs : List ℕ) → without_front c (c ∷ bs) ≡ without_front c bs
+pub skip_front : (c : ℕ) (bs : List ℕ) → without_front c (c ∷ bs) ≡ without_front c bs
 skip_front c bs = grind (arith, nat_tests)
 
 -- a cut at the front changes nothing
@@ -92,7 +92,7 @@ front_done c r (Some n) small h z = absurd (no_width c small (sym z ∙ h.ends �
 pub trimmed_front : (c : ℕ) (s r : List ℕ) → c < 128 → IsTrimStartMatches (FindsCharPrefix c) s r → r ≡ without_front c s
 trimmed_front c s r small h = sym (front_cuts c s h.0.0 r small h.0.1 ∙ front_done c r h.1.0 small h.1.1 h.1.2)
 
-skip_back : (c : ℕ) (bs : List ℕ) → without_back c (bs ++ c ∷ []) ≡ without_back c bs
+pub skip_back : (c : ℕ) (bs : List ℕ) → without_back c (bs ++ c ∷ []) ≡ without_back c bs
 skip_back c [] = grind (arith, nat_tests)
 skip_back c (x ∷ xs) = ap (λ kept. before_kept c x kept) (skip_back c xs)
 
@@ -155,7 +155,7 @@ read_none radix numbers piece pieces h =
 unequal : (n : ℕ) (o : Option (List ℕ)) → n ≢ 32 → (if nat_eq n 32 then o else None) ≡ None
 unequal n o h = grind (arith, nat_tests)
 
-equal : (n : ℕ) (o : Option (List ℕ)) → n ≡ 32 → (if nat_eq n 32 then o else None) ≡ o
+pub equal : (n : ℕ) (o : Option (List ℕ)) → n ≡ 32 → (if nat_eq n 32 then o else None) ≡ o
 equal n o h = grind (arith, nat_tests)
 
 pub read_few : (radix : ℕ) (numbers : List ℕ) → length numbers < 32 → with_read radix numbers [] ≡ None

@@ -1,2 +1,4 @@
+pub mod DigestLaws
 pub mod DigestReading
 pub mod DigestWriting
+pub mod PinLemmas

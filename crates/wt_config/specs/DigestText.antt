@@ -108,3 +108,12 @@ bytes_array bytes = codes "[" ++ (joined_by (codes ", ") decimal bytes ++ codes 
 abbrev pub text_of_digest : Sha256DigestFmt → List ℕ → List ℕ
 text_of_digest BytesArray bytes = bytes_array bytes
 text_of_digest DottedHex bytes = dotted_hex bytes
+
+-- what the first form reads, or else the second
+abbrev pub first_read : Option (List ℕ) → Option (List ℕ) → Option (List ℕ)
+first_read (Some digest) other = Some digest
+first_read None other = other
+
+-- the digest that a text writes in either form: the array form is tried first
+abbrev pub digest_of_any_text : List ℕ → Option (List ℕ)
+digest_of_any_text text = first_read (digest_of_text BytesArray text) (digest_of_text DottedHex text)

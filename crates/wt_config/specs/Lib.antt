@@ -1,1 +1,2 @@
 pub mod DigestText
+pub mod Pin

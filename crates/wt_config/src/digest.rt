@@ -1,8 +1,9 @@
 //! SHA-256 digests of certificates, and the two forms in which they are written.
 ghost use Rattle.std.specs.Prelude.{◌≡◌, ◌≤◌, ◌<◌, ◌∷◌, Some, None, IfOk, OnErr, string_bytes};
 ghost use Rattle.std.specs.Option.{option_copied};
+ghost use Rattle.std.specs.Result.{result_ok};
 ghost use Rattle.sha2.specs.Sha256.{sha256};
-ghost use Rattle.wt_config.specs.DigestText.{number_of, pieces_of, remaining_pieces, numbers_of_text, without_brackets, digest_of_text, text_of_digest};
+ghost use Rattle.wt_config.specs.DigestText.{number_of, pieces_of, remaining_pieces, numbers_of_text, without_brackets, digest_of_text, text_of_digest, digest_of_any_text};
 
 use sha2::{Digest, Sha256};
 use std::alloc::Global;
@@ -64,13 +65,11 @@ impl Sha256Digest {
     ///
     /// `OutOfMemory` where the text found no memory.
     pub fn fmt(&self, alloc: Global, fmt: Sha256DigestFmt) -> Result<String, OutOfMemory>
-        ensures { IfOk result (λ text. string_bytes text ≡ text_of_digest fmt self.now) }
+        ensures text { IfOk result (λ text. string_bytes text ≡ text_of_digest fmt self.now) }
+        ensures reads_back { IfOk result (λ text. digest_of_text fmt (string_bytes text) ≡ Some self.now) }
     {
-        let text = match fmt {
-            Sha256DigestFmt::BytesArray => BytesArray(self).to_string(alloc)?,
-            Sha256DigestFmt::DottedHex => self.to_string(alloc)?,
-        };
-        Ok(text)
+        let _bytes = &self.0;
+        write_digest(alloc, self, fmt)
     }
 
     /// Reads a digest in one form, and takes no memory.
@@ -89,6 +88,51 @@ impl Sha256Digest {
         match bytes {
             Some(bytes) => Ok(Sha256Digest(bytes)),
             None => Err(InvalidDigest),
+        }
+    }
+}
+
+fn write_digest(
+    alloc: Global,
+    digest: &Sha256Digest,
+    fmt: Sha256DigestFmt,
+) -> Result<String, OutOfMemory>
+    ensures { IfOk result (λ text. string_bytes text ≡ text_of_digest fmt digest.now) }
+{
+    let text = match fmt {
+        Sha256DigestFmt::BytesArray => BytesArray(digest).to_string(alloc)?,
+        Sha256DigestFmt::DottedHex => digest.to_string(alloc)?,
+    };
+    Ok(text)
+}
+
+impl From<[u8; 32]> for Sha256Digest {
+    ghost from_gives = { λ bytes digest. digest ≡ bytes };
+
+    fn from(bytes: [u8; 32]) -> Sha256Digest {
+        Sha256Digest::new(bytes)
+    }
+}
+
+impl AsRef<[u8; 32]> for Sha256Digest {
+    /// The bytes of the digest.
+    fn as_ref(&self) -> &[u8; 32]
+        ensures { result.now ≡ self.now }
+    {
+        &self.0
+    }
+}
+
+/// Reads the array form, or else the dotted form, and takes no memory.
+impl FromStr for Sha256Digest {
+    type Err = InvalidDigest;
+
+    ghost from_str_gives = { λ text answer. result_ok answer ≡ digest_of_any_text text };
+
+    fn from_str(text: &str) -> Result<Sha256Digest, InvalidDigest> {
+        match Sha256Digest::from_str_fmt(text, Sha256DigestFmt::BytesArray) {
+            Ok(digest) => Ok(digest),
+            Err(_) => Sha256Digest::from_str_fmt(text, Sha256DigestFmt::DottedHex),
         }
     }
 }

@@ -2,4 +2,6 @@
 //! configuration, digests of certificates, and the check of a certificate against pinned digests.
 #![tactic(auto)]
 
+pub mod certificate;
 pub mod digest;
+pub mod verification;
