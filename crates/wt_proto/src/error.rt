@@ -4,7 +4,7 @@ ghost use Rattle.wt_proto.specs.Codes.{code_of};
 ghost use Rattle.wt_proto.specs.declared.error.ErrorCode.{ErrorCode};
 
 use crate::varint::VarInt;
-use std::alloc::AllocError;
+use std::alloc::{AllocError, AllocFailed};
 use std::fmt;
 use thiserror::Error;
 
@@ -16,6 +16,12 @@ pub struct OutOfMemory;
 
 impl From<AllocError> for OutOfMemory {
     fn from(_error: AllocError) -> OutOfMemory {
+        OutOfMemory
+    }
+}
+
+impl<T: Drop> From<AllocFailed<T>> for OutOfMemory {
+    fn from(_error: AllocFailed<T>) -> OutOfMemory {
         OutOfMemory
     }
 }

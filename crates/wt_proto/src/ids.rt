@@ -31,6 +31,13 @@ impl StreamId {
         StreamId { id }
     }
 
+    /// The id as it is written.
+    pub(crate) fn into_varint(self) -> VarInt
+        ensures { result ≡ self }
+    {
+        self.id
+    }
+
     pub fn into_u64(self) -> u64
         ensures value { result ≡ self }
         ensures small { result < 2 ^ 62 }

@@ -1,0 +1,32 @@
+-- Walks over items that follow one another, as frames do on a stream.
+-- `decide` looks at all bytes from an item's front, in the state that the items before it left, and tells what the item does.
+use Rattle.std.specs.Prelude.{ℕ, zero, suc, ◌-◌, List, [], ◌∷◌, Option, Some, None, Bool, true, false}
+use Rattle.wt_proto.specs.declared.walk.Step.{Step}
+use Rattle.wt_proto.specs.declared.walk.Step.TheVariants.{Cut, Goes, Stops}
+
+-- where the bytes end: in which state, whether the walk stopped before, and whether between two items
+pub record Reached (S O : Type 0) : Type 0 where
+  pub state : S
+  pub stop : Option O
+  pub between : Bool
+
+-- a step leads on: in a state, with what the walk stops with, after so many bytes
+abbrev pub led : {S O R : Type 0} → R → (S → Option O → ℕ → R) → S → Step S O → R
+led cut go s Cut = cut
+led cut go s (Goes t n) = go t None n
+led cut go s (Stops o n) = go s (Some o) n
+
+-- the walk over bytes of which the first so many are the rest of an item; with a stop it ends behind that item
+abbrev pub walk : {S O : Type 0} → (S → List ℕ → Step S O) → S → Option O → ℕ → List ℕ → Reached S O
+walk decide s stop (suc rest) [] = record { state = s; stop = None; between = false }
+walk decide s stop (suc rest) (b ∷ bytes) = walk decide s stop rest bytes
+walk decide s stop zero [] = record { state = s; stop = stop; between = true }
+walk decide s (Some o) zero (b ∷ bytes) = record { state = s; stop = Some o; between = true }
+walk decide s None zero (b ∷ bytes) =
+    led (record { state = s; stop = None; between = false })
+    (λ t stop n. walk decide t stop (n - 1) bytes)
+    s (decide s (b ∷ bytes))
+
+-- the walk over all bytes
+abbrev pub walked : {S O : Type 0} → (S → List ℕ → Step S O) → S → List ℕ → Reached S O
+walked decide s bytes = walk decide s None 0 bytes

@@ -1,0 +1,64 @@
+ghost use Rattle.std.specs.Prelude.{◌≡◌, IfOk};
+
+use crate::addr::Addr;
+use crate::error::OutOfMemory;
+use crate::text::Text;
+use std::alloc::Global;
+
+/// What a resolver answers for the name of a host.
+#[derive(Debug, PartialEq, Eq, Drop)]
+pub enum Lookup {
+    /// The host has this address.
+    Found(Addr),
+    /// The host has no address.
+    NotFound,
+    /// The lookup failed, for this reason.
+    Fault(Text),
+}
+
+impl Lookup {
+    /// The same answer.
+    pub fn copy(&self, alloc: Global) -> Result<Lookup, OutOfMemory>
+        ensures { IfOk result (λ l. l ≡ self.now) }
+    {
+        match self {
+            Lookup::Found(address) => Ok(Lookup::Found(*address)),
+            Lookup::NotFound => Ok(Lookup::NotFound),
+            Lookup::Fault(reason) => Ok(Lookup::Fault(reason.copy(alloc)?)),
+        }
+    }
+}
+
+/// What QUIC answers when a connection to an address is asked for.
+#[derive(Debug, PartialEq, Eq, Drop)]
+pub enum ConnectOutcome {
+    /// The connection is being made.
+    Proceed,
+    /// The endpoint is stopping.
+    EndpointStopping,
+    /// There are no more connection ids.
+    CidsExhausted,
+    /// The name of the server isn't lawful.
+    InvalidServerName(Text),
+    /// The address isn't one that can be reached.
+    InvalidRemoteAddress(Addr),
+}
+
+impl ConnectOutcome {
+    /// The same answer.
+    pub fn copy(&self, alloc: Global) -> Result<ConnectOutcome, OutOfMemory>
+        ensures { IfOk result (λ o. o ≡ self.now) }
+    {
+        match self {
+            ConnectOutcome::Proceed => Ok(ConnectOutcome::Proceed),
+            ConnectOutcome::EndpointStopping => Ok(ConnectOutcome::EndpointStopping),
+            ConnectOutcome::CidsExhausted => Ok(ConnectOutcome::CidsExhausted),
+            ConnectOutcome::InvalidServerName(name) => {
+                Ok(ConnectOutcome::InvalidServerName(name.copy(alloc)?))
+            }
+            ConnectOutcome::InvalidRemoteAddress(address) => {
+                Ok(ConnectOutcome::InvalidRemoteAddress(*address))
+            }
+        }
+    }
+}

@@ -1,0 +1,16 @@
+ghost use Rattle.std.specs.Prelude.{if◌then◌else◌, ◌≡◌, Some, None};
+ghost use Rattle.std.specs.Option.{option_copied};
+ghost use Rattle.wt_proto.specs.Utf8.{is_text};
+
+use std::str;
+
+/// The bytes as a text, where they are UTF-8.
+#[tactic(auto, using(crate::proofs::TextLaws::is_text_yes, crate::proofs::TextLaws::is_text_no))]
+pub fn from_utf8(bytes: &[u8]) -> Option<&str>
+    ensures { option_copied result ≡ (if is_text bytes.now then Some bytes.now else None) }
+{
+    match str::from_utf8(bytes) {
+        Ok(text) => Some(text),
+        Err(_) => None,
+    }
+}
