@@ -1,2 +1,5 @@
+pub mod Bind
 pub mod DigestText
+pub mod Idle
 pub mod Pin
+pub mod Server
