@@ -1,4 +1,5 @@
 pub mod Bind
+pub mod Client
 pub mod DigestText
 pub mod Idle
 pub mod Pin

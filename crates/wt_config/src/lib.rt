@@ -19,6 +19,7 @@
 
 pub mod bind;
 pub mod certificate;
+pub mod client;
 pub mod digest;
 pub mod dns;
 pub mod idle;

@@ -1,5 +1,6 @@
 //! The states of a builder: what is chosen, and by their types what is to be chosen next.
 use crate::bind::BindAddressConfig;
+use crate::client::ClientConfig;
 use crate::server::ServerConfig;
 use std::marker::Model;
 
@@ -51,4 +52,10 @@ impl Model for WantsTransportConfigServer {
     ghost coded = { Prim.hlevel (codes, pins.the_row.coded) };
 
     ghost view = { λ state. state.config };
+}
+
+/// The transport and the resolver of a client may be chosen. Contracts see the configuration so far.
+#[derive(Drop)]
+pub struct WantsTransportConfigClient {
+    pub(crate) config: ClientConfig,
 }
