@@ -1,19 +1,18 @@
 -- What is written of a digest reads back.
-use Rattle.std.proofs.Common.{◌≡◌, ◌≢◌, ◌≤◌, ◌<◌, ◌+◌, ◌*◌, ◌/◌, ◌%◌, ◌^◌, ℕ, zero, suc, true, false, List, [], ◌∷◌, ◌++◌, length, get_or, Option, Some, None, Result, Ok, Err, refl, sym, ap, ◌∙◌, arith, append-nil, subst, lit<}
+use Rattle.std.proofs.Common.{◌≡◌, ◌≢◌, ◌≤◌, ◌<◌, ◌/◌, ◌%◌, ℕ, zero, suc, false, List, [], ◌∷◌, ◌++◌, length, get_or, Some, Result, Ok, Err, refl, sym, ap, ◌∙◌, arith, append-nil, lit<}
 use Rattle.std.proofs.lemmas.Bool.Decides.{nat_tests}
 use Rattle.std.proofs.lemmas.Fmt.{decimal_is_IsNumeral}
-use Rattle.std.proofs.lemmas.List.Elements.{All-append}
 use Rattle.std.proofs.lemmas.Str.{chars-IsAscii, encodes-IsAscii, digit_value-digit_char}
 use Rattle.std.proofs.lemmas.Str.Parse.{without_leading_plus_none}
 use Rattle.std.specs.Char.{digit_value, is_whitespace}
 use Rattle.std.specs.Fmt.{decimal}
 use Rattle.std.specs.List.{AllByRecursion}
-use Rattle.std.specs.Prelude.{IfOk, String, string_bytes, flat_map, nat_eq, if◌then◌else◌}
-use Rattle.std.specs.Str.{IsAscii, chars, skip_leading_whitespace, drop_trailing_whitespace, encode_utf8_all, trim, trim_start, trim_end}
+use Rattle.std.specs.Prelude.{IfOk, String, string_bytes, flat_map}
+use Rattle.std.specs.Str.{IsAscii, skip_leading_whitespace, drop_trailing_whitespace, encode_utf8_all, trim, trim_start, trim_end}
 use Rattle.std.specs.Str.Parse.{AllDigits, IsNumeral, digits_value, without_leading_plus}
 use Rattle.wt_config.specs.declared.digest.Sha256DigestFmt.{Sha256DigestFmt}
 use Rattle.wt_config.specs.declared.digest.Sha256DigestFmt.TheVariants.{BytesArray, DottedHex}
-use Rattle.wt_config.specs.DigestText.{IsBytes, byte_of_digits, number_of, with_first, numbers_of, thirty_two, pieces_of, numbers_of_text, without_front, without_back, before_kept, without_brackets, digest_of_text, lower_digit, two_digits, joined_by, text_of_digest}
+use Rattle.wt_config.specs.DigestText.{IsBytes, byte_of_digits, number_of, numbers_of, thirty_two, pieces_of, numbers_of_text, without_front, without_back, before_kept, without_brackets, digest_of_text, lower_digit, two_digits, joined_by, text_of_digest}
 use Rattle.wt_config.proofs.DigestReading.{one_piece, piece_front, skip_front, skip_back, equal, byte_some}
 
 -- ---- numerals
@@ -219,7 +218,7 @@ array_reads bytes l small =
     ap (numbers_of_text 10 44) (unbracketed (joined_by (44 ∷ 32 ∷ []) decimal bytes) opening closing) ∙ joined_reads array_form bytes small l
 
 -- the text of a digest, in either form, is read as that digest
-text_reads : (fmt : Sha256DigestFmt) (bytes : List ℕ) → length bytes ≡ 32 → IsBytes bytes → digest_of_text fmt (text_of_digest fmt bytes) ≡ Some bytes
+pub text_reads : (fmt : Sha256DigestFmt) (bytes : List ℕ) → length bytes ≡ 32 → IsBytes bytes → digest_of_text fmt (text_of_digest fmt bytes) ≡ Some bytes
 text_reads DottedHex bytes l h = joined_reads dotted_form bytes (small_bytes bytes h) l
 text_reads BytesArray bytes l h = array_reads bytes l (small_bytes bytes h)
 

@@ -37,10 +37,10 @@ either false c = refl
 pub pinned_too : (old new : List (List ℕ)) (digest : List ℕ) → ((q : List ℕ) → list_any (tied q) new ≡ cond (tied digest q) true (list_any (tied q) old)) → pins_of new ≡ set.insert (pins_of old) digest
 pinned_too old new digest h =
     set.same_set nat_list_cmp_total (slice_cmp-IsAntisymmetric nat_cmp-IsAntisymmetric) (pins_of new) (set.insert (pins_of old) digest) (λ q.
-        pins_contain new q ∙ h q ∙ either (tied digest q) (list_any (tied q) old)
-        ∙ ap (λ b. b || list_any (tied q) old) (tied_back digest q)
-        ∙ ap (λ b. tied q digest || b) (sym (pins_contain old q))
-        ∙ sym (set.contains-insert nat_list_cmp_total (pins_of old) digest q))
+    pins_contain new q ∙ h q ∙ either (tied digest q) (list_any (tied q) old)
+    ∙ ap (λ b. b || list_any (tied q) old) (tied_back digest q)
+    ∙ ap (λ b. tied q digest || b) (sym (pins_contain old q))
+    ∙ sym (set.contains-insert nat_list_cmp_total (pins_of old) digest q))
 
 pub one_more : (yielded : List (List ℕ)) (digest : List ℕ) → pins_of (yielded ++ digest ∷ []) ≡ set.insert (pins_of yielded) digest
 one_more yielded digest = set.from_list_push nat_list_cmp_total (slice_cmp-IsAntisymmetric nat_cmp-IsAntisymmetric) yielded digest

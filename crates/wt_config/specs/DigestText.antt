@@ -1,8 +1,8 @@
 -- The two text forms of a SHA-256 digest, as functions on the bytes of a text. They are the forms
 -- of `wtransport`'s `Sha256DigestFmt`.
-use Rattle.std.specs.Prelude.{ℕ, ◌==◌, ◌&&◌, nat_lt, nat_le, not, if◌then◌else◌, List, [], ◌∷◌, ◌++◌, length, Option, Some, None}
+use Rattle.std.specs.Prelude.{ℕ, ◌==◌, ◌&&◌, nat_lt, nat_le, if◌then◌else◌, List, [], ◌∷◌, ◌++◌, length, Option, Some, None}
 use Rattle.std.specs.List.{slice_split, list_all}
-use Rattle.std.specs.Prelude.{◌+◌, ◌/◌, ◌%◌, codes, flat_map, slice_index, ◌<◌}
+use Rattle.std.specs.Prelude.{◌≡◌, ◌+◌, ◌*◌, ◌/◌, ◌%◌, ◌<◌, ◌≤◌, ◌⊎◌, codes, flat_map, slice_index}
 use Rattle.std.specs.Fmt.{decimal}
 use Rattle.std.specs.Char.{digit_value}
 use Rattle.std.specs.Str.{trim}
@@ -117,3 +117,14 @@ first_read None other = other
 -- the digest that a text writes in either form: the array form is tried first
 abbrev pub digest_of_any_text : List ℕ → Option (List ℕ)
 digest_of_any_text text = first_read (digest_of_text BytesArray text) (digest_of_text DottedHex text)
+
+-- a lower-case hexadecimal digit, `0` to `9` or `a` to `f`
+abbrev pub IsLowerDigit : ℕ → Type 0
+IsLowerDigit c = ((48 ≤ c) × (c ≤ 57)) ⊎ ((97 ≤ c) × (c ≤ 102))
+
+-- 32 times two lower-case hexadecimal digits, joined by colons
+pub record IsDottedHex (text : List ℕ) : Type 0 where
+  pub whole : length text ≡ 95
+  pub high : (k : ℕ) → k < 32 → IsLowerDigit (slice_index text (3 * k))
+  pub low : (k : ℕ) → k < 32 → IsLowerDigit (slice_index text (3 * k + 1))
+  pub colon : (k : ℕ) → k < 31 → slice_index text (3 * k + 2) ≡ 58

@@ -42,7 +42,10 @@ pub enum Ipv6DualStackConfig {
 #[derive(Clone, Copy, Debug)]
 pub enum BindAddressConfig {
     /// An address of IPv4, its first byte the highest.
-    AddressV4 { ip: u32, port: u16 },
+    AddressV4 {
+        ip: u32,
+        port: u16,
+    },
     /// An address of IPv6, its first group the highest.
     AddressV6 {
         ip: u128,

@@ -23,7 +23,10 @@ pub mod client;
 pub mod digest;
 pub mod dns;
 pub mod idle;
+pub mod laws;
 pub mod server;
 pub mod states;
+#[cfg(test)]
+mod tests;
 pub mod tls;
 pub mod verification;

@@ -32,12 +32,12 @@ impl Model for ServerConfig {
     ghost coded = { Prim.hlevel (codes, pins.the_row.coded) };
 
     ghost view = { λ config. record {
-        bind = config.bind;
-        tls = config.tls;
-        transport = config.transport;
-        idle = config.idle;
-        keep_alive = config.keep_alive;
-        migration = config.migration;
+      bind = config.bind;
+      tls = config.tls;
+      transport = config.transport;
+      idle = config.idle;
+      keep_alive = config.keep_alive;
+      migration = config.migration;
     } };
 }
 
@@ -161,10 +161,7 @@ impl ServerConfigBuilder<WantsBindAddress> {
 
 impl ServerConfigBuilder<WantsIdentity> {
     /// Chooses the identity that the caller knows by this number.
-    pub fn with_identity(
-        self,
-        identity: Opaque,
-    ) -> ServerConfigBuilder<WantsTransportConfigServer>
+    pub fn with_identity(self, identity: Opaque) -> ServerConfigBuilder<WantsTransportConfigServer>
         ensures { result ≡ server_settings self (TlsChoice.Identity identity) None }
     {
         self.with(TlsChoice::Identity(identity), None)
@@ -260,10 +257,7 @@ impl ServerConfigBuilder<WantsTransportConfigServer> {
     }
 
     /// Chooses whether a client may go on from another address.
-    pub fn allow_migration(
-        mut self,
-        value: bool,
-    ) -> ServerConfigBuilder<WantsTransportConfigServer>
+    pub fn allow_migration(mut self, value: bool) -> ServerConfigBuilder<WantsTransportConfigServer>
         ensures { result ≡ record self { migration = value } }
     {
         self.state.config.migration = value;

@@ -1,4 +1,4 @@
-use Rattle.std.proofs.Common.{◌≡◌, ◌≤◌, ◌<◌, ◌∷◌, [], ◌++◌, Some, None, ℕ, ◌+◌, length, List, take, refl, sym, ap, ◌∙◌, arith}
+use Rattle.std.proofs.Common.{◌≡◌, ◌<◌, [], length, take, refl, sym, ap, ◌∙◌, arith}
 use Rattle.std.proofs.lemmas.List.{length-set, length-take-le, take_all, take_more_set}
 use Rattle.std.specs.Option.{option_copied}
 use Rattle.wt_config.specs.DigestText.{pieces_of, remaining_pieces}
@@ -29,13 +29,14 @@ returns-in_err-number c =
 pub loop-number-preserved : goal.loop-number-preserved
 loop-number-preserved c =
     let read = take c.loop-number.number-index c.loop-number.number-items in
-    let following = remaining_pieces c.args.separator (option_copied c.next_piece.result.1) in
-    (length-set c.loop-number.number-items c.loop-number.number-index c.in_ok-number.field-0 ∙ c.loop-number.invariant.0,
-    ap (λ numbers. with_read c.args.radix numbers following) (take_more_set c.loop-number.number-items c.loop-number.number-index c.in_ok-number.field-0 (omega arith))
-    ∙ sym (read_more c.args.radix read c.next_piece.result.0.now following c.in_ok-number.field-0 (sym c.in_ok-number.ensures))
-    ∙ ap (λ pieces. with_read c.args.radix read pieces) (sym c.next_piece.ensures)
-    ∙ ap (λ rest. with_read c.args.radix read (remaining_pieces c.args.separator (option_copied rest))) (sym c.in_ok-rest.was)
-    ∙ c.loop-number.invariant.1)
+    let following = remaining_pieces c.args.separator (option_copied c.next_piece.result.1) in (
+      length-set c.loop-number.number-items c.loop-number.number-index c.in_ok-number.field-0 ∙ c.loop-number.invariant.0,
+      ap (λ numbers. with_read c.args.radix numbers following) (take_more_set c.loop-number.number-items c.loop-number.number-index c.in_ok-number.field-0 (omega arith))
+          ∙ sym (read_more c.args.radix read c.next_piece.result.0.now following c.in_ok-number.field-0 (sym c.in_ok-number.ensures))
+          ∙ ap (λ pieces. with_read c.args.radix read pieces) (sym c.next_piece.ensures)
+          ∙ ap (λ rest. with_read c.args.radix read (remaining_pieces c.args.separator (option_copied rest))) (sym c.in_ok-rest.was)
+          ∙ c.loop-number.invariant.1,
+    )
 
 pub returns-in-None : goal.returns-in-None
 returns-in-None c =

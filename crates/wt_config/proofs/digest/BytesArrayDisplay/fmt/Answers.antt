@@ -1,8 +1,7 @@
-use Rattle.std.proofs.Common.{◌∙◌, ap, refl, ◌∷◌, [], ◌++◌, sym, append_assoc}
+use Rattle.std.proofs.Common.{◌∙◌, ap, refl, ◌∷◌, [], ◌++◌}
 use Rattle.std.proofs.Output.{has_written_append, has_written_of_eq}
 use Rattle.std.specs.Fmt.{decimal}
-use Rattle.std.specs.Prelude.{flat_map}
-use Rattle.wt_config.specs.DigestText.{bytes_array, joined_by}
+use Rattle.wt_config.specs.DigestText.{joined_by}
 use Rattle.wt_config.proofs.DigestWriting.{shown_all}
 use Rattle.wt_config.proofs.digest.BytesArrayDisplay.fmt.Goals as goal
 
