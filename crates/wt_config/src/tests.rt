@@ -333,8 +333,7 @@ fn a_client_keeps_pins(rt: HostRuntime) -> Result<(), Fail> {
 struct OneHost(Addr);
 
 impl DnsResolver for OneHost {
-    ghost use Rattle.std.specs.Prelude.{ℕ, List, codes, if◌then◌else◌};
-    ghost use Rattle.std.specs.Cmp.Lexicographic.{bytes_eq};
+    ghost use Rattle.std.specs.Prelude.{ℕ, List, bytes_eq, codes, if◌then◌else◌};
     ghost use Rattle.wt_proto.specs.declared.lookup.Lookup.TheVariants.{Found, NotFound};
 
     ghost lookup_of = { λ known host. if bytes_eq host (codes "h:443") then Found known.0 else NotFound };
