@@ -35,15 +35,19 @@ const DOTTED: &str =
 const ABC: &str =
     "ba:78:16:bf:8f:01:cf:ea:41:41:40:de:5d:ae:22:23:b0:03:61:a3:96:17:7a:9c:b4:10:ff:61:f2:00:15:ad";
 
-fn reads(text: &str, fmt: Sha256DigestFmt, bytes: [u8; 32]) -> bool {
-    match Sha256Digest::from_str_fmt(text, fmt) {
-        Ok(digest) => digest == Sha256Digest::new(bytes),
-        Err(_) => false,
+/// Whether the text, with one of its parts replaced, is read as the digest of `LETTERS`.
+fn reads(
+    alloc: Global,
+    text: &str,
+    part: &str,
+    replaced_by: &str,
+    fmt: Sha256DigestFmt,
+) -> Result<bool, Fail> {
+    let changed = text.replace(alloc, part, replaced_by)?;
+    match Sha256Digest::from_str_fmt(changed.as_str(), fmt) {
+        Ok(digest) => Ok(digest == Sha256Digest::new(LETTERS)),
+        Err(_) => Ok(false),
     }
-}
-
-fn refuses(text: &str, fmt: Sha256DigestFmt) -> bool {
-    Sha256Digest::from_str_fmt(text, fmt).is_err()
 }
 
 #[test]
@@ -65,50 +69,101 @@ fn digests_are_written(rt: HostRuntime) -> Result<(), Fail> {
 }
 
 #[test]
-fn digests_are_read(rt: HostRuntime) -> Result<(), Fail> {
-    let alloc = rt.alloc();
-    assert!(rt; reads(ARRAY, Sha256DigestFmt::BytesArray, LETTERS));
-    assert!(rt; reads(DOTTED, Sha256DigestFmt::DottedHex, LETTERS));
-    let doubled = format!(in alloc; "[{ARRAY}]")?;
-    assert!(rt; reads(doubled.as_str(), Sha256DigestFmt::BytesArray, LETTERS));
-    let signed = ARRAY.replace(alloc, "97", "+097")?;
-    assert!(rt; reads(signed.as_str(), Sha256DigestFmt::BytesArray, LETTERS));
-    let spaced = DOTTED.replace(alloc, "70:", "70: ")?;
-    assert!(rt; reads(spaced.as_str(), Sha256DigestFmt::DottedHex, LETTERS));
-    let wide = DOTTED.replace(alloc, "70:", "70\u{3000}:\u{85}")?;
-    assert!(rt; reads(wide.as_str(), Sha256DigestFmt::DottedHex, LETTERS));
-    let upper = DOTTED.replace(alloc, "6f", "6F")?;
-    assert!(rt; reads(upper.as_str(), Sha256DigestFmt::DottedHex, LETTERS));
+fn arrays_are_read(rt: HostRuntime) -> Result<(), Fail> {
+    for (part, replaced_by) in [
+        ("97", "97"),
+        ("[", "[["),
+        ("]", "]]"),
+        ("97", "+097"),
+        (",", " ,"),
+    ] {
+        assert!(rt;
+            reads(
+                rt.alloc(),
+                ARRAY,
+                part,
+                replaced_by,
+                Sha256DigestFmt::BytesArray
+            )?
+        );
+    }
     Ok(())
 }
 
 #[test]
-fn digests_are_refused(rt: HostRuntime) -> Result<(), Fail> {
-    let alloc = rt.alloc();
-    for text in ["invalid", "", "[", "[]"] {
-        assert!(rt; refuses(text, Sha256DigestFmt::BytesArray));
-        assert!(rt; refuses(text, Sha256DigestFmt::DottedHex));
+fn arrays_are_refused(rt: HostRuntime) -> Result<(), Fail> {
+    for (part, replaced_by) in [
+        (", 64", ""),
+        (", 64", ", 64, 65"),
+        ("[", " ["),
+        ("]", "] "),
+        ("127", "256"),
+        ("127", "7f"),
+        ("127", "-0"),
+        ("127", ""),
+        (ARRAY, "invalid"),
+        (ARRAY, ""),
+        (ARRAY, DOTTED),
+    ] {
+        assert!(rt;
+            !reads(
+                rt.alloc(),
+                ARRAY,
+                part,
+                replaced_by,
+                Sha256DigestFmt::BytesArray
+            )?
+        );
     }
-    assert!(rt; refuses(DOTTED, Sha256DigestFmt::BytesArray));
-    assert!(rt; refuses(ARRAY, Sha256DigestFmt::DottedHex));
-    let short = ARRAY.replace(alloc, ", 64", "")?;
-    assert!(rt; refuses(short.as_str(), Sha256DigestFmt::BytesArray));
-    let long = ARRAY.replace(alloc, ", 64", ", 64, 65")?;
-    assert!(rt; refuses(long.as_str(), Sha256DigestFmt::BytesArray));
-    let before = format!(in alloc; " {ARRAY}")?;
-    assert!(rt; refuses(before.as_str(), Sha256DigestFmt::BytesArray));
-    let behind = format!(in alloc; "{ARRAY} ")?;
-    assert!(rt; refuses(behind.as_str(), Sha256DigestFmt::BytesArray));
-    let large = ARRAY.replace(alloc, "127", "256")?;
-    assert!(rt; refuses(large.as_str(), Sha256DigestFmt::BytesArray));
-    let dotted_short = DOTTED.replace(alloc, ":40", "")?;
-    assert!(rt; refuses(dotted_short.as_str(), Sha256DigestFmt::DottedHex));
-    let dotted_long = DOTTED.replace(alloc, ":40", ":40:41")?;
-    assert!(rt; refuses(dotted_long.as_str(), Sha256DigestFmt::DottedHex));
-    let two_signs = DOTTED.replace(alloc, ":40", ":++4")?;
-    assert!(rt; refuses(two_signs.as_str(), Sha256DigestFmt::DottedHex));
-    let minus = DOTTED.replace(alloc, ":40", ":-0")?;
-    assert!(rt; refuses(minus.as_str(), Sha256DigestFmt::DottedHex));
+    Ok(())
+}
+
+#[test]
+fn dotted_texts_are_read(rt: HostRuntime) -> Result<(), Fail> {
+    for (part, replaced_by) in [
+        ("70:", "70:"),
+        ("70:", "70: "),
+        ("70:", "70\u{3000}:\u{85}"),
+        ("6f", "+6F"),
+        ("61", "0061"),
+    ] {
+        assert!(rt;
+            reads(
+                rt.alloc(),
+                DOTTED,
+                part,
+                replaced_by,
+                Sha256DigestFmt::DottedHex
+            )?
+        );
+    }
+    Ok(())
+}
+
+#[test]
+fn dotted_texts_are_refused(rt: HostRuntime) -> Result<(), Fail> {
+    for (part, replaced_by) in [
+        (":40", ""),
+        (":40", ":40:41"),
+        (":40", ":40:"),
+        ("61", "161"),
+        ("61", "++61"),
+        ("61", "6 1"),
+        ("61", "6g"),
+        (DOTTED, "invalid"),
+        (DOTTED, ""),
+        (DOTTED, ARRAY),
+    ] {
+        assert!(rt;
+            !reads(
+                rt.alloc(),
+                DOTTED,
+                part,
+                replaced_by,
+                Sha256DigestFmt::DottedHex
+            )?
+        );
+    }
     Ok(())
 }
 

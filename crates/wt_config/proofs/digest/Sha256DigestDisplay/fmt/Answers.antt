@@ -1,12 +1,10 @@
-use Rattle.std.proofs.Common.{◌∙◌, ap, refl, ◌∷◌, []}
-use Rattle.std.proofs.Output.{has_written_append, has_written_of_eq}
-use Rattle.wt_config.specs.DigestText.{two_digits, dotted_hex}
-use Rattle.wt_config.proofs.DigestWriting.{shown_all}
+use Rattle.std.proofs.Common.{refl, ◌∷◌, []}
+use Rattle.wt_config.specs.DigestText.{two_digits}
+use Rattle.wt_config.proofs.DigestWriting.{writes_all}
 use Rattle.wt_config.proofs.digest.Sha256DigestDisplay.fmt.Goals as goal
 
 pub returns-clause-writes : goal.returns-clause-writes
 returns-clause-writes g c = λ plain ok.
     let first = c.in_ok-write.ensures.writes plain refl in
-    has_written_of_eq _ _ _ _ _
-    (shown_all (58 ∷ []) two_digits c.self.inside.0 c.loop-byte.byte-index c.self.invariant.0 c.loop-byte-test.false ∙ ap dotted_hex c.self.view_is)
-    (has_written_append _ _ _ _ _ _ first (c.loop-byte.invariant first.plain))
+    writes_all g.W.Write.write_str_gives c.args.f.now c.write.new.self c.loop-byte.f [] (58 ∷ []) two_digits c.self.inside.0 c.args.self.now c.loop-byte.byte-index
+    first (c.loop-byte.invariant first.plain) c.self.invariant.0 c.loop-byte-test.false c.self.view_is
