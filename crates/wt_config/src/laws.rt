@@ -2,6 +2,7 @@
 ghost use Rattle.std.specs.Prelude.{◌≡◌, ◌↔◌, ℕ, List, IsTrue, length, fold, Some};
 ghost use Rattle.std.specs.Cmp.Lexicographic.{slice_cmp};
 ghost use Rattle.std.specs.Ordering.{nat_cmp};
+ghost use Rattle.wt_config.specs.Bind.{bind_of};
 ghost use Rattle.wt_config.specs.DigestText.{IsBytes, IsDottedHex, digest_of_text, dotted_hex, text_of_digest};
 ghost use Rattle.wt_config.specs.declared.digest.Sha256DigestFmt.{Sha256DigestFmt};
 
@@ -53,7 +54,8 @@ pub fn server_default_bind_is_dual(
     ServerConfigBuilder<WantsIdentity>,
     ServerConfigBuilder<WantsIdentity>,
 )
-    ensures { result.0 ≡ result.1 }
+    ensures same { result.0 ≡ result.1 }
+    ensures dual { result.1 ≡ bind_of IpBindConfig.InAddrAnyDual port }
 {
     let default = ServerConfig::builder().with_bind_default(port);
     let dual = ServerConfig::builder().with_bind_config(IpBindConfig::InAddrAnyDual, port);
@@ -65,7 +67,8 @@ pub fn client_default_bind_is_dual() -> (
     ClientConfigBuilder<WantsRootStore>,
     ClientConfigBuilder<WantsRootStore>,
 )
-    ensures { result.0 ≡ result.1 }
+    ensures same { result.0 ≡ result.1 }
+    ensures dual { result.1 ≡ bind_of IpBindConfig.InAddrAnyDual 0 }
 {
     let default = ClientConfig::builder().with_bind_default();
     let dual = ClientConfig::builder().with_bind_config(IpBindConfig::InAddrAnyDual);

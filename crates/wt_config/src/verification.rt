@@ -1,7 +1,8 @@
 //! The check of a server's certificate against pinned digests.
-ghost use Rattle.std.specs.Prelude.{◌≡◌, ◌-ℤ◌, Some, None, IfOk, IfErr, OnOk};
+ghost use Rattle.std.specs.Prelude.{◌≡◌, ◌-ℤ◌, Some, None, IsTrue, IfOk, IfErr, OnOk};
 ghost use Rattle.std.specs.FinSet as set;
 ghost use Rattle.std.specs.Option.{option_copied};
+ghost use Rattle.sha2.specs.Sha256.{sha256};
 ghost use Rattle.wt_config.specs.Pin.{refusal_of, is_pinned, is_pinnable, has_short_validity, is_ec, is_p256};
 
 use crate::certificate::{CertFacts, Curve, KeyKind};
@@ -108,6 +109,7 @@ impl ServerHashVerification {
             (refusal_of self.now der.now (option_copied facts.entry) now ≡ None) }
         ensures refused { IfErr result
             (λ refusal. refusal_of self.now der.now (option_copied facts.entry) now ≡ Some refusal) }
+        ensures pinned { OnOk result (IsTrue (set.contains self.now (sha256 der.now))) }
     {
         if now > LAST_MOMENT {
             return Err(PinRefusal::MomentOutOfRange);
