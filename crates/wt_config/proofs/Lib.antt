@@ -1,0 +1,5 @@
+pub mod DigestLaws
+pub mod DigestReading
+pub mod DigestWriting
+pub mod DottedLaws
+pub mod PinLemmas
