@@ -11,3 +11,5 @@ pub mod Session
 pub mod Calls
 pub mod Next
 pub mod Outside
+pub mod Trace
+pub mod Program

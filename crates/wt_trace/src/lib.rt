@@ -10,8 +10,10 @@ pub mod answer;
 pub mod outside;
 pub mod piece;
 pub mod print;
+pub mod program;
 pub mod script;
 pub mod send;
+pub mod trace;
 pub mod turn;
 
 pub use action::{Action, Actions};
