@@ -1,6 +1,7 @@
 -- What the program answers to its words and its input: a status and a text.
-use Rattle.std.specs.Prelude.{◌≡◌, ℕ, Bool, true, false, ◌==◌, ◌||◌, nat_lt, List, [], ◌∷◌, ◌++◌, length, codes, Result, Ok, Err, if◌then◌else◌}
+use Rattle.std.specs.Prelude.{◌≡◌, ℕ, Bool, true, false, ◌==◌, ◌||◌, nat_lt, List, [], ◌∷◌, ◌++◌, length, codes, Option, Result, Ok, Err, if◌then◌else◌}
 use Rattle.std.specs.Fmt.{decimal}
+use Rattle.std.specs.Io.KnownBytes.{Appends, Consumes}
 use Rattle.wt_trace.specs.declared.answer.Answer.{Answer}
 use Rattle.wt_trace.specs.declared.program.CutShort.{CutShort}
 use Rattle.wt_trace.specs.declared.program.CutShort.TheVariants.{SourceFailed, SinkFailed, OutOfMemory}
@@ -57,6 +58,14 @@ input_outcome input = if nat_lt script_limit (length input) then too_long else s
 -- the outcome for these words and this input, where nothing outside fails and memory suffices
 abbrev pub outcome : List (List ℕ) → List ℕ → Outcome
 outcome words input = if is_trace words then input_outcome input else usage
+
+-- bytes were read from a source, and the status and the text are those of them; where the source tells its bytes and
+-- was read to its end, they are all of them
+pub record AnswersInput (left_before left_now took_before took_now : Option (List ℕ)) (status : ℕ) : Type 0 where
+  pub input : List ℕ
+  pub consumed : Consumes left_before left_now input
+  pub answered : status ≡ (input_outcome input).status
+  pub written : Appends took_before took_now (input_outcome input).text
 
 -- reading failed, writing failed, or memory was wanting
 abbrev pub is_cut_short : ℕ → Bool

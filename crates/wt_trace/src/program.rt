@@ -5,7 +5,7 @@ ghost use Rattle.std.specs.Io.KnownBytes.{Consumes, Appends, Keeps, IsAtEnd};
 ghost use Rattle.wt_trace.specs.Next.{run};
 ghost use Rattle.wt_trace.specs.Outside.{Rose, AppendsPart};
 ghost use Rattle.wt_trace.specs.Print.{answer_line, print};
-ghost use Rattle.wt_trace.specs.Program.{is_trace, is_cut_short, tells_script, tells_input, script_limit, usage, refused_at, run_outcome, input_outcome, outcome, cut_status, Cuts, CutsReading, CutsWriting};
+ghost use Rattle.wt_trace.specs.Program.{is_trace, is_cut_short, tells_script, tells_input, script_limit, usage, refused_at, run_outcome, input_outcome, outcome, AnswersInput, cut_status, Cuts, CutsReading, CutsWriting};
 ghost use Rattle.wt_trace.specs.Script.{script_of};
 
 use crate::answer::Answer;
@@ -18,6 +18,9 @@ use wt_proto::error::OutOfMemory;
 
 /// The greatest script, in bytes.
 const SCRIPT_LIMIT: usize = 16_777_216;
+
+/// The status where memory was wanting.
+pub const OUT_OF_MEMORY: u8 = 6;
 
 /// Why no whole answer was given.
 #[derive(Clone, Copy, PartialEq, Eq, Debug)]
@@ -34,7 +37,7 @@ impl CutShort {
         match self {
             CutShort::SourceFailed => 4,
             CutShort::SinkFailed => 5,
-            CutShort::OutOfMemory => 6,
+            CutShort::OutOfMemory => OUT_OF_MEMORY,
         }
     }
 }
@@ -72,6 +75,7 @@ pub fn run_program<S: Source, K: Sink>(
 ) -> u8
     ensures status { is_cut_short result ≡ false → IfSome (S.left source.old) (λ input. result ≡ (outcome (map string_bytes words.now) input).status) }
     ensures text { is_cut_short result ≡ false → IfSome (S.left source.old) (λ input. Appends (K.took sink.old) (K.took sink.new) (outcome (map string_bytes words.now) input).text) }
+    ensures input { is_cut_short result ≡ false → is_trace (map string_bytes words.now) ≡ true → AnswersInput (S.left source.old) (S.left source.new) (K.took sink.old) (K.took sink.new) result }
     ensures part { IfSome (S.left source.old) (λ input. AppendsPart (K.took sink.old) (K.took sink.new) (outcome (map string_bytes words.now) input).text) }
     ensures end { IsTrue (tells_script result) → IsAtEnd (S.left source.new) }
     ensures usage { is_trace (map string_bytes words.now) ≡ false → (result ≡ 1) ⊎ (result ≡ 5) }
@@ -97,6 +101,7 @@ fn answer<S: Source, K: Sink>(
 ) -> Result<u8, CutShort>
     ensures status { IfOk result (λ status. IfSome (S.left source.old) (λ input. status ≡ (outcome (map string_bytes words.now) input).status)) }
     ensures text { OnOk result (IfSome (S.left source.old) (λ input. Appends (K.took sink.old) (K.took sink.new) (outcome (map string_bytes words.now) input).text)) }
+    ensures input { is_trace (map string_bytes words.now) ≡ true → IfOk result (AnswersInput (S.left source.old) (S.left source.new) (K.took sink.old) (K.took sink.new)) }
     ensures part { IfSome (S.left source.old) (λ input. AppendsPart (K.took sink.old) (K.took sink.new) (outcome (map string_bytes words.now) input).text) }
     ensures end { IfOk result (λ status. IsTrue (tells_script status) → IsAtEnd (S.left source.new)) }
     ensures usage { is_trace (map string_bytes words.now) ≡ false → MatchResult result (λ status. status ≡ 1) (λ cut. cut ≡ CutShort.SinkFailed) }
