@@ -57,27 +57,27 @@ part_none old text = record { part = []; rest = text; whole = refl; appends = ap
 
 pub part_longer : (old new : Option (List ℕ)) (first second : List ℕ) → AppendsPart old new first → AppendsPart old new (first ++ second)
 part_longer old new first second p = record {
-    part = p.part;
-    rest = p.rest ++ second;
-    whole = sym (append_assoc p.part p.rest second) ∙ ap (λ l. l ++ second) p.whole;
-    appends = p.appends;
+  part = p.part;
+  rest = p.rest ++ second;
+  whole = sym (append_assoc p.part p.rest second) ∙ ap (λ l. l ++ second) p.whole;
+  appends = p.appends;
 }
 
 pub part_then : (old mid new : Option (List ℕ)) (first second : List ℕ) → Appends old mid first → AppendsPart mid new second → AppendsPart old new (first ++ second)
 part_then old mid new first second a p = record {
-    part = first ++ p.part;
-    rest = p.rest;
-    whole = append_assoc first p.part p.rest ∙ ap (λ l. first ++ l) p.whole;
-    appends = appends_then old mid new first p.part a p.appends;
+  part = first ++ p.part;
+  rest = p.rest;
+  whole = append_assoc first p.part p.rest ∙ ap (λ l. first ++ l) p.whole;
+  appends = appends_then old mid new first p.part a p.appends;
 }
 
 -- where a write failed, the text up to there was taken
 pub part_up_to : (old mid new : Option (List ℕ)) (text : List ℕ) (at : ℕ) → Appends old mid (take at text) → Keeps mid new → AppendsPart old new text
 part_up_to old mid new text at a k = record {
-    part = take at text;
-    rest = drop at text;
-    whole = take-append-drop at text;
-    appends = appends_kept old mid new (take at text) a k;
+  part = take at text;
+  rest = drop at text;
+  whole = take-append-drop at text;
+  appends = appends_kept old mid new (take at text) a k;
 }
 
 pub rest_of : (text : List ℕ) (at : ℕ) → take (length text - at) (drop at text) ≡ drop at text
@@ -92,8 +92,8 @@ pub part_of_list : {X : Type 0} (old mid new : Option (List ℕ)) (text : X → 
     → Appends old mid (flat_map text (take i xs)) → AppendsPart mid new (text x) → AppendsPart old new (flat_map text xs)
 part_of_list old mid new text xs i x within e a p =
     let split : flat_map text (take i xs) ++ text x ++ flat_map text (drop (suc i) xs) ≡ flat_map text xs =
-        append_assoc (flat_map text (take i xs)) (text x) (flat_map text (drop (suc i) xs))
-        ∙ ap (λ l. flat_map text (take i xs) ++ l) (ap (λ y. text y ++ flat_map text (drop (suc i) xs)) e ∙ ap (flat_map text) (sym (drop-cons xs i x within)))
-        ∙ sym (flat_map-append text (take i xs) (drop i xs))
-        ∙ ap (flat_map text) (take-append-drop i xs) in
+    append_assoc (flat_map text (take i xs)) (text x) (flat_map text (drop (suc i) xs))
+    ∙ ap (λ l. flat_map text (take i xs) ++ l) (ap (λ y. text y ++ flat_map text (drop (suc i) xs)) e ∙ ap (flat_map text) (sym (drop-cons xs i x within)))
+    ∙ sym (flat_map-append text (take i xs) (drop i xs))
+    ∙ ap (flat_map text) (take-append-drop i xs) in
     subst (AppendsPart old new) split (part_longer old new (flat_map text (take i xs) ++ text x) (flat_map text (drop (suc i) xs)) (part_then old mid new (flat_map text (take i xs)) (text x) a p))

@@ -13,6 +13,8 @@ pub mod print;
 pub mod program;
 pub mod script;
 pub mod send;
+#[cfg(test)]
+mod tests;
 pub mod trace;
 pub mod turn;
 

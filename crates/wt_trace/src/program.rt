@@ -184,7 +184,12 @@ fn write_refusal<K: Sink>(alloc: Global, line: u64, sink: &mut K) -> Result<(), 
 }
 
 /// A number between two texts.
-fn number_line(alloc: Global, before: &str, number: u64, behind: &str) -> Result<String, OutOfMemory>
+fn number_line(
+    alloc: Global,
+    before: &str,
+    number: u64,
+    behind: &str,
+) -> Result<String, OutOfMemory>
     ensures { IfOk result (λ text. string_bytes text ≡ before.now ++ decimal number ++ behind.now) }
 {
     let mut text = String::new(alloc);
@@ -238,11 +243,7 @@ fn write_stopped<K: Sink>(
 }
 
 /// Writes a line for each answer.
-fn write_answers<K: Sink>(
-    alloc: Global,
-    answers: &[Answer],
-    sink: &mut K,
-) -> Result<(), CutShort>
+fn write_answers<K: Sink>(alloc: Global, answers: &[Answer], sink: &mut K) -> Result<(), CutShort>
     ensures text { OnOk result (Appends (K.took sink.old) (K.took sink.new) (print answers.now)) }
     ensures part { AppendsPart (K.took sink.old) (K.took sink.new) (print answers.now) }
     ensures same { OnOk result (K.faults sink.new ≡ K.faults sink.old) }

@@ -9,9 +9,9 @@ loop-at-preserved g c =
     let taken = rw (rest_of text at) at c.in-Ok.ensures.bytes in
     let bound = rw (rest_of text at) at c.in-Ok.ensures.bound in
     record {
-        written = appends_more _ _ _ text at c.in-Ok.count c.loop-at.invariant.written taken;
-        within = omega (arith, bound, length-drop at text);
-        same = c.in-Ok.ensures.same ∙ c.loop-at.invariant.same;
+      written = appends_more _ _ _ text at c.in-Ok.count c.loop-at.invariant.written taken;
+      within = omega (arith, bound, length-drop at text);
+      same = c.in-Ok.ensures.same ∙ c.loop-at.invariant.same;
     }
 
 pub returns-in-Err-clause-part : goal.returns-in-Err-clause-part
