@@ -1,5 +1,5 @@
 -- The tests of equality of lists of fields are those of their values.
-use Rattle.std.proofs.Common.{◌≡◌, ℕ, true, List, subst, refl}
+use Rattle.std.proofs.Common.{◌≡◌, ℕ, Bool, true, List, subst, refl, sym, ◌∙◌}
 use Rattle.std.specs.Cmp.{first_so, second_so}
 use Rattle.std.specs.Cmp.Lexicographic.{pointwise, pointwise_decides, bytes_decides}
 use Rattle.std.specs.Prelude.{nat_eq, ◌&&◌}
@@ -16,3 +16,6 @@ field_decides f g = (
 
 pub fields_decide : (fs gs : List (List ℕ × List ℕ)) → (fields_eq fs gs ≡ true → fs ≡ gs) × (fs ≡ gs → fields_eq fs gs ≡ true)
 fields_decide = pointwise_decides field_decides
+
+pub fields_same : (r : Bool) (fs gs : List (List ℕ × List ℕ)) → r ≡ fields_eq fs gs → (r ≡ true → fs ≡ gs) × (fs ≡ gs → r ≡ true)
+fields_same r fs gs e = (λ t. (fields_decide fs gs).0 (sym e ∙ t), λ s. e ∙ (fields_decide fs gs).1 s)

@@ -8,7 +8,6 @@ pub mod FrameAgain
 pub mod OrderLaws
 pub mod EqualityLaws
 pub mod TextLaws
-pub mod Rows
 pub mod SevenBits
 pub mod WrittenIntegers
 pub mod WrittenSections
@@ -20,4 +19,9 @@ pub mod OptionLaws
 pub mod SectionAgain
 pub mod PairLaws
 pub mod SettingsAgain
+pub mod ControlLaws
+pub mod SessionLaws
 pub mod DatagramLaws
+pub mod BiLaws
+pub mod ResponseWalkLaws
+pub mod FirstLaws

@@ -7,7 +7,7 @@ use Rattle.std.specs.Str.{bytes_eq}
 use Rattle.wt_proto.specs.declared.session.HeadersParseError.TheVariants.{MethodNotConnect, Other}
 use Rattle.wt_proto.specs.HeaderList.{Fields, with_field, value_of}
 use Rattle.wt_proto.specs.Requests.{is_value, is_for_session, is_reserved, request_with, request_of, request_fields}
-use Rattle.wt_proto.proofs.ValueLaws.{value_of-other}
+use Rattle.wt_proto.proofs.ValueLaws.{value_of_other}
 
 pub five_are_request : (fields : Fields) (authority path : List ℕ) → fields ≡ request_fields authority path → request_of fields ≡ Ok fields
 unfolding request_of
@@ -68,7 +68,7 @@ not_reserved name h = by (bytes_eq name (codes ":method")) (bytes_eq name (codes
 
 -- a value at another name
 kept : (wanted name value : List ℕ) (fields : Fields) → bytes_eq name wanted ≡ false → value_of wanted (with_field name value fields) ≡ value_of wanted fields
-kept wanted name value fields h = value_of-other wanted name value fields (nat_list_eq_equiv.symm wanted name ∙ h)
+kept wanted name value fields h = value_of_other wanted name value fields (nat_list_eq_equiv.symm wanted name ∙ h)
 
 same_judgement : (name value : List ℕ) (fields : Fields) → NotReserved name → is_for_session (with_field name value fields) ≡ is_for_session fields
 same_judgement name value fields n = λ i.

@@ -5,7 +5,7 @@ use Rattle.std.specs.Cmp.Lexicographic.{nat_list_eq_equiv}
 use Rattle.std.specs.Str.{bytes_eq}
 use Rattle.wt_proto.specs.HeaderList.{Fields, with_field, value_of}
 use Rattle.wt_proto.specs.Responses.{status_code, code_in, status_of, response_with, response_of, status_fields}
-use Rattle.wt_proto.proofs.ValueLaws.{value_of-other}
+use Rattle.wt_proto.proofs.ValueLaws.{value_of_other}
 
 response_with_code : (fields : Fields) (o : Option ℕ) → is_some o ≡ true → response_with fields o ≡ Ok fields
 response_with_code fields None h = absurd cc
@@ -26,5 +26,5 @@ has_status fields h = code_of_response fields (status_of fields) h
 pub response_kept : (name value : List ℕ) (fields : Fields) → response_of fields ≡ Ok fields → bytes_eq name (codes ":status") ≡ false → response_of (with_field name value fields) ≡ Ok (with_field name value fields)
 unfolding response_of
 response_kept name value fields h other =
-    let same : value_of (codes ":status") (with_field name value fields) ≡ value_of (codes ":status") fields = value_of-other (codes ":status") name value fields (nat_list_eq_equiv.symm (codes ":status") name ∙ other) in
+    let same : value_of (codes ":status") (with_field name value fields) ≡ value_of (codes ":status") fields = value_of_other (codes ":status") name value fields (nat_list_eq_equiv.symm (codes ":status") name ∙ other) in
     response_with_code (with_field name value fields) (status_of (with_field name value fields)) (ap (λ v. is_some (code_in v)) same ∙ code_of_response fields (status_of fields) h)

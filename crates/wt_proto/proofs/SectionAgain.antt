@@ -169,5 +169,8 @@ lines_again done (f ∷ todo) h short =
     ∙ lines_again (done ++ f ∷ []) todo (subst IsHeaderList (sym regrouped) h) short.2
     ∙ ap (λ fs. Some fs) regrouped
 
+pub fields_again : (fields : Fields) → IsHeaderList fields → AreShort fields → headers_of (section_bytes fields) ≡ Ok fields
+fields_again fields h short = ap (λ o. ok_or o Decompression) (lines_again [] fields h short)
+
 pub headers_again : (bytes : List ℕ) (fields : Fields) → bytes ≡ section_bytes fields → IsHeaderList fields → AreShort fields → headers_of bytes ≡ Ok fields
-headers_again bytes fields e h short = ap headers_of e ∙ ap (λ o. ok_or o Decompression) (lines_again [] fields h short)
+headers_again bytes fields e h short = ap headers_of e ∙ fields_again fields h short

@@ -61,7 +61,7 @@ one_more t id (Some v) more n same h =
     ∙ ap (λ r. go_on r (λ s. pairs_from s 0 (drop (length pair) (pair ++ more)))) (with_new_pair t id v n)
     ∙ ap (λ bs. pairs_from (with_setting id (Some v) t) 0 bs) (drop_at pair more (length pair) refl)
 
-all_again : (s : Settings) → AreSmall s → settings_of (settings_bytes s) ≡ Ok s
+pub all_again : (s : Settings) → AreSmall s → settings_of (settings_bytes s) ≡ Ok s
 unfolding pairs_from
 all_again s h =
     one_more no_settings QPackMaxTableCapacity s.qpack_max_table_capacity _ refl refl h.qpack_max_table_capacity

@@ -2,10 +2,10 @@
 use Rattle.std.proofs.Common.{ltb, ◌⊎◌, ◌≡◌, ◌≤◌, ◌<◌, ◌+◌, ◌-◌, ◌*◌, ◌/◌, ℕ, zero, suc, Bool, true, false, List, [], ◌∷◌, ◌++◌, length, refl, sym, ap, ◌∙◌, subst, arith, inl, inr}
 use Rattle.std.proofs.lemmas.Bool.{lt-ltb, le-ltb, ltb-true, ltb-false, eqb-true, eqb-false}
 use Rattle.std.proofs.lemmas.Bool.Decides.{nat_tests}
-use Rattle.std.proofs.lemmas.Str.{IsUtf8-nil, IsUtf8-append, IsUtf8-encode}
-use Rattle.std.specs.Cmp.{first_so, second_so}
+use Rattle.std.proofs.lemmas.Str.{is_utf8-from_IsUtf8, IsUtf8-from_is_utf8, IsUtf8-nil, IsUtf8-append, IsUtf8-encode}
+use Rattle.std.specs.Cmp.{both_ways, first_so, second_so}
 use Rattle.std.specs.Prelude.{nat_lt, not, ◌&&◌, ◌==◌}
-use Rattle.std.specs.Str.{IsUtf8}
+use Rattle.std.specs.Str.{IsUtf8, is_utf8}
 use lib.Utf8.{encode, encodes, scalar, scalars, next, scalar_cases, low_scalar}
 use Rattle.wt_proto.specs.Utf8.{Lead, Stray, Begins, least_second, most_second, lead, begun, is_text_from, is_text}
 
@@ -272,3 +272,6 @@ is_text_no bytes h = by (is_text bytes) (λ e. h (utf8_of bytes e))
     by : (t : Bool) → ¬ (t ≡ true) → t ≡ false
     by true n = absurd (n refl)
     by false n = refl
+
+pub is_text_same : (bytes : List ℕ) → is_text bytes ≡ is_utf8 bytes
+is_text_same bytes = both_ways (is_text bytes) (is_utf8 bytes) (λ e. is_utf8-from_IsUtf8 bytes (utf8_of bytes e)) (λ e. is_text_yes bytes (IsUtf8-from_is_utf8 bytes e))

@@ -1,5 +1,7 @@
 -- How a walk goes on, and that a walk that stopped stays.
-use Rattle.std.proofs.Common.{◌≡◌, ℕ, zero, suc, ◌-◌, ◌<◌, ◌≤◌, true, false, List, [], ◌∷◌, ◌++◌, length, drop, Option, Some, None, refl, ap, ◌∙◌, arith}
+use Rattle.std.proofs.Common.{◌≡◌, ℕ, zero, suc, ◌+◌, ◌-◌, ◌<◌, ◌≤◌, true, false, List, [], ◌∷◌, ◌++◌, length, take, drop, Option, Some, None, Result, Ok, Err, IfOk, refl, sym, ap, ◌∙◌, arith}
+use Rattle.std.proofs.lemmas.List.{length-drop, drop-drop, take_rest}
+use Rattle.std.proofs.Math.ListN.{drop_of_length-le}
 use Rattle.wt_proto.specs.declared.walk.Step.{Step}
 use Rattle.wt_proto.specs.declared.walk.Step.TheVariants.{Cut, Goes, Stops}
 use Rattle.wt_proto.specs.Walk.{led, walk, walked}
@@ -83,3 +85,48 @@ pub walked_stops_far : {S O : Type 0} (decide : S → List ℕ → Step S O) (s 
     walked decide s xs ≡ record { state = s; stop = None; between = false }
 walked_stops_far decide s o n [] e some lt = absurd (omega arith)
 walked_stops_far decide s o n (x ∷ xs) e some lt = rw e (inside decide s (Some o) (n - 1) xs (omega arith))
+
+-- a loop over the bytes stands at a place, in a state
+module _ {S O : Type 0} (decide : S → List ℕ → Step S O) (steady : IsSteady decide) (start s : S) (bytes : List ℕ) (at : ℕ)
+    (so_far : walked decide s (drop at bytes) ≡ walked decide start bytes) where
+  left : length (drop at bytes) ≡ length bytes - at
+  left = length-drop at bytes
+
+  pub at_end : length bytes ≤ at → walked decide start bytes ≡ record { state = s; stop = None; between = true }
+  at_end le = sym so_far ∙ ap (λ (xs : List ℕ). walked decide s xs) (drop_of_length-le bytes le)
+
+  pub at_cut : decide s (take (length bytes - at) (drop at bytes)) ≡ Cut → at < length bytes →
+      walked decide start bytes ≡ record { state = s; stop = None; between = false }
+  at_cut e lt = sym so_far ∙ walked_cut decide s (drop at bytes) (rw take_rest at e) (omega (arith, left))
+
+  some_of : (d : Step S O) (n : ℕ) → decide s (drop at bytes) ≡ d → taken d ≡ Some n → 1 ≤ n
+  some_of d n e f = steady.some s (drop at bytes) n (ap (λ (st : Step S O). taken st) e ∙ f)
+
+  pub at_goes : (t : S) (n : ℕ) → decide s (take (length bytes - at) (drop at bytes)) ≡ Goes t n → n ≤ length bytes - at →
+      walked decide t (drop (at + n) bytes) ≡ walked decide start bytes
+  at_goes t n e le =
+      let is : decide s (drop at bytes) ≡ Goes t n = rw take_rest at e in
+      sym (walked_goes decide s t n (drop at bytes) is (some_of (Goes t n) n is refl) (omega (arith, left))
+      ∙ ap (λ (xs : List ℕ). walked decide t xs) (drop-drop n at bytes)) ∙ so_far
+
+  pub at_goes_far : (t : S) (n : ℕ) → decide s (take (length bytes - at) (drop at bytes)) ≡ Goes t n → at < length bytes → length bytes - at < n →
+      walked decide start bytes ≡ record { state = t; stop = None; between = false }
+  at_goes_far t n e lt far = sym so_far ∙ walked_goes_far decide s t n (drop at bytes) (rw take_rest at e) (omega (arith, left)) (omega (arith, left))
+
+  pub at_stops : (o : O) (n : ℕ) → decide s (take (length bytes - at) (drop at bytes)) ≡ Stops o n → n ≤ length bytes - at →
+      walked decide start bytes ≡ record { state = s; stop = Some o; between = true }
+  at_stops o n e le =
+      let is : decide s (drop at bytes) ≡ Stops o n = rw take_rest at e in
+      sym so_far ∙ walked_stops decide s o n (drop at bytes) is (some_of (Stops o n) n is refl) (omega (arith, left))
+
+  pub at_stops_far : (o : O) (n : ℕ) → decide s (take (length bytes - at) (drop at bytes)) ≡ Stops o n → at < length bytes → length bytes - at < n →
+      walked decide start bytes ≡ record { state = s; stop = None; between = false }
+  at_stops_far o n e lt far = sym so_far ∙ walked_stops_far decide s o n (drop at bytes) (rw take_rest at e) (omega (arith, left)) (omega (arith, left))
+
+  pub some_at : (t : S) (n : ℕ) → decide s (take (length bytes - at) (drop at bytes)) ≡ Goes t n → 1 ≤ n
+  some_at t n e = let is : decide s (drop at bytes) ≡ Goes t n = rw take_rest at e in some_of (Goes t n) n is refl
+
+-- an answer around a want of memory, at an equal value
+pub if_ok_same : {A E : Type 0} (r : Result A E) (x y : A) → IfOk r (λ a. a ≡ x) → x ≡ y → IfOk r (λ a. a ≡ y)
+if_ok_same (Ok a) x y e f = e ∙ f
+if_ok_same (Err a) x y e f = e

@@ -1,6 +1,6 @@
 -- Capsules (RFC 9297 section 3.2), and the one that closes a session (draft-ietf-webtrans-http3 section 5).
 use Rattle.std.specs.Prelude.{ℕ, ◌-◌, ◌==◌, nat_lt, List, length, take, drop, Option, Some, None, Result, Ok, Err, if◌then◌else◌}
-use Rattle.wt_proto.specs.declared.capsule.CloseWebTransportSession.{CloseWebTransportSession}
+use Rattle.wt_proto.specs.SessionClose.{SessionClose}
 use Rattle.wt_proto.specs.declared.error.ErrorCode.{ErrorCode}
 use Rattle.wt_proto.specs.declared.error.ErrorCode.TheVariants.{Message}
 use Rattle.wt_proto.specs.Varint.{varint_at, big_endian}
@@ -21,7 +21,7 @@ unfoldable pub close_value_at : List ℕ → Option (List ℕ)
 close_value_at bytes = capsule_with_type bytes (varint_at bytes)
 
 -- what the value says: a code of four bytes and a reason of at most 1024 bytes of UTF-8
-abbrev pub close_of : List ℕ → Result CloseWebTransportSession ErrorCode
+abbrev pub close_of : List ℕ → Result SessionClose ErrorCode
 close_of value =
     if nat_lt (length value) 4 then Err Message else
     (if nat_lt 1024 (length value - 4) then Err Message else

@@ -1,7 +1,7 @@
 -- Frames (RFC 9114, section 7): a type, a length and a payload; the first two are variable-length integers.
 use Rattle.std.specs.Prelude.{ℕ, ◌+◌, ◌%◌, List, length, take, drop, Option, Some, None, Bool, nat_lt, ◌==◌, ◌||◌, ◌&&◌, if◌then◌else◌}
 use Rattle.wt_proto.specs.declared.walk.Step.{Step}
-use Rattle.wt_proto.specs.declared.walk.Step.TheVariants.{Cut}
+use Rattle.wt_proto.specs.declared.walk.Step.TheVariants.{Cut, Goes, Stops}
 use Rattle.wt_proto.specs.Varint.{varint_at}
 
 -- DATA, HEADERS and SETTINGS are given once their last byte has come; the signal of a WebTransport stream has no length, and an id of a session behind it
@@ -59,3 +59,8 @@ unread bytes = Some (0, 0)
 abbrev pub decided : {S O : Type 0} → (ℕ → Frame → Step S O) → Option (Frame × ℕ) → Step S O
 decided effect None = Cut
 decided effect (Some f) = effect f.1 f.0
+
+-- a walk up to the first frame that isn't skipped, which is judged with the offset behind it; the state is the offset of the frame
+abbrev pub first_judged : {O : Type 0} → (Frame → ℕ → O) → ℕ → ℕ → Frame → Step ℕ O
+first_judged judge at size (Skipped kind) = Goes (at + size) size
+first_judged judge at size frame = Stops (judge frame (at + size)) size

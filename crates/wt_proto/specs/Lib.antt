@@ -16,7 +16,12 @@ pub mod FieldSection
 pub mod Requests
 pub mod Responses
 pub mod Settings
+pub mod SessionClose
 pub mod Capsule
 pub mod Datagram
 pub mod Addresses
+pub mod ControlWalk
+pub mod SessionWalk
 pub mod FixedBytes
+pub mod Bi
+pub mod ResponseWalk

@@ -1,19 +1,32 @@
-ghost use Rattle.std.specs.Prelude.{◌≡◌, IfOk};
+ghost use Rattle.std.specs.Prelude.{◌≡◌, ◌<◌, ◌≤◌, ◌^◌, length, IfOk, IfErr};
 ghost use Rattle.std.specs.Option.{option_copied};
 ghost use Rattle.wt_proto.specs.Capsule.{capsule_with_size, close_of, close_value_at};
 ghost use Rattle.wt_proto.specs.Varint.{varint_at};
+ghost use Rattle.wt_proto.specs.declared.error.ErrorCode.TheVariants as errors;
 
 use crate::error::{ErrorCode, OutOfMemory};
 use crate::text::Text;
 use crate::utf8::from_utf8;
 use crate::varint::{VarInt, read_varint};
 use std::alloc::Global;
+use std::marker::Model;
 
 /// What a capsule CLOSE_WEBTRANSPORT_SESSION says (draft-ietf-webtrans-http3, section 5).
-#[derive(Debug, PartialEq, Eq, Drop)]
+/// Contracts see a record of the code and the reason.
+#[derive(Debug, Drop)]
 pub struct CloseWebTransportSession {
     error_code: VarInt,
     reason: Text,
+}
+
+impl Model for CloseWebTransportSession {
+    ghost use Rattle.wt_proto.specs.SessionClose.{IsSessionClose, SessionClose};
+
+    ghost Value = { SessionClose };
+
+    ghost view = { λ c. record { error_code = c.error_code; reason = c.reason } };
+
+    ghost invariant = { λ c. IsSessionClose (record { error_code = c.error_code; reason = c.reason }) };
 }
 
 /// The value of the capsule at the front of a DATA frame's payload, where the capsule is whole and
@@ -44,7 +57,8 @@ impl CloseWebTransportSession {
         alloc: Global,
         value: &[u8],
     ) -> Result<Result<CloseWebTransportSession, ErrorCode>, OutOfMemory>
-        ensures { IfOk result (λ r. r ≡ close_of value.now) }
+        ensures close { IfOk result (λ r. r ≡ close_of value.now) }
+        ensures error { IfOk result (λ r. IfErr r (λ e. e ≡ errors.Message)) }
     {
         if value.len() < 4 || value.len() - 4 > 1024 {
             return Ok(Err(ErrorCode::Message));
@@ -66,15 +80,26 @@ impl CloseWebTransportSession {
 
     /// The code, which an application chose.
     pub fn error_code(&self) -> VarInt
-        ensures { result ≡ self.now.error_code }
+        ensures value { result ≡ self.now.error_code }
+        ensures small { result < 2 ^ 32 }
     {
         self.error_code
     }
 
     /// The reason, which an application chose.
     pub fn reason(&self) -> &str
-        ensures { result.now ≡ self.now.reason }
+        ensures value { result.now ≡ self.now.reason }
+        ensures short { length result.now ≤ 1024 }
     {
         self.reason.as_str()
+    }
+}
+
+impl CloseWebTransportSession {
+    /// The code and the reason.
+    pub(crate) fn into_parts(self) -> (VarInt, Text)
+        ensures { result ≡ (self.error_code, self.reason) }
+    {
+        (self.error_code, self.reason)
     }
 }

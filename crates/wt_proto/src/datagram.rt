@@ -1,6 +1,7 @@
-ghost use Rattle.std.specs.Prelude.{◌≡◌, ◌++◌, length, OnOk, Ok};
+ghost use Rattle.std.specs.Prelude.{◌≡◌, ◌++◌, length, IfErr, OnOk, Ok};
 ghost use Rattle.wt_proto.specs.Datagram.{behind_quarter, datagram_bytes, datagram_of};
 ghost use Rattle.wt_proto.specs.Varint.{varint_at, varint_bytes};
+ghost use Rattle.wt_proto.specs.declared.error.ErrorCode.TheVariants as errors;
 
 use crate::error::{ErrorCode, OutOfMemory};
 use crate::ids::QStreamId;
@@ -39,7 +40,8 @@ impl<'a> H3Datagram<'a> {
     /// Reads a datagram. The error is `Datagram`, where the quarter id is cut or above 2^60 - 1.
     #[tactic(auto, unfolding(crate::specs::Datagram::datagram_of))]
     pub fn read(bytes: &'a [u8]) -> Result<H3Datagram<'a>, ErrorCode>
-        ensures { result ≡ datagram_of bytes.now }
+        ensures datagram { result ≡ datagram_of bytes.now }
+        ensures error { IfErr result (λ e. e ≡ errors.Datagram) }
     {
         let Some((quarter, at)) = read_varint(bytes) else {
             return Err(ErrorCode::Datagram);

@@ -1,5 +1,6 @@
-ghost use Rattle.std.specs.Prelude.{◌≡◌, ◌<◌, ◌≤◌, ◌∷◌, [], IfOk, OnOk, OnErr, IsTrue, ◌↔◌, length, take, drop, ◌++◌, slice_get, slice_set, insert, slice_index_or, Some, List, ℕ, MatchResult, IfErr};
+ghost use Rattle.std.specs.Prelude.{◌≡◌, ◌<◌, ◌≤◌, ◌∷◌, [], IfOk, OnOk, OnErr, IsTrue, ◌↔◌, length, take, drop, ◌++◌, slice_get, slice_set, insert, slice_index_or, Some, List, ℕ, MatchResult, IfErr, false};
 ghost use Rattle.std.specs.Option.{option_copied};
+ghost use Rattle.std.specs.Str.{bytes_eq};
 ghost use Rattle.wt_proto.specs.HeaderList.{IsHeaderList, compare_names, is_pseudo, value_of, with_field};
 
 use crate::error::OutOfMemory;
@@ -141,13 +142,23 @@ impl HeaderList {
     }
 
     /// Puts a field, in place of the one with an equal name. Where memory is short, nothing changes.
-    #[tactic(auto, using(crate::proofs::OrderLaws::with_field_keeps))]
+    #[tactic(auto, using(crate::proofs::OrderLaws::with_field_keeps, crate::proofs::ValueLaws::value_of_set, crate::proofs::ValueLaws::value_of_other))]
     pub fn set(&mut self, name: &str, value: &str) -> Result<(), OutOfMemory>
         ensures ok { OnOk result (self.new ≡ with_field name.now value.now self.old) }
+        ensures there { OnOk result (value_of name.now self.new ≡ Some value.now) }
+        ensures others { (other : List ℕ) → bytes_eq other name.now ≡ false → OnOk result (value_of other self.new ≡ value_of other self.old) }
         ensures err { OnErr result (self.new ≡ self.old) }
     {
         put(&mut self.fields, name, value)?;
         Ok(())
+    }
+
+    /// Whether the other list has the same fields, as `==` answers it.
+    #[tactic(auto, using(crate::proofs::EqualityLaws::fields_same))]
+    pub fn has_same_fields(&self, other: &HeaderList) -> bool
+        ensures { IsTrue result ↔ (self.now ≡ other.now) }
+    {
+        self == other
     }
 
     /// A list with the same fields.

@@ -1,7 +1,8 @@
-ghost use Rattle.std.specs.Prelude.{◌≡◌, [], IfOk, OnOk, OnErr, Ok, Err, None};
+ghost use Rattle.std.specs.Prelude.{◌≡◌, [], IfErr, IfOk, OnOk, OnErr, Ok, Err, None};
 ghost use Rattle.std.specs.Option.{option_copied};
 ghost use Rattle.wt_proto.specs.FieldSection.{AreShort, headers_of, section_bytes};
 ghost use Rattle.wt_proto.specs.HeaderList.{IsHeaderList, value_of, with_field};
+ghost use Rattle.wt_proto.specs.declared.error.ErrorCode.TheVariants as errors;
 ghost use Rattle.wt_proto.specs.declared.frame.FrameKind.TheVariants as kinds;
 
 use crate::error::{ErrorCode, OutOfMemory};
@@ -41,9 +42,20 @@ impl Headers {
         alloc: Global,
         frame: &Frame,
     ) -> Result<Result<Headers, ErrorCode>, OutOfMemory>
-        ensures { IfOk result (λ r. r ≡ headers_of frame.now.payload) }
+        ensures headers { IfOk result (λ r. r ≡ headers_of frame.now.payload) }
+        ensures error { IfOk result (λ r. IfErr r (λ e. e ≡ errors.Decompression)) }
     {
-        match read_section(alloc, frame.payload())? {
+        Headers::with_payload(alloc, frame.payload())
+    }
+
+    pub(crate) fn with_payload(
+        alloc: Global,
+        payload: &[u8],
+    ) -> Result<Result<Headers, ErrorCode>, OutOfMemory>
+        ensures headers { IfOk result (λ r. r ≡ headers_of payload.now) }
+        ensures error { IfOk result (λ r. IfErr r (λ e. e ≡ errors.Decompression)) }
+    {
+        match read_section(alloc, payload)? {
             Some(list) => Ok(Ok(Headers { list })),
             None => Ok(Err(ErrorCode::Decompression)),
         }

@@ -3,7 +3,10 @@
 
 pub mod addr;
 pub mod alpn;
+pub mod bi;
+pub mod byte_strings;
 pub mod capsule;
+pub mod control_walk;
 pub mod datagram;
 pub mod error;
 mod exercise;
@@ -15,14 +18,20 @@ pub mod headers;
 pub mod ids;
 pub mod laws;
 pub mod lookup;
+pub mod outgoing;
 pub mod prefixed_integer;
+pub mod read_back;
+pub mod response_walk;
 pub mod session;
+pub mod session_walk;
 pub mod settings;
 pub mod side;
 pub mod status;
 pub mod stream_header;
 pub mod text;
-mod utf8;
+pub mod utf8;
 pub mod varint;
 pub mod verdict;
 pub mod walk;
+#[cfg(test)]
+mod walk_tests;

@@ -1,11 +1,14 @@
-ghost use Rattle.std.specs.Prelude.{IfOk, OnOk, OnErr, is_err, if◌then◌else◌, ◌≡◌, nat_eq, codes, is_some, Some, Ok};
+ghost use Rattle.std.specs.Prelude.{IfOk, OnOk, OnErr, is_err, if◌then◌else◌, ◌≡◌, nat_eq, codes, is_some, Some, None, Ok};
 ghost use Rattle.std.specs.Option.{option_copied};
 ghost use Rattle.std.specs.Str.{bytes_eq};
 ghost use Rattle.wt_proto.specs.Requests.{is_for_session, is_reserved, is_value, request_fields, request_of, request_with};
 ghost use Rattle.wt_proto.specs.Responses.{response_of, status_fields, status_of, with_added};
+ghost use Rattle.wt_proto.specs.FieldSection.{AreShort, headers_of, section_bytes};
 ghost use Rattle.wt_proto.specs.HeaderList.{value_of, with_field};
+ghost use Rattle.wt_proto.specs.declared.frame.FrameKind.TheVariants as kinds;
 
 use crate::error::OutOfMemory;
+use crate::frame::Frame;
 use crate::header_list::HeaderList;
 use crate::headers::Headers;
 use crate::status::StatusCode;
@@ -182,6 +185,14 @@ impl SessionRequest {
     {
         self.headers.list()
     }
+
+    /// A HEADERS frame of its fields.
+    pub fn generate_frame(&self, alloc: Global) -> Result<Frame, OutOfMemory>
+        ensures frame { IfOk result (λ f. f ≡ record { kind = kinds.Headers; payload = section_bytes self.now; session = None }) }
+        ensures again { AreShort self.now → IfOk result (λ f. headers_of f.payload ≡ Ok self.now) }
+    {
+        self.headers.generate_frame(alloc)
+    }
 }
 
 /// A response to a request for a session: fields with a status code.
@@ -287,5 +298,13 @@ impl SessionResponse {
         ensures response { response_of self.now ≡ Ok self.now }
     {
         self.headers.list()
+    }
+
+    /// A HEADERS frame of its fields.
+    pub fn generate_frame(&self, alloc: Global) -> Result<Frame, OutOfMemory>
+        ensures frame { IfOk result (λ f. f ≡ record { kind = kinds.Headers; payload = section_bytes self.now; session = None }) }
+        ensures again { AreShort self.now → IfOk result (λ f. headers_of f.payload ≡ Ok self.now) }
+    {
+        self.headers.generate_frame(alloc)
     }
 }

@@ -1,7 +1,8 @@
-ghost use Rattle.std.specs.Prelude.{◌≡◌, ◌≤◌, ◌++◌, length, IfSome, IfOk, OnOk, Some, None, Ok};
+ghost use Rattle.std.specs.Prelude.{◌≡◌, ◌≤◌, ◌++◌, length, IfErr, IfSome, IfOk, OnOk, Some, None, Ok, ◌⊎◌};
 ghost use Rattle.std.specs.Option.{option_map};
 ghost use Rattle.wt_proto.specs.Settings.{AreSmall, IsSmall, Pair, known_setting, no_settings, pair_at, pairs_from, setting, setting_bytes, settings_bytes, settings_of, with_pair, with_setting};
 ghost use Rattle.wt_proto.specs.FixedBytes.{own_settings};
+ghost use Rattle.wt_proto.specs.declared.error.ErrorCode.TheVariants as errors;
 ghost use Rattle.wt_proto.specs.declared.frame.FrameKind.TheVariants as kinds;
 ghost use Rattle.wt_proto.specs.declared.settings.SettingId.TheVariants as ids;
 
@@ -163,7 +164,8 @@ impl Settings {
 
     #[tactic(auto, unfolding(crate::specs::Settings::with_pair))]
     fn with_pair(mut self, id: VarInt, value: VarInt) -> Result<Settings, ErrorCode>
-        ensures { result ≡ with_pair self id value }
+        ensures settings { result ≡ with_pair self id value }
+        ensures error { IfErr result (λ e. e ≡ errors.Settings) }
     {
         let id = id.into_inner();
         if id == 0 || (1 < id && id < 6) {
@@ -180,8 +182,9 @@ impl Settings {
     }
 
     #[tactic(auto, using(crate::proofs::PairLaws::pairs_end, crate::proofs::PairLaws::pairs_cut))]
-    fn read(payload: &[u8]) -> Result<Settings, ErrorCode>
-        ensures { result ≡ settings_of payload.now }
+    pub(crate) fn read(payload: &[u8]) -> Result<Settings, ErrorCode>
+        ensures settings { result ≡ settings_of payload.now }
+        ensures error { IfErr result (λ e. (e ≡ errors.Frame) ⊎ (e ≡ errors.Settings)) }
     {
         let mut settings = Settings::none();
         let mut at = 0;
@@ -202,7 +205,8 @@ impl Settings {
     /// pair at fault: `Frame` where it is cut, and `Settings` where its id is reserved (0 and from
     /// 2 to 5), or known and given before. Unknown ids are skipped.
     pub fn with_frame(frame: &Frame) -> Result<Settings, ErrorCode>
-        ensures { result ≡ settings_of frame.now.payload }
+        ensures settings { result ≡ settings_of frame.now.payload }
+        ensures error { IfErr result (λ e. (e ≡ errors.Frame) ⊎ (e ≡ errors.Settings)) }
     {
         Settings::read(frame.payload())
     }

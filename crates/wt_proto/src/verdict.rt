@@ -4,6 +4,7 @@ ghost use Rattle.wt_proto.specs.Uni.{uni_verdict_of, session_verdict, cut};
 
 use crate::error::ErrorCode;
 use crate::ids::{SessionId, StreamId};
+use crate::session::SessionRequest;
 use crate::side::StreamEnd;
 use crate::varint::{VarInt, read_varint};
 
@@ -18,6 +19,8 @@ pub enum Verdict {
     Control(usize),
     Encoder(usize),
     Decoder(usize),
+    /// A request for a session.
+    Request(SessionRequest, usize),
     /// The request is refused with this code, and the connection goes on.
     Refused(ErrorCode),
     /// The stream is of no use.

@@ -2,3 +2,13 @@ pub mod PrintLaws
 pub mod NumberLaws
 pub mod ScriptLaws
 pub mod OutsideLaws
+pub mod Readable
+pub mod WalkFacts
+pub mod Moments
+pub mod Facts
+pub mod Ranges
+pub mod AfterTurns
+pub mod Replay
+pub mod CallTurns
+pub mod ReplayCalls
+pub mod Standing

@@ -5,7 +5,8 @@ use Rattle.wt_proto.specs.declared.side.Side.{Side}
 use Rattle.wt_proto.specs.declared.side.StreamEnd.{StreamEnd}
 use Rattle.wt_trace.specs.declared.answer.Reply.{Reply}
 use Rattle.wt_trace.specs.declared.answer.Reply.TheVariants as replies
-use Rattle.wt_trace.specs.Verdicts.{Verdict, Incomplete, WebTransport, Control, Request}
+use Rattle.wt_proto.specs.declared.verdict.Verdict.{Verdict}
+use Rattle.wt_proto.specs.declared.verdict.Verdict.TheVariants as verdicts
 use Rattle.wt_trace.specs.History.{Deed, HandedOut, Given, Begun, Stands, ReadOut, Asked, Past, came, deeds}
 use Rattle.wt_trace.specs.Seam.{contents, peer_uni, own_uni}
 use Rattle.wt_trace.specs.Driver.{Ripe, walk, ripe_of, hands_out}
@@ -18,10 +19,8 @@ in_session side h call (Some s) = call s
 -- ---- accepting streams
 
 abbrev pub names : ℕ → Verdict → Bool
-names s (WebTransport session at) = session == s
-names s Incomplete = false
-names s (Control at) = false
-names s (Request headers at) = false
+names s (verdicts.WebTransport session at) = session == s
+names s _ = false
 
 -- a ripe stream of this kind and session that wasn't handed out
 abbrev pub is_left : Past → ℕ → ℕ → Ripe → Bool
@@ -40,25 +39,19 @@ accept_uni side h s = hands side replies.Uni h (first_left h (peer_uni side) s (
 
 -- ---- reading
 
-abbrev pub read_by : ℕ → Deed → ℕ
-read_by k (ReadOut id count) = if id == k then count else 0
-read_by k (HandedOut id) = 0
-read_by k (Given id) = 0
-read_by k (Begun head) = 0
-read_by k (Stands s) = 0
-read_by k Asked = 0
-
 -- how many bytes of a stream were read
 abbrev pub total_read : ℕ → List Deed → ℕ
 total_read k [] = 0
-total_read k (d ∷ before) = total_read k before + read_by k d
+total_read k (ReadOut id count ∷ before) = if id == k then total_read k before + count else total_read k before
+total_read k (HandedOut id ∷ before) = total_read k before
+total_read k (Given id ∷ before) = total_read k before
+total_read k (Begun head ∷ before) = total_read k before
+total_read k (Stands s ∷ before) = total_read k before
+total_read k (Asked ∷ before) = total_read k before
 
 abbrev pub offset_of : Option Verdict → ℕ
-offset_of (Some (WebTransport session at)) = at
-offset_of (Some Incomplete) = 0
-offset_of (Some (Control at)) = 0
-offset_of (Some (Request headers at)) = 0
-offset_of None = 0
+offset_of (Some (verdicts.WebTransport session at)) = at
+offset_of _ = 0
 
 -- what follows the header of a stream
 abbrev pub body : Side → Past → ℕ → List ℕ

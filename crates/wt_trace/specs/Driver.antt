@@ -5,9 +5,14 @@ use Rattle.std.specs.List.{list_any}
 use Rattle.wt_proto.specs.declared.side.Side.{Side}
 use Rattle.wt_trace.specs.declared.action.Action.{Action}
 use Rattle.wt_trace.specs.declared.action.Action.TheVariants as actions
-use Rattle.wt_trace.specs.Verdicts.{Verdict, Incomplete, WebTransport, Control, Request, Fields, uni_verdict, bi_verdict, control_settings, own_settings}
+use Rattle.wt_proto.specs.declared.verdict.Verdict.{Verdict}
+use Rattle.wt_proto.specs.declared.verdict.Verdict.TheVariants as verdicts
+use Rattle.wt_proto.specs.Bi.{bi_verdict_of}
+use Rattle.wt_proto.specs.ControlWalk.{control_walk_of}
+use Rattle.wt_proto.specs.FixedBytes.{own_control_bytes}
+use Rattle.wt_proto.specs.Uni.{uni_verdict_of}
 use Rattle.wt_trace.specs.History.{Deed, HandedOut, Given, Begun, Stands, ReadOut, Asked, Fact, Byte, Came, Out, Did, Past, came, outs, deeds, put, is_open}
-use Rattle.wt_trace.specs.Seam.{contents, is_connected, unis_allowed, credit, end_of, peer_unis, peer_bis, sent, opened, own_uni, peer_uni, peer_bi}
+use Rattle.wt_trace.specs.Seam.{contents, is_connected, is_some, unis_allowed, credit, end_of, peer_unis, peer_bis, sent, opened, own_uni, peer_uni, peer_bi}
 
 -- ---- what a moment leaves
 
@@ -40,7 +45,7 @@ own_control side = own_uni side
 
 abbrev pub is_ready : Side → Past → Bool
 is_ready side h =
-    is_connected (came h) && nat_lt 0 (unis_allowed (came h)) && not (nat_lt (credit (came h) (own_control side)) (length own_settings))
+    is_connected (came h) && nat_lt 0 (unis_allowed (came h)) && not (nat_lt (credit (came h) (own_control side)) (length own_control_bytes))
 
 -- ---- taken and ripe
 
@@ -54,10 +59,9 @@ hands_out k Asked = false
 
 -- a stream of a session is settled where it was handed out, another one as it is ripe
 abbrev pub is_settled : Past → ℕ → Verdict → Bool
-is_settled h k Incomplete = false
-is_settled h k (WebTransport session at) = list_any (hands_out k) (deeds h)
-is_settled h k (Control at) = true
-is_settled h k (Request headers at) = true
+is_settled h k verdicts.Incomplete = false
+is_settled h k (verdicts.WebTransport session at) = list_any (hands_out k) (deeds h)
+is_settled h k _ = true
 
 -- a kind of the peer's streams: so many of it may be unsettled and taken at once
 pub record Kind : Type 0 where
@@ -79,7 +83,7 @@ with_ripe w k v = record w { ripe = w.ripe ++ record { id = k; verdict = v } ∷
 
 -- a taken stream is ripe where its verdict isn't Incomplete
 abbrev pub judged : Kind → ℕ → Verdict → Pass → Pass
-judged kind k Incomplete p = record p { earlier = suc p.earlier }
+judged kind k verdicts.Incomplete p = record p { earlier = suc p.earlier }
 judged kind k v p = record { earlier = counted (kind.settled k v) p.earlier; walk = with_ripe p.walk k v }
 
 abbrev pub with_taken : ℕ → Walk → Walk
@@ -106,22 +110,20 @@ ids kind n (suc count) = (4 * n + kind) ∷ ids kind (suc n) count
 abbrev pub over_unis : Side → Past → Walk → Walk
 over_unis side h w =
     (over (is_ready side h)
-    (record { slots = 4; verdict = λ k. uni_verdict (contents h k) (end_of (came h) k); settled = is_settled h })
+    (record { slots = 4; verdict = λ k. uni_verdict_of (contents h k) (end_of (came h) k); settled = is_settled h })
     (ids (peer_uni side) 0 (peer_unis (came h))) (record { earlier = 0; walk = w })).walk
 
 abbrev pub over_bis : Side → Past → Walk → Walk
 over_bis side h w =
     (over (is_ready side h)
-    (record { slots = 1; verdict = λ k. bi_verdict (contents h k) (end_of (came h) k); settled = is_settled h })
+    (record { slots = 1; verdict = λ k. bi_verdict_of (contents h k) (end_of (came h) k); settled = is_settled h })
     (ids (peer_bi side) 0 (peer_bis (came h))) (record { earlier = 0; walk = w })).walk
 
 -- ---- the peer's SETTINGS
 
 abbrev pub control_at : Verdict → Option ℕ
-control_at (Control at) = Some at
-control_at Incomplete = None
-control_at (WebTransport session at) = None
-control_at (Request headers at) = None
+control_at (verdicts.Control at) = Some at
+control_at _ = None
 
 -- the first ripe stream of which this tells where its part begins
 abbrev pub first_at : (Verdict → Option ℕ) → List Ripe → Option (ℕ × ℕ)
@@ -131,7 +133,7 @@ first_at tells (r ∷ rs) = elim (tells r.verdict) [ Some at ↦ Some (r.id, at)
 abbrev pub over_control : Past → Option (ℕ × ℕ) → Walk → Walk
 over_control h None w = w
 over_control h (Some x) w =
-    record w { settings = w.settings || control_settings (drop x.1 (contents h x.0)) (end_of (came h) x.0) }
+    record w { settings = w.settings || is_some (control_walk_of (drop x.1 (contents h x.0)) (end_of (came h) x.0)).settings }
 
 -- ---- a moment: what it looks at, in order
 
@@ -172,7 +174,7 @@ rest_of h k bytes = drop (length (sent (outs h) k)) (take (credit (came h) k) by
 abbrev pub own_part : Bool → Side → Past → List Action
 own_part false side h = []
 own_part true side h =
-    opening (opened (outs h) (own_uni side) == 0) (own_control side) ++ sending (own_control side) (rest_of h (own_control side) own_settings)
+    opening (opened (outs h) (own_uni side) == 0) (own_control side) ++ sending (own_control side) (rest_of h (own_control side) own_control_bytes)
 
 abbrev pub work : Side → Past → List Action
 work side h = own_part (may_open_control side h) side h

@@ -5,11 +5,13 @@ pub mod Numbers
 pub mod Script
 pub mod History
 pub mod Seam
-pub mod Verdicts
 pub mod Driver
 pub mod Session
 pub mod Calls
+pub mod Built
 pub mod Next
+pub mod Kept
+pub mod Step
 pub mod Outside
 pub mod Trace
 pub mod Program

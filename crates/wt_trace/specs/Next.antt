@@ -12,12 +12,12 @@ use Rattle.wt_trace.specs.declared.action.Action.TheVariants as actions
 use Rattle.wt_trace.specs.declared.answer.Reply.{Reply}
 use Rattle.wt_trace.specs.declared.answer.Reply.TheVariants as replies
 use Rattle.wt_trace.specs.declared.answer.Answer.{Answer}
-use Rattle.wt_trace.specs.Verdicts.{is_prefix, request_bytes, own_settings, Fields}
 use Rattle.wt_trace.specs.History.{Event, Connected, PeerUni, PeerBi, Deed, HandedOut, Given, Begun, Stands, ReadOut, Asked, Fact, Byte, Came, Out, Did, Past, came, outs, deeds}
-use Rattle.wt_trace.specs.Seam.{contents, peer_unis, peer_bis, peer_uni, peer_bi, may_bring, may_come}
+use Rattle.wt_trace.specs.Seam.{peer_uni, peer_bi, may_bring, may_come}
 use Rattle.wt_trace.specs.Driver.{moment}
 use Rattle.wt_trace.specs.Session.{Told, tells, incoming, accept, standing}
 use Rattle.wt_trace.specs.Calls.{in_session, accept_uni, read, can_read}
+use Rattle.wt_trace.specs.Built.{is_built}
 
 -- ---- the answer
 
@@ -108,39 +108,6 @@ is_lawful side h turns.PeerUni = may_come side h PeerUni
 is_lawful side h turns.PeerBi = may_come side h PeerBi
 is_lawful side h (turns.Bytes id piece) = may_bring side h id
 is_lawful side h (turns.Call c) = may_call side h c
-
--- ---- which lawful turns are built so far
-
--- two streams that may go on in one way: either is a prefix of the other
-abbrev pub are_along : List ℕ → List ℕ → Bool
-are_along [] ys = true
-are_along (x ∷ xs) [] = true
-are_along (x ∷ xs) (y ∷ ys) = x == y && are_along xs ys
-
--- the peer's control stream brings its type and an empty SETTINGS frame, its second unidirectional stream the header
--- of session 0 and anything behind it, its bidirectional stream the one request
-abbrev pub is_readable : ℕ → List ℕ → Bool
-is_readable id bytes =
-    if id == 2 then is_prefix bytes (0 ∷ 4 ∷ 0 ∷ []) else
-    (if id == 6 then are_along bytes (64 ∷ 84 ∷ 0 ∷ []) else
-    (if id == 0 then is_prefix bytes request_bytes else false))
-
-abbrev pub is_empty : Fields → Bool
-is_empty [] = true
-is_empty (f ∷ fields) = false
-
-abbrev pub is_built_call : Call → Bool
-is_built_call calls.Incoming = true
-is_built_call (calls.Accept headers) = is_empty headers
-is_built_call calls.AcceptUni = true
-is_built_call (calls.Read id size) = true
-
-abbrev pub is_built : Side → Past → Turn → Bool
-is_built side h (turns.Connected uni bi credit datagrams) = nat_lt 0 uni && not (nat_lt credit (length own_settings))
-is_built side h turns.PeerUni = nat_lt (peer_unis (came h)) 2
-is_built side h turns.PeerBi = nat_lt (peer_bis (came h)) 1
-is_built side h (turns.Bytes id piece) = is_readable id (contents h id ++ piece)
-is_built side h (turns.Call c) = is_built_call c
 
 -- ---- a list of turns
 

@@ -1,11 +1,14 @@
 -- The server's handshake: the request, the response, and the session that stands.
-use Rattle.std.specs.Prelude.{ℕ, ◌-◌, List, [], ◌∷◌, ◌++◌, length, take, drop, Option, Some, None, Bool, true, false, ◌==◌, ◌||◌, ◌&&◌, not, if◌then◌else◌}
+use Rattle.std.specs.Prelude.{ℕ, ◌-◌, List, [], ◌∷◌, ◌++◌, length, take, drop, Option, Some, None, Bool, true, false, ◌==◌, ◌||◌, ◌&&◌, not, codes, if◌then◌else◌}
 use Rattle.std.specs.List.{list_any}
 use Rattle.wt_proto.specs.declared.side.Side.{Side}
 use Rattle.wt_trace.specs.declared.action.Action.{Action}
 use Rattle.wt_trace.specs.declared.answer.Reply.{Reply}
 use Rattle.wt_trace.specs.declared.answer.Reply.TheVariants as replies
-use Rattle.wt_trace.specs.Verdicts.{Verdict, Incomplete, WebTransport, Control, Request, Fields, accepting_response}
+use Rattle.wt_proto.specs.declared.verdict.Verdict.{Verdict}
+use Rattle.wt_proto.specs.declared.verdict.Verdict.TheVariants as verdicts
+use Rattle.wt_proto.specs.FixedBytes.{headers_frame_bytes}
+use Rattle.wt_proto.specs.HeaderList.{Fields, with_field}
 use Rattle.wt_trace.specs.History.{Deed, HandedOut, Given, Begun, Stands, ReadOut, Asked, Fact, Did, Past, came, outs, deeds, put}
 use Rattle.wt_trace.specs.Seam.{credit, sent}
 use Rattle.wt_trace.specs.Driver.{Ripe, Walk, walk, moment, sending, rest_of}
@@ -48,10 +51,8 @@ gives k (ReadOut id count) = false
 gives k Asked = false
 
 abbrev pub is_request : Verdict → Bool
-is_request (Request headers at) = true
-is_request Incomplete = false
-is_request (WebTransport session at) = false
-is_request (Control at) = false
+is_request (verdicts.Request headers at) = true
+is_request _ = false
 
 -- a queued request: ripe, and not given
 abbrev pub is_queued : Past → Ripe → Bool
@@ -62,10 +63,8 @@ first_queued h [] = None
 first_queued h (r ∷ rs) = if is_queued h r then Some r else first_queued h rs
 
 abbrev pub headers_of : Verdict → Fields
-headers_of (Request headers at) = headers
-headers_of Incomplete = []
-headers_of (WebTransport session at) = []
-headers_of (Control at) = []
+headers_of (verdicts.Request headers at) = headers
+headers_of _ = []
 
 abbrev pub gives_request : Side → Past → Option Ripe → Told
 gives_request side h None = asks side h replies.Pending
@@ -76,6 +75,10 @@ abbrev pub incoming : Side → Past → Told
 incoming side h = gives_request side h (if (walk side h).settings then first_queued h (walk side h).ripe else None)
 
 -- ---- the response
+
+-- the frame of status 200 with these headers; a `:status` among them is left out
+unfoldable pub accepting_response : Fields → List ℕ
+accepting_response headers = headers_frame_bytes (with_field (codes ":status") (codes "200") headers)
 
 -- the request that was given last
 abbrev pub given : List Deed → ℕ
@@ -97,4 +100,5 @@ responds true side h s head = tells (does side (does side h (sending s (rest_of 
 responds false side h s head = tells (does side h (sending s (rest_of h s head)) (Begun head)) replies.Pending
 
 abbrev pub accept : Side → Past → Fields → Told
-accept side h headers = responds (is_whole h (given (deeds h)) accepting_response) side h (given (deeds h)) accepting_response
+accept side h headers =
+    responds (is_whole h (given (deeds h)) (accepting_response headers)) side h (given (deeds h)) (accepting_response headers)

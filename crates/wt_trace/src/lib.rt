@@ -12,7 +12,9 @@ pub mod piece;
 pub mod print;
 pub mod program;
 pub mod script;
+pub mod seam;
 pub mod send;
+pub mod session;
 #[cfg(test)]
 mod tests;
 pub mod trace;

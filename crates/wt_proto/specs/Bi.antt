@@ -1,0 +1,44 @@
+-- The verdict of a bidirectional stream that the peer opened, over all its bytes and its end (RFC 9114, sections 4.1 and 7; RFC 9220, section 3; draft-ietf-webtrans-http3, sections 3.3 and 4.3).
+use Rattle.std.specs.Prelude.{ℕ, List, Option, Some, None, Result, Ok, Err}
+use Rattle.wt_proto.specs.declared.error.ErrorCode.{ErrorCode}
+use Rattle.wt_proto.specs.declared.error.ErrorCode.TheVariants.{FrameUnexpected, ExcessiveLoad, RequestRejected, Message}
+use Rattle.wt_proto.specs.declared.session.HeadersParseError.{HeadersParseError}
+use Rattle.wt_proto.specs.declared.session.HeadersParseError.TheVariants.{MethodNotConnect, Other}
+use Rattle.wt_proto.specs.declared.side.StreamEnd.{StreamEnd}
+use Rattle.wt_proto.specs.declared.verdict.Verdict.{Verdict}
+use Rattle.wt_proto.specs.declared.verdict.Verdict.TheVariants.{Request, Refused, Fault}
+use Rattle.wt_proto.specs.declared.walk.Step.{Step}
+use Rattle.wt_proto.specs.FieldSection.{headers_of}
+use Rattle.wt_proto.specs.Frames as frames
+use Rattle.wt_proto.specs.HeaderList.{Fields}
+use Rattle.wt_proto.specs.Requests.{request_of}
+use Rattle.wt_proto.specs.Uni.{cut, session_verdict}
+use Rattle.wt_proto.specs.Varint.{varint_at}
+use Rattle.wt_proto.specs.Walk.{walked}
+
+-- a request in front of this offset, or what it is refused with
+abbrev pub parsed_verdict : ℕ → Result Fields HeadersParseError → Verdict
+parsed_verdict at (Ok request) = Request request at
+parsed_verdict at (Err MethodNotConnect) = Refused RequestRejected
+parsed_verdict at (Err Other) = Refused Message
+
+abbrev pub headers_verdict : ℕ → Result Fields ErrorCode → Verdict
+headers_verdict at (Ok fields) = parsed_verdict at (request_of fields)
+headers_verdict at (Err fault) = Fault fault
+
+-- the first frame that isn't skipped, in front of this offset
+abbrev pub bi_judged : frames.Frame → ℕ → Verdict
+bi_judged (frames.Signal id) at = session_verdict id at
+bi_judged (frames.Headers payload) at = headers_verdict at (headers_of payload)
+bi_judged frames.TooLong at = Fault ExcessiveLoad
+bi_judged frame at = Fault FrameUnexpected
+
+unfoldable pub bi_decides : ℕ → List ℕ → Step ℕ Verdict
+bi_decides at bytes = frames.decided (frames.first_judged bi_judged at) (frames.frame_at varint_at bytes)
+
+abbrev pub or_cut : StreamEnd → Option Verdict → Verdict
+or_cut end (Some verdict) = verdict
+or_cut end None = cut end
+
+unfoldable pub bi_verdict_of : List ℕ → StreamEnd → Verdict
+bi_verdict_of bytes end = or_cut end (walked bi_decides 0 bytes).stop

@@ -1,0 +1,47 @@
+-- The walk over a client's session stream from its first byte, over all bytes and the end (RFC 9114, sections 4.1 and 4.3.2; RFC 9220, section 3).
+use Rattle.std.specs.Prelude.{ℕ, List, Bool, true, false, Option, Some, None, Result, Ok, Err}
+use Rattle.wt_proto.specs.declared.error.ErrorCode.{ErrorCode}
+use Rattle.wt_proto.specs.declared.error.ErrorCode.TheVariants.{FrameUnexpected, ExcessiveLoad, Message}
+use Rattle.wt_proto.specs.declared.response_walk.ResponseWalk.{ResponseWalk}
+use Rattle.wt_proto.specs.declared.response_walk.ResponseWalk.TheVariants.{Waiting, Response, Ended, Fault}
+use Rattle.wt_proto.specs.declared.session.BadStatus.{BadStatus}
+use Rattle.wt_proto.specs.declared.side.StreamEnd.{StreamEnd}
+use Rattle.wt_proto.specs.declared.side.StreamEnd.TheVariants.{Running, Fin, Reset}
+use Rattle.wt_proto.specs.declared.walk.Step.{Step}
+use Rattle.wt_proto.specs.FieldSection.{headers_of}
+use Rattle.wt_proto.specs.Frames as frames
+use Rattle.wt_proto.specs.HeaderList.{Fields}
+use Rattle.wt_proto.specs.Responses.{response_of}
+use Rattle.wt_proto.specs.Walk.{walked}
+
+-- a response in front of this offset; fields with no status code are a malformed message
+abbrev pub parsed_response : ℕ → Result Fields BadStatus → ResponseWalk
+parsed_response at (Ok response) = Response response at
+parsed_response at (Err bad) = Fault Message
+
+abbrev pub headers_response : ℕ → Result Fields ErrorCode → ResponseWalk
+headers_response at (Ok fields) = parsed_response at (response_of fields)
+headers_response at (Err fault) = Fault fault
+
+-- the first frame that isn't skipped, in front of this offset
+abbrev pub response_judged : frames.Frame → ℕ → ResponseWalk
+response_judged (frames.Headers payload) at = headers_response at (headers_of payload)
+response_judged frames.TooLong at = Fault ExcessiveLoad
+response_judged frame at = Fault FrameUnexpected
+
+unfoldable pub response_decides : ℕ → List ℕ → Step ℕ ResponseWalk
+response_decides at bytes = frames.decided (frames.first_judged response_judged at) (frames.frame_at frames.unread bytes)
+
+abbrev pub or_waiting : StreamEnd → Option ResponseWalk → ResponseWalk
+or_waiting end (Some walk) = walk
+or_waiting Running None = Waiting
+or_waiting Fin None = Ended
+or_waiting (Reset code) None = Ended
+
+unfoldable pub response_walk_of : List ℕ → StreamEnd → ResponseWalk
+response_walk_of bytes end = or_waiting end (walked response_decides 0 bytes).stop
+
+-- an outcome that more bytes and an end don't change
+abbrev pub is_answered : ResponseWalk → Bool
+is_answered Waiting = false
+is_answered _ = true

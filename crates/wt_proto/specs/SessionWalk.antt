@@ -1,0 +1,58 @@
+-- The walk over a session's stream behind the frame that made the session stand, over all bytes and the end (draft-ietf-webtrans-http3, section 5; RFC 9297, section 3.2).
+use Rattle.std.specs.Prelude.{ℕ, List, [], Bool, true, false, Option, Some, None, Result, Ok, Err, if◌then◌else◌}
+use Rattle.wt_proto.specs.declared.capsule.CloseWebTransportSession.{CloseWebTransportSession}
+use Rattle.wt_proto.specs.declared.error.ErrorCode.{ErrorCode}
+use Rattle.wt_proto.specs.declared.error.ErrorCode.TheVariants.{FrameUnexpected, ExcessiveLoad, ClosedCriticalStream}
+use Rattle.wt_proto.specs.declared.session_walk.SessionWalk.{SessionWalk}
+use Rattle.wt_proto.specs.declared.session_walk.SessionWalk.TheVariants as walks
+use Rattle.wt_proto.specs.declared.side.StreamEnd.{StreamEnd}
+use Rattle.wt_proto.specs.declared.side.StreamEnd.TheVariants.{Running, Fin, Reset}
+use Rattle.wt_proto.specs.declared.walk.Step.{Step}
+use Rattle.wt_proto.specs.declared.walk.Step.TheVariants.{Cut, Goes, Stops}
+use Rattle.wt_proto.specs.Capsule.{close_value_at, close_of}
+use Rattle.wt_proto.specs.Frames as frames
+use Rattle.wt_proto.specs.Walk.{Reached, walked}
+
+-- a capsule that closes the session, or is a fault
+abbrev pub closed_by : Result CloseWebTransportSession ErrorCode → SessionWalk
+closed_by (Ok close) = walks.Closed close.error_code close.reason
+closed_by (Err fault) = walks.Fault fault
+
+-- a payload with no such capsule at its front is skipped
+abbrev pub on_capsule : ℕ → Option (List ℕ) → Step (Unit {0}) SessionWalk
+on_capsule size None = Goes tt size
+on_capsule size (Some value) = Stops (closed_by (close_of value)) size
+
+-- the walk has one state
+abbrev pub session_effect : Unit {0} → ℕ → frames.Frame → Step (Unit {0}) SessionWalk
+session_effect state size (frames.Data payload) = on_capsule size (close_value_at payload)
+session_effect state size (frames.Headers payload) = Goes tt size
+session_effect state size (frames.Settings payload) = Stops (walks.Fault FrameUnexpected) size
+session_effect state size frames.TooLong = Stops (walks.Fault ExcessiveLoad) size
+session_effect state size (frames.Signal id) = Stops (walks.Fault FrameUnexpected) size
+session_effect state size (frames.Skipped kind) = Goes tt size
+
+unfoldable pub session_decides : Unit {0} → List ℕ → Step (Unit {0}) SessionWalk
+session_decides state bytes = frames.decided (session_effect state) (frames.frame_at frames.unread bytes)
+
+-- a clean end between frames closes the session with code 0 and an empty reason; every other end is a fault
+abbrev pub session_at_end : StreamEnd → Bool → SessionWalk
+session_at_end Running between = walks.Running
+session_at_end Fin true = walks.Closed 0 []
+session_at_end Fin false = walks.Fault ClosedCriticalStream
+session_at_end (Reset code) between = walks.Fault ClosedCriticalStream
+
+abbrev pub session_outcome : StreamEnd → Bool → Option SessionWalk → SessionWalk
+session_outcome end between (Some outcome) = outcome
+session_outcome end between None = session_at_end end between
+
+abbrev pub session_end : StreamEnd → Reached (Unit {0}) SessionWalk → SessionWalk
+session_end end reached = session_outcome end reached.between reached.stop
+
+unfoldable pub session_walk_of : List ℕ → StreamEnd → SessionWalk
+session_walk_of bytes end = session_end end (walked session_decides tt bytes)
+
+-- an outcome that more bytes and an end don't change
+abbrev pub is_over : SessionWalk → Bool
+is_over walks.Running = false
+is_over _ = true
