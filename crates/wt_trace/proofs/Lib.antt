@@ -13,3 +13,4 @@ pub mod CallTurns
 pub mod Start
 pub mod ReplayCalls
 pub mod Standing
+pub mod RunLaws

@@ -1,7 +1,13 @@
 -- What a read from memory leaves, and what writes one after another add.
-use Rattle.std.proofs.Common.{arith, ◌≡◌, ℕ, ◌+◌, ◌-◌, ◌<◌, ◌≤◌, min, List, [], ◌++◌, sym, ap, ◌∙◌, length, take, drop, length-drop, length-append}
+use Rattle.std.proofs.Common.{arith, ◌≡◌, ℕ, suc, get_or, ◌+◌, ◌-◌, ◌<◌, ◌≤◌, min, List, [], ◌++◌, refl, sym, ap, subst, ◌∙◌, length, take, drop, length-drop, length-append, append_assoc, append-nil, drop-cons}
+use Rattle.std.proofs.Math.Seq.{take-add}
 use Rattle.std.proofs.Math.Seq.{take-append_seam}
-use Rattle.std.proofs.lemmas.List.{drop_all, drop-drop, length-take-le, take-append-drop}
+use Rattle.std.proofs.lemmas.Grind.{flat_map-append}
+use Rattle.std.proofs.lemmas.List.{drop_all, take_all, drop-drop, length-take-le, take-append-drop}
+use Rattle.std.specs.Prelude.{Option, Some, None}
+use Rattle.std.specs.Io.KnownBytes.{Appends, Keeps}
+use Rattle.std.specs.List.{flat_map}
+use Rattle.wt_trace.specs.Outside.{AppendsPart}
 
 part_length : (bytes part : List ℕ) (at count : ℕ) → count ≤ length bytes - at → part ≡ take (at + count - at) (drop at bytes) → length part ≡ count
 part_length bytes part at count within p =
@@ -24,3 +30,70 @@ pub read_none : (bytes buf part : List ℕ) (at count : ℕ) → at ≤ length b
 read_none bytes buf part at count begun e p none some =
     let size : length part ≡ count = part_length bytes part at count (omega arith) p in
     drop_all (at + count) bytes (omega (arith, length-append part (drop count buf), length-drop count buf))
+
+pub appends_then : (old mid new : Option (List ℕ)) (first second : List ℕ) → Appends old mid first → Appends mid new second → Appends old new (first ++ second)
+appends_then None mid new first second a b = tt
+appends_then (Some xs) None new first second a b = absurd a
+appends_then (Some xs) (Some ys) None first second a b = absurd b
+appends_then (Some xs) (Some ys) (Some zs) first second a b = b ∙ ap (λ l. l ++ second) a ∙ append_assoc xs first second
+
+appends_kept : (old mid new : Option (List ℕ)) (text : List ℕ) → Appends old mid text → Keeps mid new → Appends old new text
+appends_kept None mid new text a k = tt
+appends_kept (Some xs) None new text a k = absurd a
+appends_kept (Some xs) (Some ys) None text a k = absurd k
+appends_kept (Some xs) (Some ys) (Some zs) text a k = k ∙ a
+
+appends_none : (old : Option (List ℕ)) → Appends old old []
+appends_none None = tt
+appends_none (Some xs) = sym (append-nil xs)
+
+-- the whole text is a part of it
+pub part_whole : (old new : Option (List ℕ)) (text : List ℕ) → Appends old new text → AppendsPart old new text
+part_whole old new text a = record { part = text; rest = []; whole = append-nil text; appends = a }
+
+-- so is no text
+pub part_none : (old : Option (List ℕ)) (text : List ℕ) → AppendsPart old old text
+part_none old text = record { part = []; rest = text; whole = refl; appends = appends_none old }
+
+pub part_longer : (old new : Option (List ℕ)) (first second : List ℕ) → AppendsPart old new first → AppendsPart old new (first ++ second)
+part_longer old new first second p = record {
+  part = p.part;
+  rest = p.rest ++ second;
+  whole = sym (append_assoc p.part p.rest second) ∙ ap (λ l. l ++ second) p.whole;
+  appends = p.appends;
+}
+
+pub part_then : (old mid new : Option (List ℕ)) (first second : List ℕ) → Appends old mid first → AppendsPart mid new second → AppendsPart old new (first ++ second)
+part_then old mid new first second a p = record {
+  part = first ++ p.part;
+  rest = p.rest;
+  whole = append_assoc first p.part p.rest ∙ ap (λ l. first ++ l) p.whole;
+  appends = appends_then old mid new first p.part a p.appends;
+}
+
+-- where a write failed, the text up to there was taken
+pub part_up_to : (old mid new : Option (List ℕ)) (text : List ℕ) (at : ℕ) → Appends old mid (take at text) → Keeps mid new → AppendsPart old new text
+part_up_to old mid new text at a k = record {
+  part = take at text;
+  rest = drop at text;
+  whole = take-append-drop at text;
+  appends = appends_kept old mid new (take at text) a k;
+}
+
+pub rest_of : (text : List ℕ) (at : ℕ) → take (length text - at) (drop at text) ≡ drop at text
+rest_of text at = take_all (length text - at) (drop at text) (omega (arith, length-drop at text))
+
+-- some more of a text
+pub appends_more : (old mid new : Option (List ℕ)) (text : List ℕ) (at n : ℕ) → Appends old mid (take at text) → Appends mid new (take n (drop at text)) → Appends old new (take (at + n) text)
+appends_more old mid new text at n a b = subst (Appends old new) (sym (take-add at n text)) (appends_then old mid new (take at text) (take n (drop at text)) a b)
+
+-- the text up to an element, a part of that of the element
+pub part_of_list : {X : Type 0} (old mid new : Option (List ℕ)) (text : X → List ℕ) (xs : List X) (i : ℕ) (x : X) → i < length xs → x ≡ get_or xs i x
+    → Appends old mid (flat_map text (take i xs)) → AppendsPart mid new (text x) → AppendsPart old new (flat_map text xs)
+part_of_list old mid new text xs i x within e a p =
+    let split : flat_map text (take i xs) ++ text x ++ flat_map text (drop (suc i) xs) ≡ flat_map text xs =
+    append_assoc (flat_map text (take i xs)) (text x) (flat_map text (drop (suc i) xs))
+    ∙ ap (λ l. flat_map text (take i xs) ++ l) (ap (λ y. text y ++ flat_map text (drop (suc i) xs)) e ∙ ap (flat_map text) (sym (drop-cons xs i x within)))
+    ∙ sym (flat_map-append text (take i xs) (drop i xs))
+    ∙ ap (flat_map text) (take-append-drop i xs) in
+    subst (AppendsPart old new) split (part_longer old new (flat_map text (take i xs) ++ text x) (flat_map text (drop (suc i) xs)) (part_then old mid new (flat_map text (take i xs)) (text x) a p))

@@ -13,3 +13,5 @@ pub mod Next
 pub mod Kept
 pub mod Step
 pub mod Outside
+pub mod Trace
+pub mod Program

@@ -92,8 +92,15 @@ built k turns.PeerBi = nat_lt (length k.bis) 1
 built k (turns.Bytes id piece) = is_readable id (contents_at k id ++ piece)
 built k (turns.Call c) = is_built_call c
 
+-- after a turn that ran out of memory each one is taken for lawful and built
+abbrev pub may_come_now : Kept → Turn → Bool
+may_come_now k t = k.failed || lawful k t
+
+abbrev pub is_built_now : Kept → Turn → Bool
+is_built_now k t = k.failed || built k t
+
 abbrev pub may_turn : Kept → Turn → Bool
-may_turn k t = k.failed || (lawful k t && built k t)
+may_turn k t = may_come_now k t && is_built_now k t
 
 -- ---- calls
 

@@ -6,7 +6,7 @@ ghost use Rattle.wt_trace.specs.History.{Past};
 ghost use Rattle.wt_trace.specs.Kept.{Kept, Stands};
 ghost use Rattle.wt_trace.specs.Seam.{own_uni};
 ghost use Rattle.wt_trace.specs.Next.{is_lawful, is_server, next, then_turn};
-ghost use Rattle.wt_trace.specs.Step.{after, after_call, answer_of, answer_of_call, built, can_read, contents_at, has_bi, has_uni, lawful, lawful_call, may_connect, may_turn};
+ghost use Rattle.wt_trace.specs.Step.{after, after_call, answer_of, answer_of_call, built, can_read, contents_at, has_bi, has_uni, lawful, lawful_call, is_built_now, may_come_now, may_connect, may_turn};
 
 use crate::action::{Action, Actions};
 use crate::answer::{Answer, Reply};
@@ -298,6 +298,7 @@ impl Core {
     /// Whether the turn may come next; after a turn that ran out of memory each one may.
     #[tactic(auto, using(crate::proofs::Standing::stands_lawful, crate::proofs::Standing::stands_whole))]
     pub fn is_lawful(&self, turn: &Turn) -> bool
+        ensures state { result ≡ may_come_now self.now turn.now }
         ensures failed { IsTrue self.now.failed → IsTrue result }
         ensures history { (h : Past) → Stands self.now h → result ≡ is_lawful self.now.side h turn.now }
     {
@@ -307,6 +308,7 @@ impl Core {
     /// Whether a lawful turn is built so far; after a turn that ran out of memory each one is.
     #[tactic(auto, using(crate::proofs::Standing::stands_built, crate::proofs::Standing::stands_whole))]
     pub fn is_built(&self, turn: &Turn) -> bool
+        ensures state { result ≡ is_built_now self.now turn.now }
         ensures failed { IsTrue self.now.failed → IsTrue result }
         ensures history { (h : Past) → Stands self.now h → result ≡ is_built self.now.side h turn.now }
     {
@@ -334,11 +336,12 @@ impl Core {
 
     /// The answer to a lawful and built turn. Want of memory may come at any turn, and then at each
     /// later one.
-    #[tactic(auto, using(crate::proofs::Standing::stands_answer, crate::proofs::Standing::stands_after))]
+    #[tactic(auto, using(crate::proofs::Standing::stands_answer, crate::proofs::Standing::stands_after, crate::proofs::Standing::same_side))]
     pub fn turn(&mut self, turn: &Turn) -> Result<Answer, OutOfMemory>
         requires { IsTrue (may_turn self.old turn.now) }
         ensures answer { (h : Past) → Stands self.old h → IfOk result (λ a. a ≡ next self.old.side h turn.now) }
         ensures state { (h : Past) → Stands self.old h → OnOk result (Stands self.new (then_turn self.old.side h turn.now)) }
+        ensures side { OnOk result (self.new.side ≡ self.old.side) }
         ensures failed { IsTrue self.old.failed → IsErr result }
         ensures fails { OnErr result (IsTrue self.new.failed) }
     {

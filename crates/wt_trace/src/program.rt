@@ -1,0 +1,302 @@
+//! The program: a script comes in, the lines of its answers go out.
+ghost use Rattle.std.specs.Prelude.{◌≡◌, ◌++◌, ◌<◌, ◌≤◌, ℕ, List, Option, map, string_bytes, ◌≢◌, ◌⊎◌, IfOk, IfErr, IfSome, IsTrue, MatchResult, OnOk, OnErr, length, codes, false, true};
+ghost use Rattle.std.specs.Fmt.{decimal};
+ghost use Rattle.std.specs.Io.KnownBytes.{Consumes, Appends, Keeps, IsAtEnd};
+ghost use Rattle.wt_trace.specs.Next.{run};
+ghost use Rattle.wt_trace.specs.Outside.{Rose, AppendsPart};
+ghost use Rattle.wt_trace.specs.Print.{answer_line, print};
+ghost use Rattle.wt_trace.specs.Program.{is_trace, is_cut_short, tells_script, tells_input, script_limit, usage, refused_at, run_outcome, input_outcome, outcome, AnswersInput, cut_status, Cuts, CutsReading, CutsWriting};
+ghost use Rattle.wt_trace.specs.Script.{script_of};
+
+use crate::answer::Answer;
+use crate::outside::{Sink, Source};
+use crate::print::{push_answer, push_number};
+use crate::script::{Script, read_script};
+use crate::trace::{TraceError, run_trace};
+use std::alloc::Global;
+use wt_proto::error::OutOfMemory;
+
+/// The greatest script, in bytes.
+const SCRIPT_LIMIT: usize = 16_777_216;
+
+/// The status where memory was wanting.
+pub const OUT_OF_MEMORY: u8 = 6;
+
+/// Why no whole answer was given.
+#[derive(Clone, Copy, PartialEq, Eq, Debug)]
+enum CutShort {
+    SourceFailed,
+    SinkFailed,
+    OutOfMemory,
+}
+
+impl CutShort {
+    fn status(self) -> u8
+        ensures { result ≡ cut_status self }
+    {
+        match self {
+            CutShort::SourceFailed => 4,
+            CutShort::SinkFailed => 5,
+            CutShort::OutOfMemory => OUT_OF_MEMORY,
+        }
+    }
+}
+
+impl From<OutOfMemory> for CutShort {
+    ghost use Rattle.std.specs.Prelude.{◌≡◌};
+    ghost use Rattle.wt_trace.specs.declared.program.CutShort.TheVariants as cuts;
+
+    ghost from_gives = { λ _ cut. cut ≡ cuts.OutOfMemory };
+
+    fn from(_error: OutOfMemory) -> CutShort {
+        CutShort::OutOfMemory
+    }
+}
+
+/// Runs the program: with the word `trace` it reads a script to its end, runs its turns, and writes a
+/// line for each answer. All text goes to the sink.
+///
+/// | status | where | text |
+/// |---|---|---|
+/// | 0 | the run reached its end | the answers |
+/// | 1 | the words are others | the usage line |
+/// | 2 | line n is the first that isn't in the grammar | `line <n> refused` |
+/// | 3 | the turn at this place isn't lawful | the answers before, `turn <at> unlawful` |
+/// | 4 | the source failed | nothing |
+/// | 5 | the sink failed | a first part of the text |
+/// | 6 | memory was wanting | a first part of the text |
+/// | 7 | the source gave more than 16,777,216 bytes | `script too long` |
+/// | 8 | the turn at this place is lawful and has no answer yet | the answers before, `turn <at> unbuilt` |
+pub fn run_program<S: Source, K: Sink>(
+    alloc: Global,
+    words: &[String],
+    source: &mut S,
+    sink: &mut K,
+) -> u8
+    ensures status { is_cut_short result ≡ false → IfSome (S.left source.old) (λ input. result ≡ (outcome (map string_bytes words.now) input).status) }
+    ensures text { is_cut_short result ≡ false → IfSome (S.left source.old) (λ input. Appends (K.took sink.old) (K.took sink.new) (outcome (map string_bytes words.now) input).text) }
+    ensures input { is_cut_short result ≡ false → is_trace (map string_bytes words.now) ≡ true → AnswersInput (S.left source.old) (S.left source.new) (K.took sink.old) (K.took sink.new) result }
+    ensures part { IfSome (S.left source.old) (λ input. AppendsPart (K.took sink.old) (K.took sink.new) (outcome (map string_bytes words.now) input).text) }
+    ensures end { IsTrue (tells_script result) → IsAtEnd (S.left source.new) }
+    ensures usage { is_trace (map string_bytes words.now) ≡ false → (result ≡ 1) ⊎ (result ≡ 5) }
+    ensures usage_text { result ≡ 1 → Appends (K.took sink.old) (K.took sink.new) usage.text }
+    ensures trace { is_trace (map string_bytes words.now) ≡ true → result ≢ 1 }
+    ensures read_fault { result ≡ 4 → Rose (S.faults source.old) (S.faults source.new) }
+    ensures write_fault { result ≡ 5 → Rose (K.faults sink.old) (K.faults sink.new) }
+    ensures nothing { result ≡ 4 → K.took sink.new ≡ K.took sink.old }
+    ensures source_same { is_cut_short result ≡ false → S.faults source.new ≡ S.faults source.old }
+    ensures sink_same { is_cut_short result ≡ false → K.faults sink.new ≡ K.faults sink.old }
+{
+    match answer(alloc, words, source, sink) {
+        Ok(status) => status,
+        Err(cut) => cut.status(),
+    }
+}
+
+fn answer<S: Source, K: Sink>(
+    alloc: Global,
+    words: &[String],
+    source: &mut S,
+    sink: &mut K,
+) -> Result<u8, CutShort>
+    ensures status { IfOk result (λ status. IfSome (S.left source.old) (λ input. status ≡ (outcome (map string_bytes words.now) input).status)) }
+    ensures text { OnOk result (IfSome (S.left source.old) (λ input. Appends (K.took sink.old) (K.took sink.new) (outcome (map string_bytes words.now) input).text)) }
+    ensures input { is_trace (map string_bytes words.now) ≡ true → IfOk result (AnswersInput (S.left source.old) (S.left source.new) (K.took sink.old) (K.took sink.new)) }
+    ensures part { IfSome (S.left source.old) (λ input. AppendsPart (K.took sink.old) (K.took sink.new) (outcome (map string_bytes words.now) input).text) }
+    ensures end { IfOk result (λ status. IsTrue (tells_script status) → IsAtEnd (S.left source.new)) }
+    ensures usage { is_trace (map string_bytes words.now) ≡ false → MatchResult result (λ status. status ≡ 1) (λ cut. cut ≡ CutShort.SinkFailed) }
+    ensures usage_text { IfOk result (λ status. status ≡ 1 → Appends (K.took sink.old) (K.took sink.new) usage.text) }
+    ensures trace { is_trace (map string_bytes words.now) ≡ true → IfOk result (λ status. IsTrue (tells_input status)) }
+    ensures source_same { OnOk result (S.faults source.new ≡ S.faults source.old) }
+    ensures sink_same { OnOk result (K.faults sink.new ≡ K.faults sink.old) }
+    ensures cause { IfErr result (Cuts (S.faults source.old) (S.faults source.new) (K.faults sink.old) (K.faults sink.new) (K.took sink.new ≡ K.took sink.old)) }
+{
+    if !asks_trace(words) {
+        write_all(sink, b"usage: trace\n")?;
+        return Ok(1);
+    }
+    let input = read_input(alloc, source)?;
+    answer_input(alloc, input.as_slice(), sink)
+}
+
+fn asks_trace(words: &[String]) -> bool
+    ensures { result ≡ is_trace (map string_bytes words.now) }
+{
+    match words {
+        [word] => word.as_bytes() == b"trace".as_slice(),
+        _ => false,
+    }
+}
+
+/// All bytes that the source has left, or more than a script may have.
+fn read_input<S: Source>(alloc: Global, source: &mut S) -> Result<Vec<u8>, CutShort>
+    ensures bytes { IfOk result (λ v. Consumes (S.left source.old) (S.left source.new) v.items) }
+    ensures end { IfOk result (λ v. length v.items ≤ script_limit → IsAtEnd (S.left source.new)) }
+    ensures same { OnOk result (S.faults source.new ≡ S.faults source.old) }
+    ensures cause { IfErr result (CutsReading (S.faults source.old) (S.faults source.new)) }
+{
+    let mut bytes: Vec<u8> = Vec::new(alloc);
+    let mut buffer = [0u8; 8192];
+    while bytes.len() <= SCRIPT_LIMIT {
+        match source.read(&mut buffer) {
+            Ok(0) => return Ok(bytes),
+            Ok(count) => {
+                if bytes.extend_from_slice(&buffer[..count]).is_err() {
+                    return Err(CutShort::OutOfMemory);
+                }
+            }
+            Err(_) => return Err(CutShort::SourceFailed),
+        }
+    }
+    Ok(bytes)
+}
+
+fn answer_input<K: Sink>(alloc: Global, input: &[u8], sink: &mut K) -> Result<u8, CutShort>
+    ensures status { IfOk result (λ status. status ≡ (input_outcome input.now).status) }
+    ensures text { OnOk result (Appends (K.took sink.old) (K.took sink.new) (input_outcome input.now).text) }
+    ensures part { AppendsPart (K.took sink.old) (K.took sink.new) (input_outcome input.now).text }
+    ensures told { IfOk result (λ status. IsTrue (tells_input status)) }
+    ensures within { IfOk result (λ status. IsTrue (tells_script status) → length input.now ≤ script_limit) }
+    ensures same { OnOk result (K.faults sink.new ≡ K.faults sink.old) }
+    ensures cause { IfErr result (CutsWriting (K.faults sink.old) (K.faults sink.new)) }
+{
+    if input.len() > SCRIPT_LIMIT {
+        write_all(sink, b"script too long\n")?;
+        return Ok(7);
+    }
+    match read_script(alloc, input)? {
+        Ok(script) => answer_script(alloc, &script, sink),
+        Err(refused) => {
+            write_refusal(alloc, refused.line, sink)?;
+            Ok(2)
+        }
+    }
+}
+
+fn write_refusal<K: Sink>(alloc: Global, line: u64, sink: &mut K) -> Result<(), CutShort>
+    ensures text { OnOk result (Appends (K.took sink.old) (K.took sink.new) (refused_at line).text) }
+    ensures part { AppendsPart (K.took sink.old) (K.took sink.new) (refused_at line).text }
+    ensures same { OnOk result (K.faults sink.new ≡ K.faults sink.old) }
+    ensures cause { IfErr result (CutsWriting (K.faults sink.old) (K.faults sink.new)) }
+{
+    let text = number_line(alloc, "line ", line, " refused\n")?;
+    write_all(sink, text.as_bytes())
+}
+
+/// A number between two texts.
+fn number_line(
+    alloc: Global,
+    before: &str,
+    number: u64,
+    behind: &str,
+) -> Result<String, OutOfMemory>
+    ensures { IfOk result (λ text. string_bytes text ≡ before.now ++ decimal number ++ behind.now) }
+{
+    let mut text = String::new(alloc);
+    text.push_str(before)?;
+    push_number(alloc, &mut text, number)?;
+    text.push_str(behind)?;
+    Ok(text)
+}
+
+fn answer_script<K: Sink>(alloc: Global, script: &Script, sink: &mut K) -> Result<u8, CutShort>
+    ensures status { IfOk result (λ status. status ≡ (run_outcome (run script.now.side script.now.turns)).status) }
+    ensures text { OnOk result (Appends (K.took sink.old) (K.took sink.new) (run_outcome (run script.now.side script.now.turns)).text) }
+    ensures part { AppendsPart (K.took sink.old) (K.took sink.new) (run_outcome (run script.now.side script.now.turns)).text }
+    ensures told { IfOk result (λ status. IsTrue (tells_script status)) }
+    ensures same { OnOk result (K.faults sink.new ≡ K.faults sink.old) }
+    ensures cause { IfErr result (CutsWriting (K.faults sink.old) (K.faults sink.new)) }
+{
+    match run_trace(alloc, script.side, script.turns.as_slice()) {
+        Ok(answers) => {
+            write_answers(alloc, answers.as_slice(), sink)?;
+            Ok(0)
+        }
+        Err(TraceError::Unlawful { at, answers }) => {
+            write_stopped(alloc, answers.as_slice(), at, " unlawful\n", sink)?;
+            Ok(3)
+        }
+        Err(TraceError::Unbuilt { at, answers }) => {
+            write_stopped(alloc, answers.as_slice(), at, " unbuilt\n", sink)?;
+            Ok(8)
+        }
+        Err(TraceError::OutOfMemory) => Err(CutShort::OutOfMemory),
+    }
+}
+
+/// Writes the answers before the turn at this place, and that there is none to it.
+fn write_stopped<K: Sink>(
+    alloc: Global,
+    answers: &[Answer],
+    at: u64,
+    reason: &str,
+    sink: &mut K,
+) -> Result<(), CutShort>
+    ensures text { OnOk result (Appends (K.took sink.old) (K.took sink.new) (print answers.now ++ (codes "turn " ++ decimal at ++ reason.now))) }
+    ensures part { AppendsPart (K.took sink.old) (K.took sink.new) (print answers.now ++ (codes "turn " ++ decimal at ++ reason.now)) }
+    ensures same { OnOk result (K.faults sink.new ≡ K.faults sink.old) }
+    ensures cause { IfErr result (CutsWriting (K.faults sink.old) (K.faults sink.new)) }
+{
+    write_answers(alloc, answers, sink)?;
+    let text = number_line(alloc, "turn ", at, reason)?;
+    write_all(sink, text.as_bytes())
+}
+
+/// Writes a line for each answer.
+fn write_answers<K: Sink>(alloc: Global, answers: &[Answer], sink: &mut K) -> Result<(), CutShort>
+    ensures text { OnOk result (Appends (K.took sink.old) (K.took sink.new) (print answers.now)) }
+    ensures part { AppendsPart (K.took sink.old) (K.took sink.new) (print answers.now) }
+    ensures same { OnOk result (K.faults sink.new ≡ K.faults sink.old) }
+    ensures cause { IfErr result (CutsWriting (K.faults sink.old) (K.faults sink.new)) }
+{
+    let mut line = String::new(alloc);
+    for answer in answers {
+        if let Err(cut) = write_answer(alloc, answer, &mut line, sink) {
+            return Err(cut);
+        }
+    }
+    Ok(())
+}
+
+/// Writes the line of an answer, over this buffer.
+fn write_answer<K: Sink>(
+    alloc: Global,
+    answer: &Answer,
+    line: &mut String,
+    sink: &mut K,
+) -> Result<(), CutShort>
+    ensures text { OnOk result (Appends (K.took sink.old) (K.took sink.new) (answer_line answer.now)) }
+    ensures part { AppendsPart (K.took sink.old) (K.took sink.new) (answer_line answer.now) }
+    ensures same { OnOk result (K.faults sink.new ≡ K.faults sink.old) }
+    ensures cause { IfErr result (CutsWriting (K.faults sink.old) (K.faults sink.new)) }
+{
+    put_line(alloc, answer, line)?;
+    write_all(sink, line.as_bytes())
+}
+
+/// Puts the line of an answer in place of what the buffer held.
+fn put_line(alloc: Global, answer: &Answer, line: &mut String) -> Result<(), OutOfMemory>
+    ensures { OnOk result (string_bytes line.new ≡ answer_line answer.now) }
+{
+    line.clear();
+    push_answer(alloc, line, answer)?;
+    line.push_str("\n")?;
+    Ok(())
+}
+
+/// Writes all bytes.
+fn write_all<K: Sink>(sink: &mut K, text: &[u8]) -> Result<(), CutShort>
+    ensures text { OnOk result (Appends (K.took sink.old) (K.took sink.new) text.now) }
+    ensures part { AppendsPart (K.took sink.old) (K.took sink.new) text.now }
+    ensures same { OnOk result (K.faults sink.new ≡ K.faults sink.old) }
+    ensures cause { IfErr result (λ cut. (cut ≡ CutShort.SinkFailed) × Rose (K.faults sink.old) (K.faults sink.new)) }
+{
+    let mut at = 0;
+    while at < text.len() {
+        match sink.write(&text[at..]) {
+            Ok(count) => at += count,
+            Err(_) => return Err(CutShort::SinkFailed),
+        }
+    }
+    Ok(())
+}
