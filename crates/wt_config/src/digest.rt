@@ -27,7 +27,7 @@ pub enum Sha256DigestFmt {
     DottedHex,
 }
 
-/// A SHA-256 digest (FIPS 180-4): 32 bytes.
+/// A SHA-256 digest (FIPS 180-4): 32 bytes, which are what contracts see of it.
 #[derive(Clone, PartialEq, Eq, PartialOrd, Ord, Hash, Debug, Drop)]
 pub struct Sha256Digest([u8; 32]);
 
