@@ -1,5 +1,5 @@
 -- The walk over a session's stream is steady.
-use Rattle.std.proofs.Common.{◌≡◌, ℕ, Bool, true, List, ◌++◌, Option, Some, None, refl, sym, ap, ◌∙◌}
+use Rattle.std.proofs.Common.{◌≡◌, ℕ, true, List, ◌++◌, Option, Some, None, refl, sym, ap, ◌∙◌}
 use Rattle.wt_proto.specs.declared.session_walk.SessionWalk.{SessionWalk}
 use Rattle.wt_proto.specs.declared.side.StreamEnd.{StreamEnd}
 use Rattle.wt_proto.specs.declared.side.StreamEnd.TheVariants.{Running}
