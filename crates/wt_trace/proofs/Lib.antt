@@ -17,4 +17,6 @@ pub mod RunLaws
 pub mod Turned
 pub mod Tells
 pub mod EachTurn
+pub mod AllTurns
+pub mod Cutting
 pub mod LawsHold

@@ -117,7 +117,7 @@ reached h Start = AtStart
 reached h (More g t i l b) = Later (then_turn Server g t) (replays g t (reached g i) l b).facts
 
 -- nothing happens on a client yet
-client-none : (t : Turn) → is_lawful Client [] t ≡ false
+pub client-none : (t : Turn) → is_lawful Client [] t ≡ false
 client-none (turns.Connected uni bi credit datagrams) = refl
 client-none turns.PeerUni = refl
 client-none turns.PeerBi = refl

@@ -18,8 +18,12 @@ use Rattle.wt_trace.specs.declared.turn.Turn.TheVariants as turns
 use Rattle.wt_trace.specs.declared.trace.TraceError.{TraceError}
 use Rattle.wt_trace.specs.declared.trace.TraceError.TheVariants as errors
 use Rattle.wt_trace.specs.Exchanges.{Exchange, exchanges, brought, opened_unis, opened_bis, was_given, session_of, was_accepted, read_from, settings_came, request_waits, stream_waits, behind_header, unread_of}
+use Rattle.wt_trace.specs.declared.script.Script.{Script}
+use Rattle.wt_trace.specs.declared.script.ScriptRefused.{ScriptRefused}
+use Rattle.wt_trace.specs.History.{Past, deeds}
+use Rattle.wt_trace.specs.Next.{run, run_from, next, then_turn, joined, past_of}
 use Rattle.wt_trace.specs.Seam.{is_among, own_uni, peer_bi, peer_uni}
-use Rattle.wt_trace.specs.Session.{accepting_response}
+use Rattle.wt_trace.specs.Session.{accepting_response, MayStand, standing}
 
 -- a fact of each exchange and those before it
 abbrev pub AllAlong : (List Exchange → Exchange → Type 0) → List Exchange → List Exchange → Type 0
@@ -165,3 +169,19 @@ pub record KeepsLaws (side : Side) (before : List Exchange) (x : Exchange) : Typ
   pub pending : PendingWhereNothingIsLeft side before x
   pub replies : RepliesHaveCauses side before x
   pub actions : ActionsHaveCauses side before x
+
+-- the answers to the turns of a script keep them
+abbrev pub ScriptKeepsLaws : Result Script ScriptRefused → Type 0
+ScriptKeepsLaws (Ok script) = HoldsOf (KeepsLaws script.side) script.turns (run script.side script.turns).answers
+ScriptKeepsLaws (Err refused) = Unit {0}
+
+-- ---- in the words of histories
+
+-- the session that stands after the first n turns may stand
+abbrev pub StandsWhereItMay : Side → List Turn → ℕ → Type 0
+StandsWhereItMay side ts n = (s : ℕ) → standing (deeds (past_of side (take n ts))) ≡ Some s → MayStand side (past_of side (take n ts)) s
+
+-- A piece cut in two leaves every later answer equal, and its own answer is that of its parts, joined.
+pub record CutsWell (side : Side) (h : Past) (id : ℕ) (first second : List ℕ) : Type 0 where
+  pub later : (ts : List Turn) → run_from side (then_turn side (then_turn side h (turns.Bytes id first)) (turns.Bytes id second)) ts ≡ run_from side (then_turn side h (turns.Bytes id (first ++ second))) ts
+  pub actions : joined ((next side h (turns.Bytes id first)).actions ++ (next side (then_turn side h (turns.Bytes id first)) (turns.Bytes id second)).actions) ≡ (next side h (turns.Bytes id (first ++ second))).actions
