@@ -1,5 +1,6 @@
 -- Which of the peer's streams are taken and ripe, and what this end's own control stream sends: one recursion over
--- the moments of a history.
+-- the moments of a history. That a control stream is opened first, with SETTINGS as its first frame, is RFC 9114,
+-- sections 3.2 and 6.2.1; how many streams are taken at once is this repository's own, after the Rust crate.
 use Rattle.std.specs.Prelude.{ℕ, zero, suc, ◌+◌, ◌*◌, List, [], ◌∷◌, ◌++◌, length, take, drop, Option, Some, None, Bool, true, false, nat_lt, ◌==◌, ◌||◌, ◌&&◌, not, if◌then◌else◌}
 use Rattle.std.specs.List.{list_any}
 use Rattle.wt_proto.specs.declared.side.Side.{Side}
