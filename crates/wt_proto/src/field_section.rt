@@ -104,10 +104,10 @@ fn write_line(out: &mut Vec<u8>, name: &str, value: &str) -> Result<(), OutOfMem
 
 /// The field section of these fields, a literal field line each.
 #[tactic(auto, using(crate::proofs::WrittenSections::lines_more))]
-pub(crate) fn write_section(alloc: Global, list: &HeaderList) -> Result<Vec<u8>, OutOfMemory>
+pub(crate) fn write_section(list: &HeaderList) -> Result<Vec<u8>, OutOfMemory>
     ensures { IfOk result (λ v. v.items ≡ section_bytes list.now) }
 {
-    let mut out = Vec::new(alloc);
+    let mut out = Vec::new(*list.allocator());
     out.push(0)?;
     out.push(0)?;
     for place in 0..list.len() {

@@ -28,7 +28,7 @@ fn headers_of(rt: &HostRuntime, payload: &[u8]) -> Result<Result<Headers, ErrorC
 #[test]
 fn request_is_written_and_read(rt: HostRuntime) -> Result<(), Fail> {
     let request = SessionRequest::new(rt.alloc(), "h", "/")?;
-    let frame = request.generate_frame(rt.alloc())?;
+    let frame = request.generate_frame()?;
     assert_eq!(rt; frame.kind(), FrameKind::Headers);
     assert_eq!(rt; frame.payload(), REQUEST.as_slice());
     let mut bytes = Vec::new(rt.alloc());
@@ -95,7 +95,7 @@ fn long_texts_are_read_back(rt: HostRuntime) -> Result<(), Fail> {
     let mut headers = Headers::new(rt.alloc());
     headers.insert("name-of-seven", long.as_str())?;
     headers.insert(long.as_str(), "")?;
-    let frame = headers.generate_frame(rt.alloc())?;
+    let frame = headers.generate_frame()?;
     let again = Headers::with_frame(rt.alloc(), &frame)?
         .ok()
         .ok_or("refused")?;
@@ -110,7 +110,7 @@ fn lists_are_copied(rt: HostRuntime) -> Result<(), Fail> {
     assert!(rt; list.is_empty());
     list.set("b", "1")?;
     list.set("b", "2")?;
-    let copy = list.copy(rt.alloc())?;
+    let copy = list.copy()?;
     assert_eq!(rt; copy, list);
     assert_eq!(rt; copy.get("b"), Some("2"));
     list.set("", "")?;
@@ -130,7 +130,7 @@ fn a_request_takes_fields(rt: HostRuntime) -> Result<(), Fail> {
 }
 
 fn payload_of(rt: &HostRuntime, response: &SessionResponse) -> Result<Frame, Fail> {
-    Ok(response.generate_frame(rt.alloc())?)
+    Ok(response.generate_frame()?)
 }
 
 #[test]
@@ -236,7 +236,7 @@ fn texts_are_utf8(rt: HostRuntime) -> Result<(), Fail> {
     }
     let text = from_utf8(b"a\xc3\xa4\xe2\x82\xac\xf0\x9f\x98\x80".as_slice()).ok_or("no text")?;
     let text = Text::from_text(rt.alloc(), text)?;
-    assert_eq!(rt; text.copy(rt.alloc())?.as_str(), "a\u{e4}\u{20ac}\u{1f600}");
+    assert_eq!(rt; text.copy()?.as_str(), "a\u{e4}\u{20ac}\u{1f600}");
     Ok(())
 }
 

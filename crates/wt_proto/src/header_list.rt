@@ -81,7 +81,7 @@ fn copied(alloc: Global, fields: &[(Text, Text)]) -> Result<Vec<(Text, Text)>, O
 {
     let mut copied = Vec::new(alloc);
     for field in fields {
-        copied.push((field.0.copy(alloc)?, field.1.copy(alloc)?))?;
+        copied.push((field.0.copy()?, field.1.copy()?))?;
     }
     Ok(copied)
 }
@@ -162,12 +162,17 @@ impl HeaderList {
     }
 
     /// A list with the same fields.
-    pub fn copy(&self, alloc: Global) -> Result<HeaderList, OutOfMemory>
+    pub fn copy(&self) -> Result<HeaderList, OutOfMemory>
         ensures { IfOk result (λ h. h ≡ self.now) }
     {
         Ok(HeaderList {
-            fields: copied(alloc, self.fields.as_slice())?,
+            fields: copied(*self.fields.allocator(), self.fields.as_slice())?,
         })
+    }
+
+    /// The allocator that gives its memory.
+    pub(crate) fn allocator(&self) -> &Global {
+        self.fields.allocator()
     }
 }
 

@@ -24,7 +24,7 @@ impl Lookup {
         match self {
             Lookup::Found(address) => Ok(Lookup::Found(*address)),
             Lookup::NotFound => Ok(Lookup::NotFound),
-            Lookup::Fault(reason) => Ok(Lookup::Fault(reason.copy(alloc)?)),
+            Lookup::Fault(reason) => Ok(Lookup::Fault(Text::from_text(alloc, reason.as_str())?)),
         }
     }
 }
@@ -54,7 +54,7 @@ impl ConnectOutcome {
             ConnectOutcome::EndpointStopping => Ok(ConnectOutcome::EndpointStopping),
             ConnectOutcome::CidsExhausted => Ok(ConnectOutcome::CidsExhausted),
             ConnectOutcome::InvalidServerName(name) => {
-                Ok(ConnectOutcome::InvalidServerName(name.copy(alloc)?))
+                Ok(ConnectOutcome::InvalidServerName(Text::from_text(alloc, name.as_str())?))
             }
             ConnectOutcome::InvalidRemoteAddress(address) => {
                 Ok(ConnectOutcome::InvalidRemoteAddress(*address))

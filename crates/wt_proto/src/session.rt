@@ -187,11 +187,11 @@ impl SessionRequest {
     }
 
     /// A HEADERS frame of its fields.
-    pub fn generate_frame(&self, alloc: Global) -> Result<Frame, OutOfMemory>
+    pub fn generate_frame(&self) -> Result<Frame, OutOfMemory>
         ensures frame { IfOk result (λ f. f ≡ record { kind = kinds.Headers; payload = section_bytes self.now; session = None }) }
         ensures again { AreShort self.now → IfOk result (λ f. headers_of f.payload ≡ Ok self.now) }
     {
-        self.headers.generate_frame(alloc)
+        self.headers.generate_frame()
     }
 }
 
@@ -301,10 +301,10 @@ impl SessionResponse {
     }
 
     /// A HEADERS frame of its fields.
-    pub fn generate_frame(&self, alloc: Global) -> Result<Frame, OutOfMemory>
+    pub fn generate_frame(&self) -> Result<Frame, OutOfMemory>
         ensures frame { IfOk result (λ f. f ≡ record { kind = kinds.Headers; payload = section_bytes self.now; session = None }) }
         ensures again { AreShort self.now → IfOk result (λ f. headers_of f.payload ≡ Ok self.now) }
     {
-        self.headers.generate_frame(alloc)
+        self.headers.generate_frame()
     }
 }

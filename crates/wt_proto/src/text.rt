@@ -38,10 +38,10 @@ impl Text {
     }
 
     /// A text with the same characters.
-    pub fn copy(&self, alloc: Global) -> Result<Text, OutOfMemory>
+    pub fn copy(&self) -> Result<Text, OutOfMemory>
         ensures { IfOk result (λ t. t ≡ self.now) }
     {
-        Text::from_text(alloc, self.as_str())
+        Text::from_text(*self.text.allocator(), self.as_str())
     }
 }
 

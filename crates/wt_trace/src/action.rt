@@ -121,6 +121,11 @@ impl Actions {
         Ok(copied)
     }
 
+    /// The allocator that gives its memory.
+    pub(crate) fn allocator(&self) -> &Global {
+        self.items.allocator()
+    }
+
     /// Whether both are the same actions in the same order.
     #[tactic(auto, using(crate::specs::Equality::actions_decide))]
     pub fn is_equal(&self, other: &Actions) -> bool

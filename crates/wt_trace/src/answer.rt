@@ -32,7 +32,7 @@ pub enum Reply {
 
 impl Reply {
     /// A reply that is equal to this one.
-    pub fn copy(&self, alloc: Global) -> Result<Reply, OutOfMemory>
+    pub fn copy(&self, _alloc: Global) -> Result<Reply, OutOfMemory>
         ensures { IfOk result (λ r. r ≡ self.now) }
     {
         Ok(match self {
@@ -42,7 +42,7 @@ impl Reply {
             Reply::NoStream => Reply::NoStream,
             Reply::Request { id, headers } => Reply::Request {
                 id: *id,
-                headers: headers.copy(alloc)?,
+                headers: headers.copy()?,
             },
             Reply::Session(id) => Reply::Session(*id),
             Reply::Uni(id) => Reply::Uni(*id),
@@ -133,11 +133,11 @@ pub struct Answer {
 
 impl Answer {
     /// An answer that is equal to this one.
-    pub fn copy(&self, alloc: Global) -> Result<Answer, OutOfMemory>
+    pub fn copy(&self) -> Result<Answer, OutOfMemory>
         ensures { IfOk result (λ a. a ≡ self.now) }
     {
         Ok(Answer {
-            reply: self.reply.copy(alloc)?,
+            reply: self.reply.copy(*self.actions.allocator())?,
             actions: self.actions.copy()?,
         })
     }
@@ -195,10 +195,9 @@ impl Answers {
     pub fn copy(&self) -> Result<Answers, OutOfMemory>
         ensures { IfOk result (λ answers. answers ≡ self.now) }
     {
-        let alloc = *self.items.allocator();
-        let mut copied = Answers::new(alloc);
+        let mut copied = Answers::new(*self.items.allocator());
         for answer in self.items.as_slice() {
-            copied.push(answer.copy(alloc)?)?;
+            copied.push(answer.copy()?)?;
         }
         Ok(copied)
     }

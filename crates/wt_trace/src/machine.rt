@@ -215,7 +215,7 @@ impl Core {
     {
         let has_settings = have_settings_come(self.alloc, self.unis.as_slice())?;
         let verdict = request_verdict(self.alloc, self.bis.as_slice())?;
-        let reply = reply_with_request(self.alloc, has_settings, verdict)?;
+        let reply = reply_with_request(has_settings, verdict)?;
         if let Reply::Request { id, .. } = &reply {
             self.progress = Progress::Given(*id);
         }

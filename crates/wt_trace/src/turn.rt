@@ -34,13 +34,13 @@ pub enum Call {
 
 impl Call {
     /// A call that is equal to this one.
-    pub fn copy(&self, alloc: Global) -> Result<Call, OutOfMemory>
+    pub fn copy(&self, _alloc: Global) -> Result<Call, OutOfMemory>
         ensures { IfOk result (λ c. c ≡ self.now) }
     {
         Ok(match self {
             Call::Incoming => Call::Incoming,
             Call::Accept { headers } => Call::Accept {
-                headers: headers.copy(alloc)?,
+                headers: headers.copy()?,
             },
             Call::AcceptUni => Call::AcceptUni,
             Call::Read { id, size } => Call::Read {
