@@ -153,9 +153,9 @@ impl HeaderList {
         Ok(())
     }
 
-    /// Whether the other list has the same fields, as `==` answers it.
+    /// Whether both have the same fields.
     #[tactic(auto, using(crate::proofs::EqualityLaws::fields_same))]
-    pub fn has_same_fields(&self, other: &HeaderList) -> bool
+    pub fn is_equal(&self, other: &HeaderList) -> bool
         ensures { IsTrue result ↔ (self.now ≡ other.now) }
     {
         self == other

@@ -1,4 +1,4 @@
-ghost use Rattle.std.specs.Prelude.{◌≡◌, IfOk};
+ghost use Rattle.std.specs.Prelude.{◌≡◌, ◌↔◌, IfOk, IsTrue};
 
 use crate::addr::Addr;
 use crate::error::OutOfMemory;
@@ -17,6 +17,13 @@ pub enum Lookup {
 }
 
 impl Lookup {
+    /// Whether both are the same answer with the same fields.
+    pub fn is_equal(&self, other: &Lookup) -> bool
+        ensures { IsTrue result ↔ (self.now ≡ other.now) }
+    {
+        self == other
+    }
+
     /// The same answer.
     pub fn copy(&self, alloc: Global) -> Result<Lookup, OutOfMemory>
         ensures { IfOk result (λ l. l ≡ self.now) }
@@ -45,6 +52,13 @@ pub enum ConnectOutcome {
 }
 
 impl ConnectOutcome {
+    /// Whether both are the same answer with the same fields.
+    pub fn is_equal(&self, other: &ConnectOutcome) -> bool
+        ensures { IsTrue result ↔ (self.now ≡ other.now) }
+    {
+        self == other
+    }
+
     /// The same answer.
     pub fn copy(&self, alloc: Global) -> Result<ConnectOutcome, OutOfMemory>
         ensures { IfOk result (λ o. o ≡ self.now) }

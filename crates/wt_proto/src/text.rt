@@ -43,6 +43,13 @@ impl Text {
     {
         Text::from_text(*self.text.allocator(), self.as_str())
     }
+
+    /// Whether both have the same characters.
+    pub fn is_equal(&self, other: &Text) -> bool
+        ensures { IsTrue result ↔ (self.now ≡ other.now) }
+    {
+        self.text.as_bytes() == other.text.as_bytes()
+    }
 }
 
 impl PartialEq for Text {
