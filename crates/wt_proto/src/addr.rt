@@ -1,3 +1,4 @@
+//! Socket addresses and their text.
 ghost use Rattle.std.specs.Prelude.{◌≡◌, ◌↔◌, IsTrue};
 
 use std::fmt;

@@ -1,3 +1,4 @@
+//! Field sections of literal field lines with literal names (RFC 9204, section 4.5).
 ghost use Rattle.std.specs.Prelude.{◌≡◌, ◌<◌, ◌≤◌, ◌+◌, ◌++◌, length, IfSome, IfOk, OnOk};
 ghost use Rattle.std.specs.Option.{option_map};
 ghost use Rattle.wt_proto.specs.FieldSection.{line_at, line_bytes, lines_from, section_at, section_bytes, string_at, string_bytes_of};

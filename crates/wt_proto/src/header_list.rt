@@ -1,3 +1,4 @@
+//! Header fields in their order.
 ghost use Rattle.std.specs.Prelude.{◌≡◌, ◌<◌, ◌≤◌, ◌∷◌, [], IfOk, OnOk, OnErr, IsTrue, ◌↔◌, length, take, drop, ◌++◌, slice_get, slice_set, insert, slice_index_or, Some, List, ℕ, MatchResult, IfErr, false};
 ghost use Rattle.std.specs.Option.{option_copied};
 ghost use Rattle.std.specs.Str.{bytes_eq};

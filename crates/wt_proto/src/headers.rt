@@ -1,3 +1,4 @@
+//! HEADERS frames (RFC 9114, section 7.2.2).
 ghost use Rattle.std.specs.Prelude.{◌≡◌, [], IfErr, IfOk, OnOk, OnErr, Ok, Err, None};
 ghost use Rattle.std.specs.Option.{option_copied};
 ghost use Rattle.wt_proto.specs.FieldSection.{AreShort, headers_of, section_bytes};

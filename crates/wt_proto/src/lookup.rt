@@ -1,3 +1,4 @@
+//! What a resolver and QUIC answer when a connection is asked for.
 ghost use Rattle.std.specs.Prelude.{◌≡◌, ◌↔◌, IfOk, IsTrue};
 
 use crate::addr::Addr;

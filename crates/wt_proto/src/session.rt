@@ -1,3 +1,4 @@
+//! Requests for a session and the responses to them (RFC 9220, section 3; RFC 9114, section 4.3).
 ghost use Rattle.std.specs.Prelude.{IfOk, OnOk, OnErr, is_err, if◌then◌else◌, ◌≡◌, nat_eq, codes, is_some, Some, None, Ok};
 ghost use Rattle.std.specs.Option.{option_copied};
 ghost use Rattle.std.specs.Str.{bytes_eq};
@@ -20,7 +21,7 @@ use std::marker::Model;
 pub enum HeadersParseError {
     /// There is a `:method`, and it isn't `CONNECT`.
     MethodNotConnect,
-    /// Another field that a request needs is missing or has another value.
+    /// `:method` is missing, or another field that a request needs is missing or has another value.
     Other,
 }
 

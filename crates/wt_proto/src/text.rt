@@ -1,3 +1,4 @@
+//! Texts that are kept.
 ghost use Rattle.std.specs.Prelude.{◌≡◌, IfOk, IsTrue, ◌↔◌};
 ghost use Rattle.std.specs.Str.{IsUtf8};
 
