@@ -238,6 +238,7 @@ fn texts_are_utf8(rt: HostRuntime) -> Result<(), Fail> {
     let text = from_utf8(b"a\xc3\xa4\xe2\x82\xac\xf0\x9f\x98\x80".as_slice()).ok_or("no text")?;
     let text = Text::from_text(rt.alloc(), text)?;
     assert!(rt; text.copy()?.is_equal(&text));
+    assert!(rt; Text::from_string(text.copy()?.into_string()).is_equal(&text));
     assert_eq!(rt; text.copy()?.as_str(), "a\u{e4}\u{20ac}\u{1f600}");
     Ok(())
 }
