@@ -103,6 +103,20 @@ impl Actions {
         Ok(())
     }
 
+    /// A list that keeps this vector.
+    pub fn from_vec(items: Vec<Action>) -> Actions
+        ensures { result ≡ items.items }
+    {
+        Actions { items }
+    }
+
+    /// The vector of the actions.
+    pub fn into_vec(self) -> Vec<Action>
+        ensures { result.items ≡ self }
+    {
+        self.items
+    }
+
     /// The actions as a slice.
     pub fn as_slice(&self) -> &[Action]
         ensures { result.now ≡ self.now }

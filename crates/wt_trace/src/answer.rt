@@ -95,7 +95,6 @@ impl Reply {
     }
 }
 
-#[tactic(auto, using(wt_proto::proofs::EqualityLaws::fields_decide))]
 fn is_same_request(
     id: SessionId,
     headers: &HeaderList,
@@ -104,7 +103,7 @@ fn is_same_request(
 ) -> bool
     ensures { IsTrue result ↔ ((id ≡ other_id) × (headers.now ≡ other_headers.now)) }
 {
-    id == other_id && headers == other_headers
+    id == other_id && headers.is_equal(other_headers)
 }
 
 fn is_same_read(piece: &Option<Piece>, other: &Option<Piece>) -> bool
@@ -182,6 +181,20 @@ impl Answers {
     {
         self.items.push(answer)?;
         Ok(())
+    }
+
+    /// A list that keeps this vector.
+    pub fn from_vec(items: Vec<Answer>) -> Answers
+        ensures { result ≡ items.items }
+    {
+        Answers { items }
+    }
+
+    /// The vector of the answers.
+    pub fn into_vec(self) -> Vec<Answer>
+        ensures { result.items ≡ self }
+    {
+        self.items
     }
 
     /// The answers as a slice.

@@ -191,6 +191,20 @@ impl Turns {
         Ok(())
     }
 
+    /// A list that keeps this vector.
+    pub fn from_vec(items: Vec<Turn>) -> Turns
+        ensures { result ≡ items.items }
+    {
+        Turns { items }
+    }
+
+    /// The vector of the turns.
+    pub fn into_vec(self) -> Vec<Turn>
+        ensures { result.items ≡ self }
+    {
+        self.items
+    }
+
     /// The turns as a slice.
     pub fn as_slice(&self) -> &[Turn]
         ensures { result.now ≡ self.now }
