@@ -14,7 +14,7 @@ pub trait DnsResolver: Drop {
     // What each host, as the bytes of its text, is looked up to.
     ghost lookup_of: { Self → List ℕ → Lookup };
 
-    /// What this host is looked up to. `host` is a name or an address, a colon and a port.
+    /// What this host is looked up to. `host` is a domain, a colon and a port.
     ///
     /// # Errors
     ///

@@ -26,12 +26,15 @@ abbrev pub headers_verdict : ℕ → Result Fields ErrorCode → Verdict
 headers_verdict at (Ok fields) = parsed_verdict at (request_of fields)
 headers_verdict at (Err fault) = Fault fault
 
--- the first frame that isn't skipped, in front of this offset
+-- the first frame that isn't skipped (so `Skipped` never comes here), in front of this offset
+-- a signal may stand behind frames that are skipped (this repository's rule; draft-ietf-webtrans-http3, section 4.3, has it at the very front, and asks H3_FRAME_ERROR elsewhere)
 abbrev pub bi_judged : frames.Frame → ℕ → Verdict
 bi_judged (frames.Signal id) at = session_verdict id at
 bi_judged (frames.Headers payload) at = headers_verdict at (headers_of payload)
 bi_judged frames.TooLong at = Fault ExcessiveLoad
-bi_judged frame at = Fault FrameUnexpected
+bi_judged (frames.Data payload) at = Fault FrameUnexpected
+bi_judged (frames.Settings payload) at = Fault FrameUnexpected
+bi_judged (frames.Skipped kind) at = Fault FrameUnexpected
 
 unfoldable pub bi_decides : ℕ → List ℕ → Step ℕ Verdict
 bi_decides at bytes = frames.decided (frames.first_judged bi_judged at) (frames.frame_at varint_at bytes)

@@ -23,11 +23,14 @@ on_settings None size payload = settings_step size (settings_of payload)
 on_settings (Some settings) size payload = Stops FrameUnexpected size
 
 -- before SETTINGS an exercise frame is a fault with its last byte; every other frame is skipped
+-- (this repository's rule; RFC 9114, section 6.2.1, asks H3_MISSING_SETTINGS for each frame that comes before SETTINGS)
 abbrev pub on_skipped : Option Settings → ℕ → ℕ → Step (Option Settings) ErrorCode
 on_skipped None size kind = if frames.is_exercise kind then Stops MissingSettings size else Goes None size
 on_skipped (Some settings) size kind = Goes (Some settings) size
 
 -- the state is the settings that came
+-- DATA and HEADERS are one fault, before SETTINGS too (this repository's rule; RFC 9114 asks H3_FRAME_UNEXPECTED in sections 7.2.1 and 7.2.2, and before SETTINGS also H3_MISSING_SETTINGS in section 6.2.1)
+-- a signal is the same fault, 0x105 (this repository's rule; draft-ietf-webtrans-http3, section 4.3, asks H3_FRAME_ERROR)
 abbrev pub control_effect : Option Settings → ℕ → frames.Frame → Step (Option Settings) ErrorCode
 control_effect settings size (frames.Data payload) = Stops FrameUnexpected size
 control_effect settings size (frames.Headers payload) = Stops FrameUnexpected size

@@ -59,6 +59,7 @@ lines_from fields (suc k) (b ∷ bytes) = lines_from fields k bytes
 lines_from fields zero (b ∷ bytes) = then_lines (line_at (b ∷ bytes)) (λ l. lines_from (with_field l.name l.value fields) (l.len - 1) bytes)
 
 -- a field section: 00 00, which says that no table is used (RFC 9204 section 4.5.1), and lines; a repeated name keeps the last value
+-- (this repository's rule; RFC 9110, section 5.3, combines the values of a repeated name in their order, and RFC 9204, section 4.5, also has lines that name entries of tables, and Huffman code)
 abbrev pub behind_zero : List ℕ → Option Fields
 behind_zero [] = None
 behind_zero (b ∷ bytes) = if b == 0 then lines_from [] 0 bytes else None

@@ -37,8 +37,12 @@ kind_fits WebTransport None payload = ⊥
 kind_fits WebTransport (Some session) payload = payload ≡ []
 kind_fits (Exercise number) None payload = IsTrue (frames.is_exercise number)
 kind_fits (Exercise number) (Some session) payload = ⊥
-kind_fits _ None payload = Unit {0}
-kind_fits _ (Some session) payload = ⊥
+kind_fits Data None payload = Unit {0}
+kind_fits Data (Some session) payload = ⊥
+kind_fits Headers None payload = Unit {0}
+kind_fits Headers (Some session) payload = ⊥
+kind_fits Settings None payload = Unit {0}
+kind_fits Settings (Some session) payload = ⊥
 
 abbrev pub IsFrame : FrameParts → Type 0
 IsFrame f = kind_fits f.kind f.session f.payload
@@ -47,7 +51,9 @@ IsFrame f = kind_fits f.kind f.session f.payload
 abbrev pub size_fits : FrameKind → ℕ → Type 0
 size_fits WebTransport size = Unit {0}
 size_fits (Exercise number) size = Unit {0}
-size_fits _ size = size ≤ 4096
+size_fits Data size = size ≤ 4096
+size_fits Headers size = size ≤ 4096
+size_fits Settings size = size ≤ 4096
 
 abbrev pub IsReadable : FrameParts → Type 0
 IsReadable f = size_fits f.kind (length f.payload)

@@ -12,6 +12,7 @@ abbrev pub behind_full : ℕ → Option (ℕ × ℕ) → Option (ℕ × ℕ)
 behind_full full = option_map (λ p. (full + p.0, p.1 + 1))
 
 -- the integer in the low bits of the first byte, which are all ones at full, and in at most four further bytes; value and length
+-- (four is this repository's rule; RFC 9204, section 4.1.1, asks for integers of up to 62 bits)
 unfoldable pub prefixed_at : ℕ → List ℕ → Option (ℕ × ℕ)
 prefixed_at full [] = None
 prefixed_at full (b ∷ bytes) = if nat_lt (b % (full + 1)) full then Some (b % (full + 1), 1) else behind_full full (continuation_at 4 bytes)

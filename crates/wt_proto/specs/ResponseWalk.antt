@@ -23,11 +23,14 @@ abbrev pub headers_response : ℕ → Result Fields ErrorCode → ResponseWalk
 headers_response at (Ok fields) = parsed_response at (response_of fields)
 headers_response at (Err fault) = Fault fault
 
--- the first frame that isn't skipped, in front of this offset
+-- the first frame that isn't skipped (so `Skipped` never comes here), in front of this offset
 abbrev pub response_judged : frames.Frame → ℕ → ResponseWalk
 response_judged (frames.Headers payload) at = headers_response at (headers_of payload)
 response_judged frames.TooLong at = Fault ExcessiveLoad
-response_judged frame at = Fault FrameUnexpected
+response_judged (frames.Data payload) at = Fault FrameUnexpected
+response_judged (frames.Settings payload) at = Fault FrameUnexpected
+response_judged (frames.Signal id) at = Fault FrameUnexpected
+response_judged (frames.Skipped kind) at = Fault FrameUnexpected
 
 unfoldable pub response_decides : ℕ → List ℕ → Step ℕ ResponseWalk
 response_decides at bytes = frames.decided (frames.first_judged response_judged at) (frames.frame_at frames.unread bytes)
@@ -44,4 +47,6 @@ response_walk_of bytes end = or_waiting end (walked response_decides 0 bytes).st
 -- an outcome that more bytes and an end don't change
 abbrev pub is_answered : ResponseWalk → Bool
 is_answered Waiting = false
-is_answered _ = true
+is_answered (Response response at) = true
+is_answered Ended = true
+is_answered (Fault fault) = true

@@ -18,12 +18,15 @@ abbrev pub closed_by : Result CloseWebTransportSession ErrorCode → SessionWalk
 closed_by (Ok close) = walks.Closed close.error_code close.reason
 closed_by (Err fault) = walks.Fault fault
 
--- a payload with no such capsule at its front is skipped
+-- a payload with no such capsule at its front is skipped, so the capsule has to stand in one DATA frame, at its front
+-- (this repository's rule; RFC 9297, section 3.2, has capsules one behind the other in a stream of bytes, which DATA frames cut anywhere)
 abbrev pub on_capsule : ℕ → Option (List ℕ) → Step (Unit {0}) SessionWalk
 on_capsule size None = Goes tt size
 on_capsule size (Some value) = Stops (closed_by (close_of value)) size
 
 -- the walk has one state
+-- HEADERS are skipped (this repository's rule; RFC 9114, section 4.4, asks H3_FRAME_UNEXPECTED)
+-- a signal is the fault of an unexpected frame (this repository's rule; draft-ietf-webtrans-http3, section 4.3, asks H3_FRAME_ERROR)
 abbrev pub session_effect : Unit {0} → ℕ → frames.Frame → Step (Unit {0}) SessionWalk
 session_effect state size (frames.Data payload) = on_capsule size (close_value_at payload)
 session_effect state size (frames.Headers payload) = Goes tt size
@@ -55,4 +58,5 @@ session_walk_of bytes end = session_end end (walked session_decides tt bytes)
 -- an outcome that more bytes and an end don't change
 abbrev pub is_over : SessionWalk → Bool
 is_over walks.Running = false
-is_over _ = true
+is_over (walks.Closed code reason) = true
+is_over (walks.Fault fault) = true

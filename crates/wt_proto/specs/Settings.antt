@@ -69,7 +69,8 @@ abbrev pub go_on : Result Settings ErrorCode → (Settings → Result Settings E
 go_on (Ok s) f = f s
 go_on (Err e) f = Err e
 
--- a cut pair is a frame error, whatever its id
+-- a cut pair is a frame error (RFC 9114, section 7.1), whatever its id, where no pair before it is at fault
+-- (this order is the repository's rule; RFC 9114 doesn't say which of several faults is told)
 abbrev pub judged : Settings → Option Pair → (Pair → Settings → Result Settings ErrorCode) → Result Settings ErrorCode
 judged s None f = Err errors.Frame
 judged s (Some p) f = go_on (with_pair s p.id p.value) (f p)

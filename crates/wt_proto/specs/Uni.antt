@@ -4,7 +4,7 @@ use Rattle.wt_proto.specs.declared.error.ErrorCode.TheVariants.{Id}
 use Rattle.wt_proto.specs.declared.side.StreamEnd.{StreamEnd}
 use Rattle.wt_proto.specs.declared.side.StreamEnd.TheVariants.{Running, Fin, Reset}
 use Rattle.wt_proto.specs.declared.verdict.Verdict.{Verdict}
-use Rattle.wt_proto.specs.declared.verdict.Verdict.TheVariants.{Incomplete, WebTransport, Control, Encoder, Decoder, Dropped, Fault}
+use Rattle.wt_proto.specs.declared.verdict.Verdict.TheVariants.{Incomplete, WebTransport, Control, Encoder, Decoder, Request, Refused, Dropped, Fault}
 use Rattle.wt_proto.specs.Varint.{varint_at}
 
 -- the bytes end inside the header: more may come, or never
@@ -36,4 +36,11 @@ uni_verdict_of bytes end = with_type bytes end (varint_at bytes)
 -- a verdict that more bytes and an end don't change
 abbrev pub is_final : Verdict → Bool
 is_final Incomplete = false
-is_final _ = true
+is_final (WebTransport session at) = true
+is_final (Control at) = true
+is_final (Encoder at) = true
+is_final (Decoder at) = true
+is_final (Request request at) = true
+is_final (Refused code) = true
+is_final Dropped = true
+is_final (Fault code) = true

@@ -1,3 +1,6 @@
+//! Socket addresses and their text.
+ghost use Rattle.std.specs.Prelude.{◌≡◌, ◌↔◌, IsTrue};
+
 use std::fmt;
 
 /// A socket address, without flow and scope. It is shown as four decimal numbers with dots, or as
@@ -8,6 +11,15 @@ pub enum Addr {
     V4 { ip: u32, port: u16 },
     /// An address of IPv6, its first group the highest.
     V6 { ip: u128, port: u16 },
+}
+
+impl Addr {
+    /// Whether both are of one version, with the same address and the same port.
+    pub fn is_equal(&self, other: &Addr) -> bool
+        ensures { IsTrue result ↔ (self.now ≡ other.now) }
+    {
+        self == other
+    }
 }
 
 /// Four numbers with dots.

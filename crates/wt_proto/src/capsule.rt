@@ -1,3 +1,5 @@
+//! Capsules (RFC 9297, section 3.2), of which the one that closes a session is read
+//! (draft-ietf-webtrans-http3, section 5).
 ghost use Rattle.std.specs.Prelude.{◌≡◌, ◌<◌, ◌≤◌, ◌^◌, length, IfOk, IfErr};
 ghost use Rattle.std.specs.Option.{option_copied};
 ghost use Rattle.wt_proto.specs.Capsule.{capsule_with_size, close_of, close_value_at};

@@ -9,6 +9,7 @@ use crate::settings::Settings;
 use crate::side::StreamEnd;
 use crate::varint::VarInt;
 use crate::walk::Step;
+use std::alloc::Global;
 
 /// What the peer's control stream said up to now: its settings, and the fault with which it ended.
 /// Settings that came before a fault stay.
@@ -84,7 +85,11 @@ fn ended(settings: Option<Settings>, end: StreamEnd) -> ControlWalk
 /// DATA, HEADERS, a second SETTINGS or the signal of a WebTransport stream (FrameUnexpected), a
 /// payload longer than 4,096 bytes (ExcessiveLoad), a fault of the settings, an exercise frame
 /// before them (MissingSettings), and an end (ClosedCriticalStream).
-pub fn control_walk(bytes: &[u8], end: StreamEnd) -> Result<ControlWalk, OutOfMemory>
+pub fn control_walk(
+    _alloc: Global,
+    bytes: &[u8],
+    end: StreamEnd,
+) -> Result<ControlWalk, OutOfMemory>
     ensures { result ≡ Ok (control_walk_of bytes.now end) }
 {
     let mut settings = None;

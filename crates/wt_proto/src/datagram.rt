@@ -1,3 +1,4 @@
+//! HTTP/3 datagrams (RFC 9297, section 2.1).
 ghost use Rattle.std.specs.Prelude.{◌≡◌, ◌++◌, length, IfErr, OnOk, Ok};
 ghost use Rattle.wt_proto.specs.Datagram.{behind_quarter, datagram_bytes, datagram_of};
 ghost use Rattle.wt_proto.specs.Varint.{varint_at, varint_bytes};

@@ -31,20 +31,42 @@ impl<T: Drop> From<AllocFailed<T>> for OutOfMemory {
 /// draft-ietf-webtrans-http3, section 8).
 #[derive(Clone, Copy, Debug, PartialEq, Eq)]
 pub enum ErrorCode {
+    /// 0x33, H3_DATAGRAM_ERROR: a datagram is malformed (RFC 9297, section 5.2).
     Datagram,
+    /// 0x100, H3_NO_ERROR: nothing is wrong, and the connection or stream closes (RFC 9114,
+    /// section 8.1).
     NoError,
+    /// 0x103, H3_STREAM_CREATION_ERROR: the peer opened a stream that it may not open (RFC 9114,
+    /// section 8.1).
     StreamCreation,
+    /// 0x104, H3_CLOSED_CRITICAL_STREAM: a stream that the connection needs ended (RFC 9114,
+    /// section 8.1).
     ClosedCriticalStream,
+    /// 0x105, H3_FRAME_UNEXPECTED: a frame may not come there (RFC 9114, section 8.1).
     FrameUnexpected,
+    /// 0x106, H3_FRAME_ERROR: a frame is malformed (RFC 9114, section 8.1).
     Frame,
+    /// 0x107, H3_EXCESSIVE_LOAD: the peer asks for too much (RFC 9114, section 8.1).
     ExcessiveLoad,
+    /// 0x108, H3_ID_ERROR: an id is used that may not be used there (RFC 9114, section 8.1).
     Id,
+    /// 0x109, H3_SETTINGS_ERROR: the payload of a SETTINGS frame is at fault (RFC 9114,
+    /// section 8.1).
     Settings,
+    /// 0x10a, H3_MISSING_SETTINGS: no SETTINGS frame begins the control stream (RFC 9114,
+    /// section 8.1).
     MissingSettings,
+    /// 0x10b, H3_REQUEST_REJECTED: a request isn't processed (RFC 9114, section 8.1).
     RequestRejected,
+    /// 0x10e, H3_MESSAGE_ERROR: a message of HTTP is malformed (RFC 9114, section 8.1).
     Message,
+    /// 0x200, QPACK_DECOMPRESSION_FAILED: a field section can't be read (RFC 9204, section 8.3).
     Decompression,
+    /// 0x170d7b68, WEBTRANSPORT_SESSION_GONE: the session of a stream is over
+    /// (draft-ietf-webtrans-http3, section 8).
     SessionGone,
+    /// 0x3994bd84, WEBTRANSPORT_BUFFERED_STREAM_REJECTED: a stream came before its session, and too
+    /// many wait (draft-ietf-webtrans-http3, section 8).
     BufferedStreamRejected,
 }
 

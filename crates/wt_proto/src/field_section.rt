@@ -1,3 +1,4 @@
+//! Field sections of literal field lines with literal names (RFC 9204, section 4.5).
 ghost use Rattle.std.specs.Prelude.{◌≡◌, ◌<◌, ◌≤◌, ◌+◌, ◌++◌, length, IfSome, IfOk, OnOk};
 ghost use Rattle.std.specs.Option.{option_map};
 ghost use Rattle.wt_proto.specs.FieldSection.{line_at, line_bytes, lines_from, section_at, section_bytes, string_at, string_bytes_of};
@@ -104,10 +105,10 @@ fn write_line(out: &mut Vec<u8>, name: &str, value: &str) -> Result<(), OutOfMem
 
 /// The field section of these fields, a literal field line each.
 #[tactic(auto, using(crate::proofs::WrittenSections::lines_more))]
-pub(crate) fn write_section(alloc: Global, list: &HeaderList) -> Result<Vec<u8>, OutOfMemory>
+pub(crate) fn write_section(list: &HeaderList) -> Result<Vec<u8>, OutOfMemory>
     ensures { IfOk result (λ v. v.items ≡ section_bytes list.now) }
 {
-    let mut out = Vec::new(alloc);
+    let mut out = Vec::new(*list.allocator());
     out.push(0)?;
     out.push(0)?;
     for place in 0..list.len() {

@@ -28,7 +28,7 @@ fn headers_of(rt: &HostRuntime, payload: &[u8]) -> Result<Result<Headers, ErrorC
 #[test]
 fn request_is_written_and_read(rt: HostRuntime) -> Result<(), Fail> {
     let request = SessionRequest::new(rt.alloc(), "h", "/")?;
-    let frame = request.generate_frame(rt.alloc())?;
+    let frame = request.generate_frame()?;
     assert_eq!(rt; frame.kind(), FrameKind::Headers);
     assert_eq!(rt; frame.payload(), REQUEST.as_slice());
     let mut bytes = Vec::new(rt.alloc());
@@ -95,11 +95,11 @@ fn long_texts_are_read_back(rt: HostRuntime) -> Result<(), Fail> {
     let mut headers = Headers::new(rt.alloc());
     headers.insert("name-of-seven", long.as_str())?;
     headers.insert(long.as_str(), "")?;
-    let frame = headers.generate_frame(rt.alloc())?;
+    let frame = headers.generate_frame()?;
     let again = Headers::with_frame(rt.alloc(), &frame)?
         .ok()
         .ok_or("refused")?;
-    assert!(rt; again.list().has_same_fields(headers.list()));
+    assert!(rt; again.list().is_equal(headers.list()));
     assert!(rt; again.list() == headers.list());
     Ok(())
 }
@@ -110,7 +110,7 @@ fn lists_are_copied(rt: HostRuntime) -> Result<(), Fail> {
     assert!(rt; list.is_empty());
     list.set("b", "1")?;
     list.set("b", "2")?;
-    let copy = list.copy(rt.alloc())?;
+    let copy = list.copy()?;
     assert_eq!(rt; copy, list);
     assert_eq!(rt; copy.get("b"), Some("2"));
     list.set("", "")?;
@@ -131,7 +131,7 @@ fn a_request_takes_fields(rt: HostRuntime) -> Result<(), Fail> {
 }
 
 fn payload_of(rt: &HostRuntime, response: &SessionResponse) -> Result<Frame, Fail> {
-    Ok(response.generate_frame(rt.alloc())?)
+    Ok(response.generate_frame()?)
 }
 
 #[test]
@@ -182,6 +182,7 @@ fn own_settings_are_written_and_read(rt: HostRuntime) -> Result<(), Fail> {
     let payload =
         b"\x01\x00\x07\x00\x08\x01\x33\x01\xab\x60\x37\x42\x01\xc0\x00\x00\x00\xc6\x71\x70\x6a\x01".as_slice();
     let settings = Settings::own();
+    assert!(rt; settings.is_equal(&Settings::own()));
     let frame = settings.generate_frame(rt.alloc())?;
     assert_eq!(rt; frame.payload(), payload);
     assert_eq!(rt; settings_of(&rt, payload)?, Ok(settings));
@@ -237,9 +238,9 @@ fn texts_are_utf8(rt: HostRuntime) -> Result<(), Fail> {
     }
     let text = from_utf8(b"a\xc3\xa4\xe2\x82\xac\xf0\x9f\x98\x80".as_slice()).ok_or("no text")?;
     let text = Text::from_text(rt.alloc(), text)?;
-    assert_eq!(rt; text.copy(rt.alloc())?.as_str(), "a\u{e4}\u{20ac}\u{1f600}");
-    let text = Text::from_string(text.into_string());
-    assert_eq!(rt; text.as_str().len(), 10);
+    assert!(rt; text.copy()?.is_equal(&text));
+    assert!(rt; Text::from_string(text.copy()?.into_string()).is_equal(&text));
+    assert_eq!(rt; text.copy()?.as_str(), "a\u{e4}\u{20ac}\u{1f600}");
     Ok(())
 }
 
@@ -258,6 +259,7 @@ fn addresses_are_shown(rt: HostRuntime) -> Result<(), Fail> {
         six.to_string(rt.alloc())?.as_str(),
         "[2001:db8:0:0:0:ff:fe00:1]:1"
     );
+    assert!(rt; !four.is_equal(&six));
     Ok(())
 }
 
@@ -265,12 +267,15 @@ fn addresses_are_shown(rt: HostRuntime) -> Result<(), Fail> {
 fn answers_are_copied(rt: HostRuntime) -> Result<(), Fail> {
     let address = Addr::V4 { ip: 1, port: 2 };
     let fault = Lookup::Fault(Text::from_text(rt.alloc(), "no")?);
+    assert!(rt; fault.copy(rt.alloc())?.is_equal(&fault));
     assert_eq!(rt; fault.copy(rt.alloc())?, fault);
+    assert!(rt; !fault.is_equal(&Lookup::NotFound));
     assert_eq!(rt;
         Lookup::Found(address).copy(rt.alloc())?,
         Lookup::Found(address)
     );
     let name = ConnectOutcome::InvalidServerName(Text::from_text(rt.alloc(), "n")?);
+    assert!(rt; name.copy(rt.alloc())?.is_equal(&name));
     assert_eq!(rt; name.copy(rt.alloc())?, name);
     let outcome = ConnectOutcome::InvalidRemoteAddress(address);
     assert!(rt; outcome.copy(rt.alloc())? != ConnectOutcome::Proceed);

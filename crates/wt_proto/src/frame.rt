@@ -72,18 +72,21 @@ impl Frame {
         }
     }
 
+    /// A DATA frame (RFC 9114, section 7.2.1).
     pub fn new_data(alloc: Global, payload: &[u8]) -> Result<Frame, OutOfMemory>
         ensures { IfOk result (λ f. f ≡ record { kind = kinds.Data; payload = payload.now; session = None }) }
     {
         Ok(Frame::with_payload(FrameKind::Data, payload.to_vec(alloc)?))
     }
 
+    /// A HEADERS frame (RFC 9114, section 7.2.2).
     pub fn new_headers(alloc: Global, payload: &[u8]) -> Result<Frame, OutOfMemory>
         ensures { IfOk result (λ f. f ≡ record { kind = kinds.Headers; payload = payload.now; session = None }) }
     {
         Ok(Frame::of_headers(payload.to_vec(alloc)?))
     }
 
+    /// A SETTINGS frame (RFC 9114, section 7.2.4).
     pub fn new_settings(alloc: Global, payload: &[u8]) -> Result<Frame, OutOfMemory>
         ensures { IfOk result (λ f. f ≡ record { kind = kinds.Settings; payload = payload.now; session = None }) }
     {
@@ -123,12 +126,14 @@ impl Frame {
         Frame::with_payload(FrameKind::Settings, payload)
     }
 
+    /// What it is.
     pub fn kind(&self) -> FrameKind
         ensures { result ≡ self.now.kind }
     {
         self.kind
     }
 
+    /// Its payload, which is empty in a signal.
     pub fn payload(&self) -> &[u8]
         ensures { result.now ≡ self.now.payload }
     {

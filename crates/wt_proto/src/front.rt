@@ -5,7 +5,8 @@ ghost use Rattle.wt_proto.specs.Frames.{frame_at, with_header};
 
 use crate::varint::{VarInt, read_varint};
 
-/// The longest payload of a frame that is given.
+/// The longest payload of a frame that is given (this repository's rule; RFC 9114, section 7.1,
+/// sets no bound).
 const LONGEST_PAYLOAD: u64 = 4096;
 
 /// The frame at the front. A payload is told by the offset of its first byte and its length.

@@ -1,3 +1,4 @@
+//! Header fields in their order.
 ghost use Rattle.std.specs.Prelude.{◌≡◌, ◌<◌, ◌≤◌, ◌∷◌, [], IfOk, OnOk, OnErr, IsTrue, ◌↔◌, length, take, drop, ◌++◌, slice_get, slice_set, insert, slice_index_or, Some, List, ℕ, MatchResult, IfErr, false};
 ghost use Rattle.std.specs.Option.{option_copied};
 ghost use Rattle.std.specs.Str.{bytes_eq};
@@ -81,7 +82,7 @@ fn copied(alloc: Global, fields: &[(Text, Text)]) -> Result<Vec<(Text, Text)>, O
 {
     let mut copied = Vec::new(alloc);
     for field in fields {
-        copied.push((field.0.copy(alloc)?, field.1.copy(alloc)?))?;
+        copied.push((field.0.copy()?, field.1.copy()?))?;
     }
     Ok(copied)
 }
@@ -160,21 +161,26 @@ impl HeaderList {
         self.fields
     }
 
-    /// Whether the other list has the same fields, as `==` answers it.
+    /// Whether both have the same fields.
     #[tactic(auto, using(crate::proofs::EqualityLaws::fields_same))]
-    pub fn has_same_fields(&self, other: &HeaderList) -> bool
+    pub fn is_equal(&self, other: &HeaderList) -> bool
         ensures { IsTrue result ↔ (self.now ≡ other.now) }
     {
         self == other
     }
 
     /// A list with the same fields.
-    pub fn copy(&self, alloc: Global) -> Result<HeaderList, OutOfMemory>
+    pub fn copy(&self) -> Result<HeaderList, OutOfMemory>
         ensures { IfOk result (λ h. h ≡ self.now) }
     {
         Ok(HeaderList {
-            fields: copied(alloc, self.fields.as_slice())?,
+            fields: copied(*self.fields.allocator(), self.fields.as_slice())?,
         })
+    }
+
+    /// The allocator that gives its memory.
+    pub(crate) fn allocator(&self) -> &Global {
+        self.fields.allocator()
     }
 }
 

@@ -1,3 +1,4 @@
+//! HEADERS frames (RFC 9114, section 7.2.2).
 ghost use Rattle.std.specs.Prelude.{◌≡◌, [], IfErr, IfOk, OnOk, OnErr, Ok, Err, None};
 ghost use Rattle.std.specs.Option.{option_copied};
 ghost use Rattle.wt_proto.specs.FieldSection.{AreShort, headers_of, section_bytes};
@@ -61,22 +62,22 @@ impl Headers {
         }
     }
 
-    fn section(&self, alloc: Global) -> Result<Vec<u8>, OutOfMemory>
+    fn section(&self) -> Result<Vec<u8>, OutOfMemory>
         ensures bytes { IfOk result (λ v. v.items ≡ section_bytes self.now) }
         ensures ordered { IsHeaderList self.now }
     {
         let _length = self.list.len();
-        write_section(alloc, &self.list)
+        write_section(&self.list)
     }
 
     /// A HEADERS frame whose payload is these fields, a literal field line each, in the order of
     /// `HeaderList`.
     #[tactic(auto, using(crate::proofs::SectionAgain::headers_again))]
-    pub fn generate_frame(&self, alloc: Global) -> Result<Frame, OutOfMemory>
+    pub fn generate_frame(&self) -> Result<Frame, OutOfMemory>
         ensures frame { IfOk result (λ f. f ≡ record { kind = kinds.Headers; payload = section_bytes self.now; session = None }) }
         ensures again { AreShort self.now → IfOk result (λ f. headers_of f.payload ≡ Ok self.now) }
     {
-        Ok(Frame::of_headers(self.section(alloc)?))
+        Ok(Frame::of_headers(self.section()?))
     }
 
     /// The value of the field with this name; `None` exactly where there is none.

@@ -25,6 +25,7 @@ impl Model for StreamId {
 }
 
 impl StreamId {
+    /// The id of this number.
     pub fn new(id: VarInt) -> StreamId
         ensures { result ≡ id }
     {
@@ -38,6 +39,7 @@ impl StreamId {
         self.id
     }
 
+    /// The number.
     pub fn into_u64(self) -> u64
         ensures value { result ≡ self }
         ensures small { result < 2 ^ 62 }
@@ -45,12 +47,14 @@ impl StreamId {
         self.id.into_inner()
     }
 
+    /// Whether both ends send on it, which its second lowest bit tells (RFC 9000, section 2.1).
     pub fn is_bidirectional(self) -> bool
         ensures { result ≡ is_bidirectional self }
     {
         self.into_u64() / 2 % 2 == 0
     }
 
+    /// Whether the client opened it, which its lowest bit tells (RFC 9000, section 2.1).
     pub fn is_client_initiated(self) -> bool
         ensures { result ≡ is_client_initiated self }
     {
@@ -154,6 +158,7 @@ impl Model for QStreamId {
 }
 
 impl QStreamId {
+    /// The quarter that names this session (RFC 9297, section 2.1).
     pub fn from_session_id(id: SessionId) -> QStreamId
         ensures { result ≡ id / 4 }
     {
@@ -184,6 +189,7 @@ impl QStreamId {
         self.quarter
     }
 
+    /// The session that it names, whose id is four times it.
     pub fn into_session_id(self) -> SessionId
         ensures { result ≡ 4 * self }
     {

@@ -1,4 +1,5 @@
-ghost use Rattle.std.specs.Prelude.{◌≡◌, IfOk};
+//! What a resolver and QUIC answer when a connection is asked for.
+ghost use Rattle.std.specs.Prelude.{◌≡◌, ◌↔◌, IfOk, IsTrue};
 
 use crate::addr::Addr;
 use crate::error::OutOfMemory;
@@ -17,6 +18,13 @@ pub enum Lookup {
 }
 
 impl Lookup {
+    /// Whether both are the same answer with the same fields.
+    pub fn is_equal(&self, other: &Lookup) -> bool
+        ensures { IsTrue result ↔ (self.now ≡ other.now) }
+    {
+        self == other
+    }
+
     /// The same answer.
     pub fn copy(&self, alloc: Global) -> Result<Lookup, OutOfMemory>
         ensures { IfOk result (λ l. l ≡ self.now) }
@@ -24,7 +32,7 @@ impl Lookup {
         match self {
             Lookup::Found(address) => Ok(Lookup::Found(*address)),
             Lookup::NotFound => Ok(Lookup::NotFound),
-            Lookup::Fault(reason) => Ok(Lookup::Fault(reason.copy(alloc)?)),
+            Lookup::Fault(reason) => Ok(Lookup::Fault(Text::from_text(alloc, reason.as_str())?)),
         }
     }
 }
@@ -45,6 +53,13 @@ pub enum ConnectOutcome {
 }
 
 impl ConnectOutcome {
+    /// Whether both are the same answer with the same fields.
+    pub fn is_equal(&self, other: &ConnectOutcome) -> bool
+        ensures { IsTrue result ↔ (self.now ≡ other.now) }
+    {
+        self == other
+    }
+
     /// The same answer.
     pub fn copy(&self, alloc: Global) -> Result<ConnectOutcome, OutOfMemory>
         ensures { IfOk result (λ o. o ≡ self.now) }
@@ -54,7 +69,7 @@ impl ConnectOutcome {
             ConnectOutcome::EndpointStopping => Ok(ConnectOutcome::EndpointStopping),
             ConnectOutcome::CidsExhausted => Ok(ConnectOutcome::CidsExhausted),
             ConnectOutcome::InvalidServerName(name) => {
-                Ok(ConnectOutcome::InvalidServerName(name.copy(alloc)?))
+                Ok(ConnectOutcome::InvalidServerName(Text::from_text(alloc, name.as_str())?))
             }
             ConnectOutcome::InvalidRemoteAddress(address) => {
                 Ok(ConnectOutcome::InvalidRemoteAddress(*address))

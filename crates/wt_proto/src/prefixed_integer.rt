@@ -1,3 +1,4 @@
+//! Prefixed integers (RFC 9204, section 4.1.1; RFC 7541, section 5.1).
 ghost use Rattle.std.specs.Prelude.{◌≡◌, ◌<◌, ◌≤◌, ◌+◌, ◌^◌, ◌++◌, length, IfSome, OnOk};
 ghost use Rattle.wt_proto.specs.PrefixedInteger.{continuation_at, continuation_bytes, prefixed_at, prefixed_bytes, seven_bits};
 

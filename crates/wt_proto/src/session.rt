@@ -1,3 +1,4 @@
+//! Requests for a session and the responses to them (RFC 9220, section 3; RFC 9114, section 4.3).
 ghost use Rattle.std.specs.Prelude.{IfOk, OnOk, OnErr, is_err, if◌then◌else◌, ◌≡◌, nat_eq, codes, is_some, is_none, false, Some, None, Ok, Err};
 ghost use Rattle.std.specs.Option.{option_copied};
 ghost use Rattle.std.specs.Str.{bytes_eq};
@@ -21,7 +22,7 @@ use std::marker::Model;
 pub enum HeadersParseError {
     /// There is a `:method`, and it isn't `CONNECT`.
     MethodNotConnect,
-    /// Another field that a request needs is missing or has another value.
+    /// `:method` is missing, or another field that a request needs is missing or has another value.
     Other,
 }
 
@@ -190,11 +191,11 @@ impl SessionRequest {
     }
 
     /// A HEADERS frame of its fields.
-    pub fn generate_frame(&self, alloc: Global) -> Result<Frame, OutOfMemory>
+    pub fn generate_frame(&self) -> Result<Frame, OutOfMemory>
         ensures frame { IfOk result (λ f. f ≡ record { kind = kinds.Headers; payload = section_bytes self.now; session = None }) }
         ensures again { AreShort self.now → IfOk result (λ f. headers_of f.payload ≡ Ok self.now) }
     {
-        self.headers.generate_frame(alloc)
+        self.headers.generate_frame()
     }
 }
 
@@ -306,10 +307,10 @@ impl SessionResponse {
     }
 
     /// A HEADERS frame of its fields.
-    pub fn generate_frame(&self, alloc: Global) -> Result<Frame, OutOfMemory>
+    pub fn generate_frame(&self) -> Result<Frame, OutOfMemory>
         ensures frame { IfOk result (λ f. f ≡ record { kind = kinds.Headers; payload = section_bytes self.now; session = None }) }
         ensures again { AreShort self.now → IfOk result (λ f. headers_of f.payload ≡ Ok self.now) }
     {
-        self.headers.generate_frame(alloc)
+        self.headers.generate_frame()
     }
 }

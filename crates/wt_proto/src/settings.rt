@@ -1,4 +1,5 @@
-ghost use Rattle.std.specs.Prelude.{◌≡◌, ◌≤◌, ◌++◌, length, IfErr, IfSome, IfOk, OnOk, Some, None, Ok, ◌⊎◌};
+//! SETTINGS frames (RFC 9114, section 7.2.4).
+ghost use Rattle.std.specs.Prelude.{◌≡◌, ◌↔◌, ◌≤◌, ◌++◌, length, IfErr, IfSome, IfOk, IsTrue, OnOk, Some, None, Ok, ◌⊎◌};
 ghost use Rattle.std.specs.Option.{option_map};
 ghost use Rattle.wt_proto.specs.Settings.{AreSmall, IsSmall, Pair, known_setting, no_settings, pair_at, pairs_from, setting, setting_bytes, settings_bytes, settings_of, with_pair, with_setting};
 ghost use Rattle.wt_proto.specs.FixedBytes.{own_settings};
@@ -92,6 +93,12 @@ fn write_setting(out: &mut Vec<u8>, id: u32, value: Option<VarInt>) -> Result<()
     write_varint(value, out)
 }
 
+fn is_same_value(value: Option<VarInt>, other: Option<VarInt>) -> bool
+    ensures { IsTrue result ↔ (value ≡ other) }
+{
+    value == other
+}
+
 impl Settings {
     /// Settings of which none is there.
     fn none() -> Settings
@@ -145,6 +152,24 @@ impl Settings {
             SettingId::EnableWebTransport => self.enable_webtransport,
             SettingId::WebTransportMaxSessions => self.webtransport_max_sessions,
         }
+    }
+
+    /// Whether both have the same settings, each with the same value.
+    pub fn is_equal(&self, other: &Settings) -> bool
+        ensures { IsTrue result ↔ (self.now ≡ other.now) }
+    {
+        is_same_value(
+            self.qpack_max_table_capacity,
+            other.qpack_max_table_capacity,
+        ) && is_same_value(self.max_field_section_size, other.max_field_section_size)
+            && is_same_value(self.qpack_blocked_streams, other.qpack_blocked_streams)
+            && is_same_value(self.enable_connect_protocol, other.enable_connect_protocol)
+            && is_same_value(self.h3_datagram, other.h3_datagram)
+            && is_same_value(self.enable_webtransport, other.enable_webtransport)
+            && is_same_value(
+                self.webtransport_max_sessions,
+                other.webtransport_max_sessions,
+            )
     }
 
     fn put(&mut self, id: SettingId, value: VarInt)

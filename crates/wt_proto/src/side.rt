@@ -1,17 +1,23 @@
+//! The ends of connections and of streams.
+
 use crate::varint::VarInt;
 
 /// An end of a connection.
 #[derive(Clone, Copy, Debug, PartialEq, Eq)]
 pub enum Side {
+    /// The end that asks for the connection.
     Client,
+    /// The end that answers.
     Server,
 }
 
-/// How a peer's half of a stream stands: bytes may follow, it ended cleanly, or it was reset with a
-/// code (RFC 9000, section 3.2).
+/// How a peer's half of a stream stands (RFC 9000, section 3.2).
 #[derive(Clone, Copy, Debug, PartialEq, Eq)]
 pub enum StreamEnd {
+    /// Bytes may follow.
     Running,
+    /// It ended cleanly.
     Fin,
+    /// It was reset with this code.
     Reset(VarInt),
 }

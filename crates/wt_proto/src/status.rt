@@ -1,3 +1,4 @@
+//! Status codes of HTTP (RFC 9110, section 15).
 ghost use Rattle.std.specs.Prelude.{◌≡◌, ◌<◌, ◌≤◌, IfSome};
 ghost use Rattle.wt_proto.specs.Responses.{is_digit, is_successful, status_code};
 

@@ -88,6 +88,7 @@ impl StreamHeader {
         }
     }
 
+    /// What the stream is for.
     pub fn kind(&self) -> StreamKind
         ensures { result ≡ header_kind self.now }
     {

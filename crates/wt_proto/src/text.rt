@@ -1,4 +1,5 @@
-ghost use Rattle.std.specs.Prelude.{◌≡◌, IfOk, string_bytes};
+//! Texts that are kept.
+ghost use Rattle.std.specs.Prelude.{◌≡◌, IfOk, IsTrue, ◌↔◌, string_bytes};
 ghost use Rattle.std.specs.Str.{IsUtf8};
 
 use crate::error::OutOfMemory;
@@ -52,10 +53,17 @@ impl Text {
     }
 
     /// A text with the same characters.
-    pub fn copy(&self, alloc: Global) -> Result<Text, OutOfMemory>
+    pub fn copy(&self) -> Result<Text, OutOfMemory>
         ensures { IfOk result (λ t. t ≡ self.now) }
     {
-        Text::from_text(alloc, self.as_str())
+        Text::from_text(*self.text.allocator(), self.as_str())
+    }
+
+    /// Whether both have the same characters.
+    pub fn is_equal(&self, other: &Text) -> bool
+        ensures { IsTrue result ↔ (self.now ≡ other.now) }
+    {
+        self.text.as_bytes() == other.text.as_bytes()
     }
 }
 

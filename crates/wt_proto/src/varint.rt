@@ -31,6 +31,7 @@ impl VarInt {
         value: 0x3fff_ffff_ffff_ffff,
     };
 
+    /// The integer of this number.
     pub fn from_u32(value: u32) -> VarInt
         ensures { result ≡ value }
     {
@@ -51,6 +52,7 @@ impl VarInt {
         }
     }
 
+    /// The number.
     pub fn into_inner(self) -> u64
         ensures value { result ≡ self }
         ensures small { result < 2 ^ 62 }

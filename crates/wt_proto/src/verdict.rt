@@ -16,8 +16,11 @@ pub enum Verdict {
     Incomplete,
     /// A stream of this session.
     WebTransport(SessionId, usize),
+    /// The control stream (RFC 9114, section 6.2.1).
     Control(usize),
+    /// The stream of the peer's QPACK encoder (RFC 9204, section 4.2).
     Encoder(usize),
+    /// The stream of the peer's QPACK decoder (RFC 9204, section 4.2).
     Decoder(usize),
     /// A request for a session.
     Request(SessionRequest, usize),

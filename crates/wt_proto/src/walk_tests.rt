@@ -82,7 +82,7 @@ fn has_settings(walk: Result<ControlWalk, OutOfMemory>) -> bool {
 
 #[test]
 fn settings_are_read(rt: HostRuntime) -> Result<(), Fail> {
-    let walk = control_walk(&OWN_SETTINGS[1..], StreamEnd::Running);
+    let walk = control_walk(rt.alloc(), &OWN_SETTINGS[1..], StreamEnd::Running);
     assert!(rt; has_settings(walk));
     Ok(())
 }

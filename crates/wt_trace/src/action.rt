@@ -103,6 +103,20 @@ impl Actions {
         Ok(())
     }
 
+    /// A list that keeps this vector.
+    pub fn from_vec(items: Vec<Action>) -> Actions
+        ensures { result ≡ items.items }
+    {
+        Actions { items }
+    }
+
+    /// The vector of the actions.
+    pub fn into_vec(self) -> Vec<Action>
+        ensures { result.items ≡ self }
+    {
+        self.items
+    }
+
     /// The actions as a slice.
     pub fn as_slice(&self) -> &[Action]
         ensures { result.now ≡ self.now }
@@ -119,6 +133,11 @@ impl Actions {
             copied.push(action.copy()?)?;
         }
         Ok(copied)
+    }
+
+    /// The allocator that gives its memory.
+    pub(crate) fn allocator(&self) -> &Global {
+        self.items.allocator()
     }
 
     /// Whether both are the same actions in the same order.

@@ -32,7 +32,7 @@ pub enum Reply {
 
 impl Reply {
     /// A reply that is equal to this one.
-    pub fn copy(&self, alloc: Global) -> Result<Reply, OutOfMemory>
+    pub fn copy(&self, _alloc: Global) -> Result<Reply, OutOfMemory>
         ensures { IfOk result (λ r. r ≡ self.now) }
     {
         Ok(match self {
@@ -42,7 +42,7 @@ impl Reply {
             Reply::NoStream => Reply::NoStream,
             Reply::Request { id, headers } => Reply::Request {
                 id: *id,
-                headers: headers.copy(alloc)?,
+                headers: headers.copy()?,
             },
             Reply::Session(id) => Reply::Session(*id),
             Reply::Uni(id) => Reply::Uni(*id),
@@ -95,7 +95,6 @@ impl Reply {
     }
 }
 
-#[tactic(auto, using(wt_proto::proofs::EqualityLaws::fields_decide))]
 fn is_same_request(
     id: SessionId,
     headers: &HeaderList,
@@ -104,7 +103,7 @@ fn is_same_request(
 ) -> bool
     ensures { IsTrue result ↔ ((id ≡ other_id) × (headers.now ≡ other_headers.now)) }
 {
-    id == other_id && headers == other_headers
+    id == other_id && headers.is_equal(other_headers)
 }
 
 fn is_same_read(piece: &Option<Piece>, other: &Option<Piece>) -> bool
@@ -133,11 +132,11 @@ pub struct Answer {
 
 impl Answer {
     /// An answer that is equal to this one.
-    pub fn copy(&self, alloc: Global) -> Result<Answer, OutOfMemory>
+    pub fn copy(&self) -> Result<Answer, OutOfMemory>
         ensures { IfOk result (λ a. a ≡ self.now) }
     {
         Ok(Answer {
-            reply: self.reply.copy(alloc)?,
+            reply: self.reply.copy(*self.actions.allocator())?,
             actions: self.actions.copy()?,
         })
     }
@@ -184,6 +183,20 @@ impl Answers {
         Ok(())
     }
 
+    /// A list that keeps this vector.
+    pub fn from_vec(items: Vec<Answer>) -> Answers
+        ensures { result ≡ items.items }
+    {
+        Answers { items }
+    }
+
+    /// The vector of the answers.
+    pub fn into_vec(self) -> Vec<Answer>
+        ensures { result.items ≡ self }
+    {
+        self.items
+    }
+
     /// The answers as a slice.
     pub fn as_slice(&self) -> &[Answer]
         ensures { result.now ≡ self.now }
@@ -195,10 +208,9 @@ impl Answers {
     pub fn copy(&self) -> Result<Answers, OutOfMemory>
         ensures { IfOk result (λ answers. answers ≡ self.now) }
     {
-        let alloc = *self.items.allocator();
-        let mut copied = Answers::new(alloc);
+        let mut copied = Answers::new(*self.items.allocator());
         for answer in self.items.as_slice() {
-            copied.push(answer.copy(alloc)?)?;
+            copied.push(answer.copy()?)?;
         }
         Ok(copied)
     }

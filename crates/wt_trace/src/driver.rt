@@ -16,12 +16,12 @@ use wt_proto::side::StreamEnd;
 use wt_proto::verdict::{Verdict, uni_verdict};
 
 /// Whether these are the bytes of a control stream on which SETTINGS came.
-fn is_settled_control(contents: &[u8]) -> Result<bool, OutOfMemory>
+fn is_settled_control(alloc: Global, contents: &[u8]) -> Result<bool, OutOfMemory>
     ensures { IfOk result (λ came. came ≡ control_came (uni_verdict_of contents.now Running) contents.now) }
 {
     match uni_verdict(contents, StreamEnd::Running) {
         Verdict::Control(at) => {
-            let walk = control_walk(behind(contents, at), StreamEnd::Running)?;
+            let walk = control_walk(alloc, behind(contents, at), StreamEnd::Running)?;
             Ok(walk.settings.is_some())
         }
         _ => Ok(false),
@@ -29,11 +29,11 @@ fn is_settled_control(contents: &[u8]) -> Result<bool, OutOfMemory>
 }
 
 /// Whether the peer's SETTINGS came.
-pub(crate) fn have_settings_come(unis: &[Stream]) -> Result<bool, OutOfMemory>
+pub(crate) fn have_settings_come(alloc: Global, unis: &[Stream]) -> Result<bool, OutOfMemory>
     ensures { IfOk result (λ came. came ≡ settings_came unis.now) }
 {
     for stream in unis {
-        if is_settled_control(stream.contents.as_slice())? {
+        if is_settled_control(alloc, stream.contents.as_slice())? {
             return Ok(true);
         }
     }

@@ -213,9 +213,9 @@ impl Core {
         ensures answer { IfOk result (λ a. a ≡ answer_of_call self.old Call.Incoming) }
         ensures state { OnOk result (self.new ≡ after_call self.old Call.Incoming) }
     {
-        let has_settings = have_settings_come(self.unis.as_slice())?;
+        let has_settings = have_settings_come(self.alloc, self.unis.as_slice())?;
         let verdict = request_verdict(self.alloc, self.bis.as_slice())?;
-        let reply = reply_with_request(self.alloc, has_settings, verdict)?;
+        let reply = reply_with_request(has_settings, verdict)?;
         if let Reply::Request { id, .. } = &reply {
             self.progress = Progress::Given(*id);
         }

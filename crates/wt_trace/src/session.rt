@@ -68,17 +68,13 @@ fn first_session() -> SessionId
 }
 
 /// The request, where SETTINGS came and the stream says one.
-pub(crate) fn reply_with_request(
-    alloc: Global,
-    has_settings: bool,
-    verdict: Verdict,
-) -> Result<Reply, OutOfMemory>
+pub(crate) fn reply_with_request(has_settings: bool, verdict: Verdict) -> Result<Reply, OutOfMemory>
     ensures { IfOk result (λ reply. reply ≡ asked_for has_settings verdict) }
 {
     match verdict {
         Verdict::Request(request, _) if has_settings => Ok(Reply::Request {
             id: first_session(),
-            headers: request.headers().copy(alloc)?,
+            headers: request.headers().copy()?,
         }),
         _ => Ok(Reply::Pending),
     }
@@ -89,7 +85,7 @@ pub(crate) fn reply_with_request(
 pub(crate) fn response_frame(alloc: Global) -> Result<Piece, OutOfMemory>
     ensures { IfOk result (λ piece. piece ≡ accepting_response []) }
 {
-    let frame = SessionResponse::ok(alloc)?.generate_frame(alloc)?;
+    let frame = SessionResponse::ok(alloc)?.generate_frame()?;
     let mut bytes = Vec::new(alloc);
     frame.write(&mut bytes)?;
     Ok(Piece::from_vec(bytes))

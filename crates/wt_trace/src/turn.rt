@@ -34,13 +34,13 @@ pub enum Call {
 
 impl Call {
     /// A call that is equal to this one.
-    pub fn copy(&self, alloc: Global) -> Result<Call, OutOfMemory>
+    pub fn copy(&self, _alloc: Global) -> Result<Call, OutOfMemory>
         ensures { IfOk result (λ c. c ≡ self.now) }
     {
         Ok(match self {
             Call::Incoming => Call::Incoming,
             Call::Accept { headers } => Call::Accept {
-                headers: headers.copy(alloc)?,
+                headers: headers.copy()?,
             },
             Call::AcceptUni => Call::AcceptUni,
             Call::Read { id, size } => Call::Read {
@@ -189,6 +189,20 @@ impl Turns {
     {
         self.items.push(turn)?;
         Ok(())
+    }
+
+    /// A list that keeps this vector.
+    pub fn from_vec(items: Vec<Turn>) -> Turns
+        ensures { result ≡ items.items }
+    {
+        Turns { items }
+    }
+
+    /// The vector of the turns.
+    pub fn into_vec(self) -> Vec<Turn>
+        ensures { result.items ≡ self }
+    {
+        self.items
     }
 
     /// The turns as a slice.

@@ -83,6 +83,7 @@ fn turns_are_copied(rt: HostRuntime) -> Result<(), Fail> {
     for (turn, copy) in turns.as_slice().iter().zip(copied.as_slice()) {
         assert!(rt; turn.is_equal(copy));
     }
+    assert_eq!(rt; Turns::from_vec(copied.into_vec()).as_slice().len(), 5);
     Ok(())
 }
 
@@ -97,6 +98,7 @@ fn actions_are_copied(rt: HostRuntime) -> Result<(), Fail> {
     assert_eq!(rt; copied.as_slice().len(), 2);
     actions.push(send(alloc, 3, b"ho")?)?;
     assert!(rt; !copied.is_equal(&actions));
+    assert!(rt; Actions::from_vec(copied.copy()?.into_vec()).is_equal(&copied));
     Ok(())
 }
 
@@ -128,5 +130,6 @@ fn answers_are_copied(rt: HostRuntime) -> Result<(), Fail> {
     for (answer, copy) in answers.as_slice().iter().zip(copied.as_slice()) {
         assert!(rt; answer.is_equal(copy));
     }
+    assert_eq!(rt; Answers::from_vec(copied.into_vec()).as_slice().len(), 9);
     Ok(())
 }
