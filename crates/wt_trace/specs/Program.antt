@@ -1,5 +1,5 @@
 -- What the program answers to its words and its input: a status and a text (this repository's own).
-use Rattle.std.specs.Prelude.{◌≡◌, ℕ, Bool, true, false, ◌==◌, ◌||◌, nat_lt, List, [], ◌∷◌, ◌++◌, length, codes, Option, Result, Ok, Err, if◌then◌else◌}
+use Rattle.std.specs.Prelude.{◌≡◌, ℕ, ◌+◌, ◌≤◌, Bool, true, false, ◌==◌, ◌||◌, nat_lt, List, [], ◌∷◌, ◌++◌, length, codes, Option, Result, Ok, Err, if◌then◌else◌}
 use Rattle.std.specs.Fmt.{decimal}
 use Rattle.std.specs.Io.KnownBytes.{Appends, Consumes}
 use Rattle.wt_trace.specs.declared.answer.Answer.{Answer}
@@ -59,10 +59,17 @@ input_outcome input = if nat_lt script_limit (length input) then too_long else s
 abbrev pub outcome : List (List ℕ) → List ℕ → Outcome
 outcome words input = if is_trace words then input_outcome input else usage
 
--- bytes were read from a source, and the status and the text are those of them; where the source tells its bytes and
--- was read to its end, they are all of them
+-- bytes were read from a source, at most one more than the greatest script has
+pub record ReadsFew (left_before left_now : Option (List ℕ)) : Type 0 where
+  pub input : List ℕ
+  pub few : length input ≤ script_limit + 1
+  pub consumed : Consumes left_before left_now input
+
+-- bytes were read from a source, at most one more than the greatest script has, and the status and the text are those of
+-- them; where the source tells its bytes and was read to its end, they are all of them
 pub record AnswersInput (left_before left_now took_before took_now : Option (List ℕ)) (status : ℕ) : Type 0 where
   pub input : List ℕ
+  pub few : length input ≤ script_limit + 1
   pub consumed : Consumes left_before left_now input
   pub answered : status ≡ (input_outcome input).status
   pub written : Appends took_before took_now (input_outcome input).text

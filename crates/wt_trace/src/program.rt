@@ -1,12 +1,12 @@
 //! The program: a script comes in, the lines of its answers go out.
-ghost use Rattle.std.specs.Prelude.{◌≡◌, ◌++◌, ◌<◌, ◌≤◌, ℕ, List, Option, map, string_bytes, ◌≢◌, ◌⊎◌, IfOk, IfErr, IfSome, IsTrue, MatchResult, OnOk, OnErr, length, codes, false, true};
+ghost use Rattle.std.specs.Prelude.{◌≡◌, ◌+◌, ◌++◌, ◌<◌, ◌≤◌, ℕ, List, Option, map, string_bytes, ◌≢◌, ◌⊎◌, IfOk, IfErr, IfSome, IsTrue, MatchResult, OnOk, OnErr, length, codes, false, true};
 ghost use Rattle.std.specs.Fmt.{decimal};
 ghost use Rattle.std.specs.Io.KnownBytes.{Consumes, Appends, Keeps, IsAtEnd};
 ghost use Rattle.wt_trace.specs.Next.{run};
 ghost use Rattle.wt_trace.specs.Outside.{Rose, AppendsPart};
 ghost use Rattle.wt_trace.specs.Print.{answer_line, print};
 ghost use Rattle.wt_trace.specs.Laws.{ScriptKeepsLaws};
-ghost use Rattle.wt_trace.specs.Program.{is_trace, is_cut_short, tells_script, tells_input, script_limit, usage, refused_at, run_outcome, input_outcome, outcome, AnswersInput, cut_status, Cuts, CutsReading, CutsWriting};
+ghost use Rattle.wt_trace.specs.Program.{is_trace, is_cut_short, tells_script, tells_input, script_limit, usage, refused_at, run_outcome, input_outcome, outcome, ReadsFew, AnswersInput, cut_status, Cuts, CutsReading, CutsWriting};
 ghost use Rattle.wt_trace.specs.Script.{script_of};
 
 use crate::answer::Answer;
@@ -55,7 +55,8 @@ impl From<OutOfMemory> for CutShort {
 }
 
 /// Runs the program: with the word `trace` it reads a script to its end, runs its turns, and writes a
-/// line for each answer. All text goes to the sink.
+/// line for each answer. All text goes to the sink. It reads at most 16,777,217 bytes, whatever the
+/// status: a byte more than the greatest script has.
 ///
 /// | status | where | text |
 /// |---|---|---|
@@ -77,6 +78,7 @@ pub fn run_program<S: Source, K: Sink>(
     ensures status { is_cut_short result ≡ false → IfSome (S.left source.old) (λ input. result ≡ (outcome (map string_bytes words.now) input).status) }
     ensures text { is_cut_short result ≡ false → IfSome (S.left source.old) (λ input. Appends (K.took sink.old) (K.took sink.new) (outcome (map string_bytes words.now) input).text) }
     ensures input { is_cut_short result ≡ false → is_trace (map string_bytes words.now) ≡ true → AnswersInput (S.left source.old) (S.left source.new) (K.took sink.old) (K.took sink.new) result }
+    ensures reads { ReadsFew (S.left source.old) (S.left source.new) }
     ensures part { IfSome (S.left source.old) (λ input. AppendsPart (K.took sink.old) (K.took sink.new) (outcome (map string_bytes words.now) input).text) }
     ensures end { IsTrue (tells_script result) → IsAtEnd (S.left source.new) }
     ensures usage { is_trace (map string_bytes words.now) ≡ false → (result ≡ 1) ⊎ (result ≡ 5) }
@@ -104,6 +106,7 @@ fn answer<S: Source, K: Sink>(
     ensures status { IfOk result (λ status. IfSome (S.left source.old) (λ input. status ≡ (outcome (map string_bytes words.now) input).status)) }
     ensures text { OnOk result (IfSome (S.left source.old) (λ input. Appends (K.took sink.old) (K.took sink.new) (outcome (map string_bytes words.now) input).text)) }
     ensures input { is_trace (map string_bytes words.now) ≡ true → IfOk result (AnswersInput (S.left source.old) (S.left source.new) (K.took sink.old) (K.took sink.new)) }
+    ensures reads { ReadsFew (S.left source.old) (S.left source.new) }
     ensures part { IfSome (S.left source.old) (λ input. AppendsPart (K.took sink.old) (K.took sink.new) (outcome (map string_bytes words.now) input).text) }
     ensures end { IfOk result (λ status. IsTrue (tells_script status) → IsAtEnd (S.left source.new)) }
     ensures usage { is_trace (map string_bytes words.now) ≡ false → MatchResult result (λ status. status ≡ 1) (λ cut. cut ≡ CutShort.SinkFailed) }
@@ -130,9 +133,11 @@ fn asks_trace(words: &[String]) -> bool
     }
 }
 
-/// All bytes that the source has left, or more than a script may have.
+/// All bytes that the source has left, or one more than a script may have.
 fn read_input<S: Source>(alloc: Global, source: &mut S) -> Result<Vec<u8>, CutShort>
     ensures bytes { IfOk result (λ v. Consumes (S.left source.old) (S.left source.new) v.items) }
+    ensures few { IfOk result (λ v. length v.items ≤ script_limit + 1) }
+    ensures reads { ReadsFew (S.left source.old) (S.left source.new) }
     ensures end { IfOk result (λ v. length v.items ≤ script_limit → IsAtEnd (S.left source.new)) }
     ensures same { OnOk result (S.faults source.new ≡ S.faults source.old) }
     ensures cause { IfErr result (CutsReading (S.faults source.old) (S.faults source.new)) }
@@ -140,7 +145,8 @@ fn read_input<S: Source>(alloc: Global, source: &mut S) -> Result<Vec<u8>, CutSh
     let mut bytes: Vec<u8> = Vec::new(alloc);
     let mut buffer = [0u8; 8192];
     while bytes.len() <= SCRIPT_LIMIT {
-        match source.read(&mut buffer) {
+        let room = (SCRIPT_LIMIT + 1 - bytes.len()).min(buffer.len());
+        match source.read(&mut buffer[..room]) {
             Ok(0) => return Ok(bytes),
             Ok(count) => {
                 if bytes.extend_from_slice(&buffer[..count]).is_err() {

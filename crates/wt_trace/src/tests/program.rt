@@ -1,4 +1,5 @@
 //! Whole sessions by [`run_program`], and what it answers where something outside fails.
+use crate::outside::Source;
 use crate::outside::mem::{MemSink, MemSource};
 use crate::program::run_program;
 use std::alloc::Global;
@@ -202,5 +203,21 @@ fn a_script_has_a_greatest_length(rt: HostRuntime) -> Result<(), Fail> {
     let (status, sink) = run(alloc, &["trace"], longer, &[], &[])?;
     assert_eq!(rt; status, 7);
     assert_eq!(rt; sink.taken(), b"script too long\n".as_slice());
+    Ok(())
+}
+
+#[test]
+fn no_more_than_one_byte_past_the_limit_is_read(rt: HostRuntime) -> Result<(), Fail> {
+    let alloc = rt.alloc();
+    let mut input = vec![in alloc; b'#'; 16_777_217]?;
+    input.extend_from_slice(b"abc")?;
+    let words = vec![in alloc; String::from_str(alloc, "trace")?]?;
+    let mut source = MemSource::new(input, Vec::new(alloc));
+    let mut sink = MemSink::new(alloc, Vec::new(alloc));
+    let status = run_program(alloc, words.as_slice(), &mut source, &mut sink);
+    assert_eq!(rt; status, 7);
+    let mut buffer = [0u8; 4];
+    assert_eq!(rt; source.read(&mut buffer), Ok(3));
+    assert_eq!(rt; &buffer[..3], b"abc".as_slice());
     Ok(())
 }
