@@ -11,6 +11,8 @@ pub mod datagram;
 pub mod error;
 mod exercise;
 pub mod field_section;
+#[cfg(test)]
+mod field_tests;
 pub mod frame;
 mod front;
 pub mod header_list;
@@ -22,6 +24,7 @@ pub mod outgoing;
 pub mod prefixed_integer;
 pub mod read_back;
 pub mod response_walk;
+pub mod rows;
 pub mod session;
 pub mod session_walk;
 pub mod settings;

@@ -21,7 +21,7 @@ use Rattle.wt_trace.specs.Driver.{Ripe, walk, moment, ripe_of, hands_out, sendin
 use Rattle.wt_trace.specs.Session.{Told, does, tells, asks, standing, given, gives, is_queued, first_queued, gives_request, incoming, is_whole, responds, accept, accepting_response}
 use Rattle.wt_trace.specs.Calls.{in_session, accept_uni, is_left, first_left, hands, offset_of, body, unread, can_read, gives_bytes, reads, read, total_read}
 use Rattle.wt_trace.specs.Next.{is_given, responds_to}
-use Rattle.wt_trace.proofs.Readable.{one_fields, IsOrWaits, Waits, Is, own-length, response-length, response-cons}
+use Rattle.wt_trace.proofs.Readable.{one_fields, IsOrWaits, Waits, Is, own_length, response-length, response-cons}
 use Rattle.wt_trace.proofs.WalkFacts.{shown, IsKnown, IsControl, IsOfSession, IsRequest, AllKnown}
 use Rattle.wt_trace.proofs.Moments.{settings_in}
 use Rattle.wt_trace.proofs.Facts.{Connection, Calls, Facts, built-streams, moment-is, facts-did, calls-asked, calls-given, calls-handed, calls-read, accepted, facts-accepted, enough-takes, sending-cons}
@@ -114,7 +114,7 @@ hands-is h f v =
 -- ---- accepting the request
 
 response-whole : (c : ℕ) → nat_lt c (length own_control_bytes) ≡ false → take c (accepting_response []) ≡ accepting_response []
-response-whole c e = enough-takes c (accepting_response []) e (omega (arith, response-length, own-length))
+response-whole c e = enough-takes c (accepting_response []) e (omega (arith, response-length, own_length))
 
 none-sent : (h : Past) → Facts h → standing (deeds h) ≡ None → sent (outs h) 0 ≡ []
 none-sent h f n = f.calls.response_sent ∙ ap (λ (o : Option ℕ). cond (is_some o) (accepting_response []) []) n

@@ -22,7 +22,7 @@ use Rattle.wt_trace.specs.Session.{standing, given, gives, accepting_response}
 use Rattle.wt_trace.specs.Calls.{total_read}
 use Rattle.wt_trace.specs.Built.{is_prefix, are_along, is_readable, empty_control, session_header, one_request}
 use Rattle.wt_trace.specs.Next.{is_first, is_given, responds_to}
-use Rattle.wt_trace.proofs.Readable.{IsOrWaits, Stays, IsCons, Cons, one_fields, settings_came, own-length, own-cons, response-length, response-cons, control-verdict, session-verdict, request-verdict, uni-stays, bi-stays, settings-stay, settings-waits, uni-empty, bi-empty, none-came}
+use Rattle.wt_trace.proofs.Readable.{IsOrWaits, Stays, IsCons, Cons, one_fields, settings_came, own_length, own-cons, response-length, response-cons, control-verdict, session-verdict, request-verdict, uni-stays, bi-stays, settings-stay, settings-waits, uni-empty, bi-empty, none-came}
 use Rattle.wt_trace.proofs.WalkFacts.{shown, AreBuilt, AllStay}
 use Rattle.wt_trace.proofs.Moments.{verdicts_of, settings_in, Knows, AtReady, moment-knows}
 

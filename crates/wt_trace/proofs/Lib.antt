@@ -10,5 +10,7 @@ pub mod Ranges
 pub mod AfterTurns
 pub mod Replay
 pub mod CallTurns
+pub mod Start
 pub mod ReplayCalls
 pub mod Standing
+pub mod RunLaws

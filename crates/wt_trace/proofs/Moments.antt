@@ -77,8 +77,8 @@ streams-leave g h w at was stays ripe =
     let unis : Kind = record { slots = 4; verdict = λ k. uni_verdict_of (contents h k) (end_of (came h) k); settled = is_settled h } in
     let bis : Kind = record { slots = 1; verdict = λ k. bi_verdict_of (contents h k) (end_of (came h) k); settled = is_settled h } in
     let looked = over-unis unis (verdicts_of g) (verdicts_of h) was at.built stays refl
-        (ap (uni_verdict_of (contents h 2)) (running (came h) 2)) (ap (uni_verdict_of (contents h 6)) (running (came h) 6)) (peer_unis (came h)) at.unis
-        (λ z. ap (λ (c : List ℕ). uni_verdict_of c Running) (at.no_control z) ∙ uni-empty) (λ l. ap (λ (c : List ℕ). uni_verdict_of c Running) (at.no_session l) ∙ uni-empty) w ripe in
+    (ap (uni_verdict_of (contents h 2)) (running (came h) 2)) (ap (uni_verdict_of (contents h 6)) (running (came h) 6)) (peer_unis (came h)) at.unis
+    (λ z. ap (λ (c : List ℕ). uni_verdict_of c Running) (at.no_control z) ∙ uni-empty) (λ l. ap (λ (c : List ℕ). uni_verdict_of c Running) (at.no_session l) ∙ uni-empty) w ripe in
     let all : Bool → Walk = λ b. (over b bis (ids 0 0 (peer_bis (came h))) (record { earlier = 0; walk = (over b unis (ids 2 0 (peer_unis (came h))) (record { earlier = 0; walk = w })).walk })).walk in
     subst (λ (b : Bool). AreRipe (verdicts_of h) (all b) × ((all b).settings ≡ w.settings)) (sym at.ready)
     (over-bis bis (verdicts_of g) (verdicts_of h) was at.built stays refl (ap (bi_verdict_of (contents h 0)) (running (came h) 0)) (peer_bis (came h)) at.bis

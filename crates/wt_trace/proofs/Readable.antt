@@ -1,8 +1,9 @@
 -- What the verdicts say of the bytes that are built so far.
-use Rattle.std.proofs.Common.{arith, ◌≡◌, ◌≤◌, ◌<◌, ◌+◌, ℕ, zero, suc, Bool, true, false, cond, List, [], ◌∷◌, ◌++◌, length, take, drop, refl, sym, subst, ap, ◌∙◌, append-nil, add-one}
+use Rattle.std.proofs.Common.{arith, ◌≡◌, ◌≤◌, ◌<◌, ◌+◌, ℕ, zero, suc, Bool, true, false, cond, List, [], ◌∷◌, ◌++◌, length, take, drop, drop-cons, refl, sym, subst, ap, ◌∙◌, append-nil, add-one}
 use Rattle.std.specs.Prelude.{Option, Some, None, ◌==◌, ◌&&◌, ◌||◌, codes, nat_lt}
 use Rattle.std.proofs.lemmas.Bool.Decides.{nat_tests}
 use Rattle.std.proofs.lemmas.Bool.{eqb-true}
+use Rattle.std.proofs.lemmas.List.{drop_all}
 use Rattle.wt_proto.specs.declared.side.StreamEnd.TheVariants.{Running}
 use Rattle.wt_proto.specs.declared.verdict.Verdict.{Verdict}
 use Rattle.wt_proto.specs.declared.verdict.Verdict.TheVariants.{Incomplete, WebTransport, Control, Request, Encoder, Decoder, Refused, Dropped, Fault}
@@ -37,8 +38,8 @@ own-is : own_control_bytes ≡ own_list
 unfolding varint_bytes prefixed_bytes
 own-is = refl
 
-pub own-length : length own_control_bytes ≡ 25
-own-length = rw own-is refl
+pub own_length : length own_control_bytes ≡ 25
+own_length = rw own-is refl
 
 abbrev response_list : List ℕ
 response_list = 1 ∷ 15 ∷ 0 ∷ 0 ∷ 39 ∷ 0 ∷ 58 ∷ 115 ∷ 116 ∷ 97 ∷ 116 ∷ 117 ∷ 115 ∷ 3 ∷ 50 ∷ 48 ∷ 48 ∷ []
@@ -60,12 +61,12 @@ own-cons = rw own-is (Cons _ _)
 pub response-cons : IsCons (accepting_response [])
 response-cons = rw response-is (Cons _ _)
 
-abbrev request_list : List ℕ
+abbrev pub request_list : List ℕ
 request_list = 1 ∷ 64 ∷ 80 ∷ 0 ∷ 0 ∷ 39 ∷ 3 ∷ 58 ∷ 97 ∷ 117 ∷ 116 ∷ 104 ∷ 111 ∷ 114 ∷ 105 ∷ 116 ∷ 121 ∷ 1 ∷ 104 ∷ 39 ∷ 0 ∷ 58 ∷ 109 ∷ 101 ∷ 116 ∷ 104 ∷ 111 ∷ 100 ∷ 7 ∷ 67 ∷ 79 ∷ 78 ∷ 78 ∷ 69 ∷ 67 ∷ 84 ∷ 37 ∷ 58 ∷ 112 ∷ 97 ∷ 116 ∷ 104 ∷ 1 ∷ 47 ∷ 39 ∷ 2 ∷ 58 ∷ 112 ∷ 114 ∷ 111 ∷ 116 ∷ 111 ∷ 99 ∷ 111 ∷ 108 ∷ 12 ∷ 119 ∷ 101 ∷ 98 ∷ 116 ∷ 114 ∷ 97 ∷ 110 ∷ 115 ∷ 112 ∷ 111 ∷ 114 ∷ 116 ∷ 39 ∷ 0 ∷ 58 ∷ 115 ∷ 99 ∷ 104 ∷ 101 ∷ 109 ∷ 101 ∷ 5 ∷ 104 ∷ 116 ∷ 116 ∷ 112 ∷ 115 ∷ []
 
-request-is : one_request ≡ request_list
+pub request_is : one_request ≡ request_list
 unfolding one_request varint_bytes prefixed_bytes
-request-is = refl
+request_is = refl
 
 -- ---- prefixes
 
@@ -77,8 +78,37 @@ and-right : (a b : Bool) → (a && b) ≡ true → b ≡ true
 and-right true b e = e
 and-right false b e = cc
 
+and-swap : (a b c : Bool) → (a && (b && c)) ≡ ((a && b) && c)
+and-swap true b c = refl
+and-swap false b c = refl
+
 and-both : (a b : Bool) → a ≡ true → b ≡ true → (a && b) ≡ true
 and-both a b p q = rw (p, q) refl
+
+pub is_prefix_append : (xs ys zs : List ℕ) → is_prefix (xs ++ ys) zs ≡ (is_prefix xs zs && is_prefix ys (drop (length xs) zs))
+is_prefix_append [] ys zs = refl
+is_prefix_append (x ∷ xs) ys [] = refl
+is_prefix_append (x ∷ xs) ys (z ∷ zs) = ap (λ b. x == z && b) (is_prefix_append xs ys zs) ∙ and-swap (x == z) (is_prefix xs zs) (is_prefix ys (drop (length xs) zs))
+
+pub are_along_append : (xs ys zs : List ℕ) → are_along (xs ++ ys) zs ≡ (are_along xs zs && are_along ys (drop (length xs) zs))
+are_along_append [] ys zs = refl
+are_along_append (x ∷ xs) ys [] = along-none ys
+  where
+    along-none : (ys : List ℕ) → true ≡ are_along ys []
+    along-none [] = refl
+    along-none (y ∷ ys) = refl
+are_along_append (x ∷ xs) ys (z ∷ zs) = ap (λ b. x == z && b) (are_along_append xs ys zs) ∙ and-swap (x == z) (are_along xs zs) (are_along ys (drop (length xs) zs))
+
+-- past the end of the whole
+pub is_prefix_past : (xs zs : List ℕ) (i : ℕ) → i < length xs → length zs ≤ i → is_prefix (drop i xs) (drop i zs) ≡ false
+is_prefix_past xs zs i l p = rw (drop-cons xs i 0 l, drop_all i zs p) refl
+
+pub are_along_past : (xs zs : List ℕ) (i : ℕ) → length zs ≤ i → are_along (drop i xs) (drop i zs) ≡ true
+are_along_past xs zs i p = ap (are_along (drop i xs)) (drop_all i zs p) ∙ none (drop i xs)
+  where
+    none : (ys : List ℕ) → are_along ys [] ≡ true
+    none [] = refl
+    none (y ∷ ys) = refl
 
 pub prefix-of-append : (xs ys zs : List ℕ) → is_prefix (xs ++ ys) zs ≡ true → is_prefix xs zs ≡ true
 prefix-of-append [] ys zs e = refl
@@ -220,7 +250,7 @@ request-take n l = by (nat_lt n 83) refl
 
 pub request-verdict : (bytes : List ℕ) → is_prefix bytes one_request ≡ true → IsOrWaits (Request one_fields 83) (bi_verdict_of bytes Running)
 request-verdict bytes e =
-    let e2 : is_prefix bytes request_list ≡ true = rw request-is at e in
+    let e2 : is_prefix bytes request_list ≡ true = rw request_is at e in
     subst (λ (b : List ℕ). IsOrWaits (Request one_fields 83) (bi_verdict_of b Running)) (sym (prefix-is bytes request_list e2)) (request-take (length bytes) (prefix-length bytes request_list e2))
 
 -- ---- the peer's SETTINGS

@@ -4,7 +4,7 @@ use Rattle.std.specs.Prelude.{Option, Some, None, ◌==◌, ◌&&◌, ◌||◌, 
 use Rattle.std.specs.List.{list_any, range_with_len}
 use Rattle.std.proofs.lemmas.Bool.Decides.{nat_tests}
 use Rattle.std.proofs.lemmas.Bool.{eqb-true, eq-eqb}
-use Rattle.std.proofs.lemmas.List.FromFn.{length-map-range_with_len}
+use Rattle.std.proofs.lemmas.List.FromFn.{length-map-range_with_len, get_or-map-range_with_len}
 use Rattle.wt_proto.specs.declared.side.Side.TheVariants.{Server}
 use Rattle.wt_proto.specs.declared.side.StreamEnd.TheVariants.{Running}
 use Rattle.wt_trace.specs.declared.turn.Call.{Call}
@@ -31,7 +31,7 @@ use Rattle.wt_trace.specs.Calls.{in_session, accept_uni, names, can_read, offset
 use Rattle.wt_trace.specs.Next.{went, between, joined, next, then_turn, called, is_lawful, is_given, responds_to}
 use Rattle.wt_trace.specs.Built.{is_built_call}
 use Rattle.wt_trace.specs.Kept.{Kept, kept_of, stream_of, unis_of, bis_of, progress_of}
-use Rattle.wt_trace.specs.Step.{answer_of, after, settings_came, control_came, request_on, incoming_reply, left_in, uni_reply, with_handed, with_uni, handed, read_reply, read_on, unread_of, uni_at, has_uni, bytes_reply, given_after, session_given}
+use Rattle.wt_trace.specs.Step.{answer_of, after, settings_came, control_came, request_on, incoming_reply, left_in, uni_reply, with_handed, with_uni, handed, read_reply, read_on, unread_of, uni_at, has_uni, bytes_reply, given_after, session_named, uni_in, fresh}
 use Rattle.wt_trace.specs.Step as step
 use Rattle.wt_trace.proofs.Readable.{one_fields, uni-empty, bi-empty, IsOrWaits, Waits, Is, settings-waits}
 use Rattle.wt_trace.proofs.WalkFacts.{shown}
@@ -154,8 +154,8 @@ accept-replays : (h : Past) → Facts h → list_any is_given (deeds h) ≡ true
 accept-replays h f g n =
     let given : (kept h).progress ≡ progresses.Given 0 = progress-given h f g n in
     replays h (session_begun h) (calls.Accept []) (replies.Session 0) (actions.Send 0 (accepting_response []) ∷ []) (called-accept h [] ∙ accept-is h f g n) (begun-between h)
-    (ap (λ (p : Progress). record { reply = replies.Session (session_given p); actions = actions.Send (session_given p) (accepting_response []) ∷ [] }) given)
-    (ap (λ (p : Progress). record (kept h) { progress = progresses.Standing (session_given p) }) given) (facts-begun h f g n)
+    (ap (λ (p : Progress). record { reply = replies.Session (session_named p); actions = actions.Send (session_named p) (accepting_response []) ∷ [] }) given)
+    (ap (λ (p : Progress). record (kept h) { progress = progresses.Standing (session_named p) }) given) (facts-begun h f g n)
 
 -- ---- accepting a stream
 
@@ -163,10 +163,10 @@ called-uni : (h : Past) (o : Option ℕ) → standing (deeds h) ≡ o → called
 unfolding called
 called-uni h o e = ap (in_session Server h (accept_uni Server h)) e
 
-progress-none : (h : Past) → standing (deeds h) ≡ None → uni_reply (kept h).progress (left_in (kept h).progress (kept h).unis) ≡ replies.NoSession
+progress-none : (h : Past) → standing (deeds h) ≡ None → uni_reply (kept h).progress (kept h).unis (left_in (kept h).progress (kept h).unis) ≡ replies.NoSession
 progress-none h n = rw n (by (list_any is_given (deeds h)))
   where
-    by : (g : Bool) → uni_reply (cond g (progresses.Given (given (deeds h))) progresses.Waiting) (left_in (cond g (progresses.Given (given (deeds h))) progresses.Waiting) (kept h).unis) ≡ replies.NoSession
+    by : (g : Bool) → uni_reply (cond g (progresses.Given (given (deeds h))) progresses.Waiting) (kept h).unis (left_in (cond g (progresses.Given (given (deeds h))) progresses.Waiting) (kept h).unis) ≡ replies.NoSession
     by true = refl
     by false = refl
 
@@ -183,36 +183,36 @@ no-session-replays h f n =
     (replying-same _ _ (progress-none h n))
     (same-kept _ _ _ _ _ _ _ _ refl (left-none h n) refl refl) (facts-asked h f)
 
--- the stream of the session, among those that are kept
-abbrev left_here : Bool → Verdict → Stream → Option Stream
-left_here handed (WebTransport session at) s = cond handed None (Some s)
-left_here handed _ s = None
+-- the place of the session's stream, among those that are kept
+abbrev left_here : Bool → Verdict → Option ℕ
+left_here handed (WebTransport session at) = cond handed None (Some 1)
+left_here handed _ = None
 
-session-left : (v : Verdict) (handed : Bool) (s : Stream) → IsOrWaits (WebTransport 0 3) v → cond (names 0 v && not handed) (Some s) None ≡ left_here handed v s
-session-left v handed s Waits = refl
-session-left v true s Is = refl
-session-left v false s Is = refl
+session-left : (v : Verdict) (handed : Bool) → IsOrWaits (WebTransport 0 3) v → cond (names 0 v && not handed) (Some 1) None ≡ left_here handed v
+session-left v handed Waits = refl
+session-left v true Is = refl
+session-left v false Is = refl
 
-control-left : (v : Verdict) (handed : Bool) (s : Stream) (rest : Option Stream) → IsOrWaits (Control 1) v → cond (names 0 v && not handed) (Some s) rest ≡ rest
-control-left v handed s rest Waits = refl
-control-left v handed s rest Is = refl
+control-left : (v : Verdict) (handed : Bool) (rest : Option ℕ) → IsOrWaits (Control 1) v → cond (names 0 v && not handed) (Some 0) rest ≡ rest
+control-left v handed rest Waits = refl
+control-left v handed rest Is = refl
 
-none-here : (h : Past) → contents h 6 ≡ [] → None ≡ left_here (list_any (hands_out 6) (deeds h)) (uni_verdict_of (contents h 6) Running) (stream_of h 6)
-none-here h e = sym (ap (λ (v : Verdict). left_here (list_any (hands_out 6) (deeds h)) v (stream_of h 6)) (ap (λ (c : List ℕ). uni_verdict_of c Running) e ∙ uni-empty))
+none-here : (h : Past) → contents h 6 ≡ [] → None ≡ left_here (list_any (hands_out 6) (deeds h)) (uni_verdict_of (contents h 6) Running)
+none-here h e = sym (ap (left_here (list_any (hands_out 6) (deeds h))) (ap (λ (c : List ℕ). uni_verdict_of c Running) e ∙ uni-empty))
 
-left-by : (h : Past) → Facts h → (n : ℕ) → n ≤ 2 → (n ≤ 1 → contents h 6 ≡ []) → step.first_left 0 (unis_of h 2 n) ≡ left_here (list_any (hands_out 6) (deeds h)) (uni_verdict_of (contents h 6) Running) (stream_of h 6)
+left-by : (h : Past) → Facts h → (n : ℕ) → n ≤ 2 → (n ≤ 1 → contents h 6 ≡ []) → step.left_from 0 0 (unis_of h 2 n) ≡ left_here (list_any (hands_out 6) (deeds h)) (uni_verdict_of (contents h 6) Running)
 left-by h f zero l none = none-here h (none (omega arith))
 left-by h f (suc zero) l none =
-    control-left (uni_verdict_of (contents h 2) Running) (list_any (hands_out 2) (deeds h)) (stream_of h 2) None (built-streams h f.streams).control ∙ none-here h (none (omega arith))
+    control-left (uni_verdict_of (contents h 2) Running) (list_any (hands_out 2) (deeds h)) None (built-streams h f.streams).control ∙ none-here h (none (omega arith))
 left-by h f (suc (suc zero)) l none =
-    control-left (uni_verdict_of (contents h 2) Running) (list_any (hands_out 2) (deeds h)) (stream_of h 2) _ (built-streams h f.streams).control
-    ∙ session-left (uni_verdict_of (contents h 6) Running) (list_any (hands_out 6) (deeds h)) (stream_of h 6) (built-streams h f.streams).session
+    control-left (uni_verdict_of (contents h 2) Running) (list_any (hands_out 2) (deeds h)) _ (built-streams h f.streams).control
+    ∙ session-left (uni_verdict_of (contents h 6) Running) (list_any (hands_out 6) (deeds h)) (built-streams h f.streams).session
 left-by h f (suc (suc (suc n))) l none = absurd (omega arith)
 
 few-none : (n k : ℕ) → n ≤ 1 → is_among 2 n 6 ≡ false
 few-none n k l = grind (arith, nat_tests)
 
-left-is : (h : Past) → Facts h → step.first_left 0 (kept h).unis ≡ left_here (list_any (hands_out 6) (deeds h)) (uni_verdict_of (contents h 6) Running) (stream_of h 6)
+left-is : (h : Past) → Facts h → step.left_from 0 0 (kept h).unis ≡ left_here (list_any (hands_out 6) (deeds h)) (uni_verdict_of (contents h 6) Running)
 left-is h f = left-by h f (peer_unis (came h)) f.streams.unis (λ l. f.streams.unopened 6 (few-none (peer_unis (came h)) 6 l) refl)
 
 -- a stream that shows a session is there
@@ -242,7 +242,7 @@ standing-progress h n = rw n refl
 
 -- nothing is left
 waits-uni : (h : Past) → Facts h → standing (deeds h) ≡ Some 0 → left_of h ≡ None
-    → left_here (list_any (hands_out 6) (deeds h)) (uni_verdict_of (contents h 6) Running) (stream_of h 6) ≡ None → Replays h calls.AcceptUni
+    → left_here (list_any (hands_out 6) (deeds h)) (uni_verdict_of (contents h 6) Running) ≡ None → Replays h calls.AcceptUni
 waits-uni h f n none nothing =
     let left : left_in (kept h).progress (kept h).unis ≡ None = rw (standing-progress h n) (left-is h f ∙ nothing) in
     replays h (Did Asked ∷ h) calls.AcceptUni replies.Pending []
@@ -250,15 +250,22 @@ waits-uni h f n none nothing =
     (replying-same _ _ (rw (left, standing-progress h n) refl))
     (same-kept _ _ _ _ _ _ _ _ refl (ap (with_handed (kept h).unis) left) refl refl) (facts-asked h f)
 
+-- the session's stream has the second place
+second-is : (h : Past) → Facts h → uni_verdict_of (contents h 6) Running ≡ WebTransport 0 3 → uni_in (kept h).unis 1 ≡ stream_of h 6
+second-is h f v =
+    let o = shows-opened h f v in
+    let below : 1 < peer_unis (came h) = grind (arith, nat_tests) in
+    get_or-map-range_with_len (λ i. stream_of h (4 * i + 2)) 0 (peer_unis (came h)) 1 1 (fresh 0) below (omega arith)
+
 hands-uni : (h : Past) → Facts h → standing (deeds h) ≡ Some 0 → list_any (hands_out 6) (deeds h) ≡ false → uni_verdict_of (contents h 6) Running ≡ WebTransport 0 3 → Replays h calls.AcceptUni
 hands-uni h f n e v =
-    let left : left_in (kept h).progress (kept h).unis ≡ Some (stream_of h 6) = rw (standing-progress h n) (left-is h f ∙ rw (e, v) refl) in
+    let left : left_in (kept h).progress (kept h).unis ≡ Some 1 = rw (standing-progress h n) (left-is h f ∙ rw (e, v) refl) in
     let next : left_of h ≡ Some (record { id = 6; verdict = WebTransport 0 3 }) = rw (e, v) refl in
     replays h (handed_over h) calls.AcceptUni (replies.Uni 6) []
     (called-uni h (Some 0) n ∙ accept_uni-is h f ∙ ap (hands Server (λ id. replies.Uni id) h) next ∙ hands-is h f v) (between-none h (handed_over h) refl)
-    (replying-same _ _ (rw (left, standing-progress h n) refl))
+    (replying-same _ _ (rw (left, standing-progress h n) (ap (λ (s : Stream). replies.Uni s.id) (second-is h f v))))
     (same-kept _ _ _ _ _ _ _ _ refl
-    (ap (with_handed (kept h).unis) left ∙ with-six h (handed_over h) (handed (stream_of h 6)) (shows-opened h f v) refl (handed-streams h)) refl refl) (facts-handed h f v)
+    (ap (with_handed (kept h).unis) left ∙ ap (λ s. slice_set (kept h).unis 1 (handed s)) (second-is h f v) ∙ with-six h (handed_over h) (handed (stream_of h 6)) (shows-opened h f v) refl (handed-streams h)) refl refl) (facts-handed h f v)
 
 uni-by : (h : Past) → Facts h → standing (deeds h) ≡ Some 0 → (b : Bool) (v : Verdict) → IsOrWaits (WebTransport 0 3) v
     → list_any (hands_out 6) (deeds h) ≡ b → uni_verdict_of (contents h 6) Running ≡ v → Replays h calls.AcceptUni
@@ -301,7 +308,7 @@ no-stream-replays h id size f e =
     let none : step.can_read (kept h) id ≡ false = kept-readable h id f false e in
     replays h (Did Asked ∷ h) (calls.Read id size) replies.NoStream [] (called-read h id size false (readable h id f false e) ∙ asked-is h replies.NoStream f) (between-none h (Did Asked ∷ h) refl)
     (ap (λ b. record { reply = cond b (read_reply size (unread_of (uni_at (kept h).unis id))) replies.NoStream; actions = [] }) none)
-    (same-kept _ _ _ _ _ _ _ _ refl (ap (λ b. cond b (with_uni (kept h).unis (read_on size (uni_at (kept h).unis id))) (kept h).unis) none) refl refl) (facts-asked h f)
+    (same-kept _ _ _ _ _ _ _ _ refl (ap (λ b. cond b (with_uni (kept h).unis id (read_on size (uni_at (kept h).unis id))) (kept h).unis) none) refl refl) (facts-asked h f)
 
 module _ (h : Past) (f : Facts h) (here : list_any (hands_out 6) (deeds h) ≡ true) where
   six-kept : uni_at (kept h).unis 6 ≡ stream_of h 6

@@ -1,6 +1,6 @@
 -- A core that stands for a history tells what is lawful, answers and goes on as the history says.
-use Rattle.std.proofs.Common.{arith, ◌≡◌, ℕ, Bool, true, false, cond, List, [], ◌∷◌, ◌++◌, length, refl, sym, subst, ap, ◌∙◌, ◌⊎◌, inl, inr}
-use Rattle.std.specs.Prelude.{Option, Some, None, ◌&&◌, ◌||◌, not, nat_lt, IsTrue}
+use Rattle.std.proofs.Common.{arith, ◌≡◌, ◌/◌, ℕ, Bool, true, false, cond, List, [], ◌∷◌, ◌++◌, length, refl, sym, subst, ap, ◌∙◌, ◌⊎◌, inl, inr}
+use Rattle.std.specs.Prelude.{Option, Some, None, ◌&&◌, ◌||◌, not, nat_lt, IsTrue, slice_set}
 use Rattle.std.proofs.lemmas.Bool.Decides.{nat_tests}
 use Rattle.wt_proto.specs.declared.side.Side.{Side}
 use Rattle.wt_proto.specs.declared.side.Side.TheVariants.{Client, Server}
@@ -20,7 +20,7 @@ use Rattle.wt_trace.specs.Driver.{moment}
 use Rattle.wt_trace.specs.Next.{is_lawful, next, then_turn, between, joined, takes}
 use Rattle.wt_trace.specs.Built.{is_built, is_readable}
 use Rattle.wt_trace.specs.Kept.{Kept, kept_of, Stands, IsHistory, Start, More}
-use Rattle.wt_trace.specs.Step.{lawful, built, may_turn, answer_of, after}
+use Rattle.wt_trace.specs.Step.{lawful, built, may_turn, answer_of, after, has_uni, uni_at, bi_at, grown}
 use Rattle.wt_trace.proofs.Facts.{Facts, facts-uni, facts-bi, facts-started, moment-starts, moment-is, started}
 use Rattle.wt_trace.proofs.AfterTurns.{bytes_on, is_opened, bytes-bring, between-none, went-bytes}
 use Rattle.wt_trace.proofs.Replay.{kept, lawful-is, built-is, after-uni, after-bi, after-bytes, no-own, contents_at-is}
@@ -206,6 +206,21 @@ kept-replays Client h t i l b =
 
 -- ---- a core that stands for a history
 
+-- a turn leaves the side as it is
+pub same_side : (k : Kept) (t : Turn) → (after k t).side ≡ k.side
+same_side k (turns.Connected uni bi credit datagrams) = refl
+same_side k turns.PeerUni = refl
+same_side k turns.PeerBi = refl
+same_side k (turns.Bytes id piece) = by (has_uni k id)
+  where
+    by : (b : Bool) → (cond b (record k { unis = slice_set k.unis (id / 4) (grown (uni_at k.unis id) piece) }) (record k { bis = slice_set k.bis (id / 4) (bi_at k.bis id ++ piece) })).side ≡ k.side
+    by true = refl
+    by false = refl
+same_side k (turns.Call calls.Incoming) = refl
+same_side k (turns.Call (calls.Accept headers)) = refl
+same_side k (turns.Call calls.AcceptUni) = refl
+same_side k (turns.Call (calls.Read id size)) = refl
+
 pub stands_lawful : (k : Kept) (h : Past) (t : Turn) → Stands k h → lawful k t ≡ is_lawful k.side h t
 stands_lawful k h t s = ap (λ (j : Kept). lawful j t) s.kept ∙ kept-lawful k.side h t s.history
 
@@ -218,7 +233,7 @@ stands_whole k h s = ap (λ (j : Kept). j.failed) s.kept
 
 both-are : (k : Kept) (h : Past) (t : Turn) → Stands k h → IsTrue (may_turn k t) → (is_lawful k.side h t && is_built k.side h t) ≡ true
 both-are k h t s m =
-    let whole : (false || (lawful k t && built k t)) ≡ true = rw (stands_whole k h s) at m in
+    let whole : ((false || lawful k t) && (false || built k t)) ≡ true = rw (stands_whole k h s) at m in
     rw (← stands_lawful k h t s, ← stands_built k h t s) whole
 
 turned : (k : Kept) (h : Past) (t : Turn) → Stands k h → IsTrue (may_turn k t) → Replays k.side h t

@@ -163,7 +163,6 @@ pub record UnisLooked (v w : Verdicts) (before after : Walk) : Type 0 where
   pub known : AllKnown after.ripe
 
 module _ (kind : Kind) (v w : Verdicts) (was : AreBuilt v) (now : AreBuilt w) (stays : AllStay v w) where
-
   pub over-unis : (slots : kind.slots ≡ 4) (control : kind.verdict 2 ≡ w.control) (session : kind.verdict 6 ≡ w.session) (count : ℕ) → count ≤ 2
       → (count ≡ 0 → w.control ≡ Incomplete) → (count ≤ 1 → w.session ≡ Incomplete) → (walk : Walk) → AreRipe v walk
       → UnisLooked v w walk (over true kind (ids 2 0 count) (record { earlier = 0; walk = walk })).walk
@@ -213,8 +212,7 @@ module _ (kind : Kind) (v w : Verdicts) (was : AreBuilt v) (now : AreBuilt w) (s
   )
   over-bis slots request (suc zero) l none before walk u =
       let p : Pass = record { earlier = 0; walk = walk } in
-      let one = meets-looks kind 0 (Request one_fields 83) v.request w.request p request-full was.request now.request stays.request request (rw slots refl) u.request in
-      (
+      let one = meets-looks kind 0 (Request one_fields 83) v.request w.request p request-full was.request now.request stays.request request (rw slots refl) u.request in (
         record {
           control = one.walk.others 2 refl ∙ u.control;
           session = one.walk.others 6 refl ∙ u.session;

@@ -45,8 +45,8 @@ grown s piece = record s { contents = s.contents ++ piece }
 abbrev pub handed : Stream → Stream
 handed s = record s { handed_out = true }
 
-abbrev pub with_uni : List Stream → Stream → List Stream
-with_uni unis s = slice_set unis (s.id / 4) s
+abbrev pub with_uni : List Stream → ℕ → Stream → List Stream
+with_uni unis id s = slice_set unis (id / 4) s
 
 -- ---- lawful and built
 
@@ -72,9 +72,11 @@ lawful_call k (calls.Accept headers) = is_server k.side && was_given k.progress
 lawful_call k calls.AcceptUni = k.connected
 lawful_call k (calls.Read id size) = k.connected
 
+abbrev pub may_connect : Kept → ℕ → ℕ → ℕ → Bool
+may_connect k uni bi credit = is_server k.side && not k.connected && not (nat_lt (2 ^ 60) uni) && not (nat_lt (2 ^ 60) bi) && nat_lt credit (2 ^ 62)
+
 abbrev pub lawful : Kept → Turn → Bool
-lawful k (turns.Connected uni bi credit datagrams) =
-    is_server k.side && not k.connected && not (nat_lt (2 ^ 60) uni) && not (nat_lt (2 ^ 60) bi) && nat_lt credit (2 ^ 62)
+lawful k (turns.Connected uni bi credit datagrams) = may_connect k uni bi credit
 lawful k turns.PeerUni = k.connected && nat_lt (length k.unis) (2 ^ 60)
 lawful k turns.PeerBi = k.connected && nat_lt (length k.bis) (2 ^ 60)
 lawful k (turns.Bytes id piece) = k.connected && (has_uni k id || has_bi k id)
@@ -90,8 +92,15 @@ built k turns.PeerBi = nat_lt (length k.bis) 1
 built k (turns.Bytes id piece) = is_readable id (contents_at k id ++ piece)
 built k (turns.Call c) = is_built_call c
 
+-- after a turn that ran out of memory each one is taken for lawful and built
+abbrev pub may_come_now : Kept → Turn → Bool
+may_come_now k t = k.failed || lawful k t
+
+abbrev pub is_built_now : Kept → Turn → Bool
+is_built_now k t = k.failed || built k t
+
 abbrev pub may_turn : Kept → Turn → Bool
-may_turn k t = k.failed || (lawful k t && built k t)
+may_turn k t = may_come_now k t && is_built_now k t
 
 -- ---- calls
 
@@ -123,29 +132,33 @@ abbrev pub given_after : Progress → Reply → Progress
 given_after p (replies.Request id headers) = progresses.Given id
 given_after p _ = p
 
-abbrev pub session_given : Progress → ℕ
-session_given (progresses.Given s) = s
-session_given progresses.Waiting = 0
-session_given (progresses.Standing s) = 0
+abbrev pub session_named : Progress → ℕ
+session_named (progresses.Given s) = s
+session_named progresses.Waiting = 0
+session_named (progresses.Standing s) = s
 
 -- a stream of the session that wasn't handed out
 abbrev pub is_left : ℕ → Stream → Bool
 is_left session s = names session (uni_verdict_of s.contents Running) && not s.handed_out
 
-abbrev pub first_left : ℕ → List Stream → Option Stream
-first_left session [] = None
-first_left session (s ∷ unis) = if is_left session s then Some s else first_left session unis
+-- the place of the first such stream, where the first of these has place n
+abbrev pub left_from : ℕ → ℕ → List Stream → Option ℕ
+left_from session n [] = None
+left_from session n (s ∷ unis) = if is_left session s then Some n else left_from session (n + 1) unis
 
-abbrev pub left_in : Progress → List Stream → Option Stream
-left_in (progresses.Standing session) unis = first_left session unis
+abbrev pub left_in : Progress → List Stream → Option ℕ
+left_in (progresses.Standing session) unis = left_from session 0 unis
 left_in progresses.Waiting unis = None
 left_in (progresses.Given session) unis = None
 
-abbrev pub uni_reply : Progress → Option Stream → Reply
-uni_reply (progresses.Standing session) (Some s) = replies.Uni s.id
-uni_reply (progresses.Standing session) None = replies.Pending
-uni_reply progresses.Waiting s = replies.NoSession
-uni_reply (progresses.Given session) s = replies.NoSession
+abbrev pub uni_in : List Stream → ℕ → Stream
+uni_in unis place = slice_index_or unis place (fresh 0)
+
+abbrev pub uni_reply : Progress → List Stream → Option ℕ → Reply
+uni_reply (progresses.Standing session) unis (Some place) = replies.Uni (uni_in unis place).id
+uni_reply (progresses.Standing session) unis None = replies.Pending
+uni_reply progresses.Waiting unis place = replies.NoSession
+uni_reply (progresses.Given session) unis place = replies.NoSession
 
 abbrev pub unread_of : Stream → List ℕ
 unread_of s = drop s.read (drop (offset_of (Some (uni_verdict_of s.contents Running))) s.contents)
@@ -166,19 +179,19 @@ read_on size s = record s { read = s.read + length (take size (unread_of s)) }
 abbrev pub answer_of_call : Kept → Call → Answer
 answer_of_call k calls.Incoming = replying (incoming_reply k)
 answer_of_call k (calls.Accept headers) =
-    record { reply = replies.Session (session_given k.progress); actions = actions.Send (session_given k.progress) (accepting_response []) ∷ [] }
-answer_of_call k calls.AcceptUni = replying (uni_reply k.progress (left_in k.progress k.unis))
+    record { reply = replies.Session (session_named k.progress); actions = actions.Send (session_named k.progress) (accepting_response []) ∷ [] }
+answer_of_call k calls.AcceptUni = replying (uni_reply k.progress k.unis (left_in k.progress k.unis))
 answer_of_call k (calls.Read id size) = replying (if can_read k id then read_reply size (unread_of (uni_at k.unis id)) else replies.NoStream)
 
-abbrev pub with_handed : List Stream → Option Stream → List Stream
+abbrev pub with_handed : List Stream → Option ℕ → List Stream
 with_handed unis None = unis
-with_handed unis (Some s) = with_uni unis (handed s)
+with_handed unis (Some place) = slice_set unis place (handed (uni_in unis place))
 
 abbrev pub after_call : Kept → Call → Kept
 after_call k calls.Incoming = record k { progress = given_after k.progress (incoming_reply k) }
-after_call k (calls.Accept headers) = record k { progress = progresses.Standing (session_given k.progress) }
+after_call k (calls.Accept headers) = record k { progress = progresses.Standing (session_named k.progress) }
 after_call k calls.AcceptUni = record k { unis = with_handed k.unis (left_in k.progress k.unis) }
-after_call k (calls.Read id size) = record k { unis = if can_read k id then with_uni k.unis (read_on size (uni_at k.unis id)) else k.unis }
+after_call k (calls.Read id size) = record k { unis = if can_read k id then with_uni k.unis id (read_on size (uni_at k.unis id)) else k.unis }
 
 -- ---- turns
 

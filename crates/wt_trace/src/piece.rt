@@ -1,5 +1,5 @@
 //! Pieces of stream bytes.
-ghost use Rattle.std.specs.Prelude.{◌≡◌, IfOk, IsTrue, ◌↔◌, []};
+ghost use Rattle.std.specs.Prelude.{◌≡◌, ◌++◌, IfOk, OnOk, OnErr, IsTrue, ◌↔◌, []};
 
 use std::alloc::Global;
 use std::marker::Model;
@@ -57,6 +57,15 @@ impl Piece {
         ensures { result.now ≡ self.now }
     {
         self.bytes.as_slice()
+    }
+
+    /// More bytes at the end.
+    pub fn append(&mut self, other: &Piece) -> Result<(), OutOfMemory>
+        ensures ok { OnOk result (self.new ≡ self.old ++ other.now) }
+        ensures err { OnErr result (self.new ≡ self.old) }
+    {
+        self.bytes.extend_from_slice(other.bytes.as_slice())?;
+        Ok(())
     }
 
     /// A piece of the same bytes.

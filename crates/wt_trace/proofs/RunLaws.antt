@@ -1,0 +1,40 @@
+-- A run goes on from the answers so far.
+use Rattle.std.proofs.Common.{arith, ◌≡◌, ◌+◌, ◌<◌, ℕ, Bool, true, false, List, [], ◌∷◌, ◌++◌, length, drop, drop-cons, get_or, suc, refl, sym, ap, ◌∙◌, append-nil, append_assoc}
+use Rattle.std.specs.Prelude.{IsTrue, ◌&&◌}
+use Rattle.wt_proto.specs.declared.side.Side.{Side}
+use Rattle.wt_trace.specs.declared.turn.Turn.{Turn}
+use Rattle.wt_trace.specs.declared.answer.Answer.{Answer}
+use Rattle.wt_trace.specs.History.{Past}
+use Rattle.wt_trace.specs.Built.{is_built}
+use Rattle.wt_trace.specs.Next.{Run, Stop, Finished, AtUnlawful, AtUnbuilt, run, run_from, stops_at, with_answer, is_lawful, next, then_turn}
+
+pub both : (a b : Bool) → a ≡ true → b ≡ true → IsTrue (a && b)
+both a b p q = rw (p, q) refl
+
+-- these answers before those of a run
+abbrev pub behind : List Answer → Run → Run
+behind answers r = record { answers = answers ++ r.answers; stop = r.stop }
+
+pub behind-more : (answers : List Answer) (a : Answer) (r : Run) → behind answers (with_answer a r) ≡ behind (answers ++ a ∷ []) r
+behind-more answers a r = ap (λ (as_ : List Answer). record { answers = as_; stop = r.stop }) (sym (append_assoc answers (a ∷ []) r.answers))
+
+pub behind-stop : (answers : List Answer) (stop : Stop) → behind answers (stops_at stop) ≡ record { answers = answers; stop = stop }
+behind-stop answers stop = ap (λ (as_ : List Answer). record { answers = as_; stop = stop }) (append-nil answers)
+
+run-unlawful : (side : Side) (h : Past) (t : Turn) (ts : List Turn) → is_lawful side h t ≡ false → run_from side h (t ∷ ts) ≡ stops_at AtUnlawful
+run-unlawful side h t ts e = rw (e, run_from) refl
+
+run-unbuilt : (side : Side) (h : Past) (t : Turn) (ts : List Turn) → is_lawful side h t ≡ true → is_built side h t ≡ false → run_from side h (t ∷ ts) ≡ stops_at AtUnbuilt
+run-unbuilt side h t ts e f = rw (e, f, run_from) refl
+
+run-goes : (side : Side) (h : Past) (t : Turn) (ts : List Turn) → is_lawful side h t ≡ true → is_built side h t ≡ true → run_from side h (t ∷ ts) ≡ with_answer (next side h t) (run_from side (then_turn side h t) ts)
+run-goes side h t ts e f = rw (e, f, run_from) refl
+
+-- one more answer
+pub goes-on : (side : Side) (h : Past) (t : Turn) (ts later : List Turn) (answers : List Answer) (a : Answer) (r : Run) → ts ≡ t ∷ later → is_lawful side h t ≡ true → is_built side h t ≡ true
+    → a ≡ next side h t → behind answers (run_from side h ts) ≡ r → behind (answers ++ a ∷ []) (run_from side (then_turn side h t) later) ≡ r
+goes-on side h t ts later answers a r e l b f g =
+    ap (λ (x : Answer). behind (answers ++ x ∷ []) (run_from side (then_turn side h t) later)) f
+    ∙ sym (behind-more answers (next side h t) (run_from side (then_turn side h t) later))
+    ∙ ap (behind answers) (sym (run-goes side h t later l b))
+    ∙ ap (λ (us : List Turn). behind answers (run_from side h us)) (sym e) ∙ g

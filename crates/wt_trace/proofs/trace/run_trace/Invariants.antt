@@ -1,0 +1,11 @@
+use Rattle.std.proofs.Common.{◌≡◌, length, drop}
+use Rattle.wt_trace.specs.History.{Past}
+use Rattle.wt_trace.specs.Kept.{Stands}
+use Rattle.wt_trace.specs.Next.{run, run_from}
+use Rattle.wt_trace.proofs.RunLaws.{behind}
+use Rattle.wt_trace.proofs.trace.run_trace.Given as goal
+
+abbrev pub invariant-loop-at : goal.invariant-loop-at
+invariant-loop-at l = (h : Past) × Stands l.core h × (l.core.side ≡ l.fn.side)
+    × (behind l.answers (run_from l.fn.side h (drop l.at l.turns)) ≡ run l.fn.side l.turns)
+    × (length l.answers ≡ l.at)
