@@ -1,17 +1,30 @@
 //! Standard input and output. What comes and goes there is told by no contract.
+ghost use Rattle.std.specs.Prelude.{◌≡◌};
+
 use crate::outside::{Failed, Sink, Source};
 use std::io::{Read, Stdin, Stdout, Write};
+use std::marker::Model;
 
-/// Standard input.
+/// Standard input. Contracts see how often it failed.
 #[derive(Drop)]
 pub struct StdSource {
     input: Stdin,
     faults: u64,
 }
 
+impl Model for StdSource {
+    ghost use Rattle.std.specs.Prelude.{ℕ};
+
+    ghost Value = { ℕ };
+
+    ghost view = { λ s. s.faults };
+}
+
 impl StdSource {
     /// Standard input, which hasn't failed yet.
-    pub fn new(input: Stdin) -> StdSource {
+    pub fn new(input: Stdin) -> StdSource
+        ensures { result ≡ 0 }
+    {
         StdSource { input, faults: 0 }
     }
 }
@@ -21,7 +34,7 @@ impl Source for StdSource {
 
     ghost left = { λ _. None };
 
-    ghost faults = { λ s. s.faults };
+    ghost faults = { λ s. s };
 
     fn read(&mut self, buf: &mut [u8]) -> Result<usize, Failed> {
         match self.input.read(buf) {
@@ -34,16 +47,26 @@ impl Source for StdSource {
     }
 }
 
-/// Standard output.
+/// Standard output. Contracts see how often it failed.
 #[derive(Drop)]
 pub struct StdSink {
     output: Stdout,
     faults: u64,
 }
 
+impl Model for StdSink {
+    ghost use Rattle.std.specs.Prelude.{ℕ};
+
+    ghost Value = { ℕ };
+
+    ghost view = { λ s. s.faults };
+}
+
 impl StdSink {
     /// Standard output, which hasn't failed yet.
-    pub fn new(output: Stdout) -> StdSink {
+    pub fn new(output: Stdout) -> StdSink
+        ensures { result ≡ 0 }
+    {
         StdSink { output, faults: 0 }
     }
 }
@@ -53,7 +76,7 @@ impl Sink for StdSink {
 
     ghost took = { λ _. None };
 
-    ghost faults = { λ s. s.faults };
+    ghost faults = { λ s. s };
 
     fn write(&mut self, piece: &[u8]) -> Result<usize, Failed> {
         match self.output.write(piece) {

@@ -1,14 +1,12 @@
 //! The core and a whole trace by their own calls, with ample memory: a body that answers want of memory fails here.
-use super::vocabulary::{send, stream};
+use super::vocabulary::{add_send, piece, stream};
 use crate::action::{Action, Actions};
 use crate::answer::{Answer, Answers, Reply};
 use crate::machine::Core;
-use crate::piece::Piece;
 use crate::trace::{TraceError, run_trace};
 use crate::turn::{Call, DatagramFact, Turn, Turns};
 use std::alloc::Global;
 use std::process::Abort;
-use std::test::Fail;
 use wt_proto::side::Side;
 
 /// What goes out first on this end's control stream.
@@ -17,111 +15,107 @@ const OWN_CONTROL: [u8; 25] = [
     0xc0, 0x00, 0x00, 0x00, 0xc6, 0x71, 0x70, 0x6a, 0x01,
 ];
 
-fn plain(alloc: Global, reply: Reply) -> Answer {
-    Answer {
-        reply,
-        actions: Actions::new(alloc),
-    }
-}
-
-fn connected() -> Turn {
+fn connected(credit: u64) -> Turn {
     Turn::Connected {
         uni: 9,
         bi: 9,
-        credit: 1000,
+        credit,
         datagrams: DatagramFact::Limit(1200),
     }
 }
 
-fn opening(alloc: Global) -> Result<Turns, Fail> {
+fn add_turn(rt: &impl Abort, turns: &mut Turns, turn: Turn) {
+    turns.push(turn).expect(rt, "no memory");
+}
+
+/// The peer's SETTINGS come, and each call is asked once.
+fn opening(rt: &impl Abort, alloc: Global) -> Turns {
     let mut turns = Turns::new(alloc);
-    turns.push(connected())?;
-    turns.push(Turn::PeerUni)?;
-    turns.push(Turn::Bytes {
-        id: stream(2),
-        piece: Piece::from_slice(alloc, &[0, 4, 0])?,
-    })?;
-    turns.push(Turn::Call(Call::Incoming))?;
-    turns.push(Turn::Call(Call::AcceptUni))?;
-    turns.push(Turn::Call(Call::Read {
-        id: stream(6),
-        size: 1,
-    }))?;
-    Ok(turns)
+    add_turn(rt, &mut turns, connected(1000));
+    add_turn(rt, &mut turns, Turn::PeerUni);
+    let id = stream(2);
+    let piece = piece(rt, alloc, &[0, 4, 0]);
+    add_turn(rt, &mut turns, Turn::Bytes { id, piece });
+    add_turn(rt, &mut turns, Turn::Call(Call::Incoming));
+    add_turn(rt, &mut turns, Turn::Call(Call::AcceptUni));
+    let id = stream(6);
+    add_turn(rt, &mut turns, Turn::Call(Call::Read { id, size: 1 }));
+    turns
 }
 
-fn opening_answers(alloc: Global) -> Result<Answers, Fail> {
+fn is_first_answer(rt: &impl Abort, alloc: Global, answer: &Answer) {
     let mut actions = Actions::new(alloc);
-    actions.push(Action::Opened { id: stream(3) })?;
-    actions.push(send(alloc, 3, &OWN_CONTROL)?)?;
-    let mut answers = Answers::new(alloc);
-    answers.push(Answer {
-        reply: Reply::Done,
-        actions,
-    })?;
-    answers.push(plain(alloc, Reply::Done))?;
-    answers.push(plain(alloc, Reply::Done))?;
-    answers.push(plain(alloc, Reply::Pending))?;
-    answers.push(plain(alloc, Reply::NoSession))?;
-    answers.push(plain(alloc, Reply::NoStream))?;
-    Ok(answers)
+    let opened = actions.push(Action::Opened { id: stream(3) });
+    opened.expect(rt, "no memory");
+    add_send(rt, alloc, &mut actions, 3, &OWN_CONTROL);
+    assert!(rt; answer.reply.is_equal(&Reply::Done));
+    assert!(rt; answer.actions.is_equal(&actions));
 }
 
-fn are_equal(rt: &impl Abort, some: &Answers, other: &Answers) {
-    assert_eq!(rt; some.as_slice().len(), other.as_slice().len());
-    for (answer, expected) in some.as_slice().iter().zip(other.as_slice()) {
-        assert!(rt; answer.is_equal(expected));
-    }
+fn is_plain(rt: &impl Abort, answer: &Answer, reply: Reply) {
+    assert!(rt; answer.reply.is_equal(&reply));
+    assert!(rt; answer.actions.as_slice().is_empty());
+}
+
+fn are_opening_answers(rt: &impl Abort, alloc: Global, answers: &Answers) {
+    assert_eq!(rt; answers.as_slice().len(), 6);
+    is_first_answer(rt, alloc, &answers.as_slice()[0]);
+    is_plain(rt, &answers.as_slice()[1], Reply::Done);
+    is_plain(rt, &answers.as_slice()[2], Reply::Done);
+    is_plain(rt, &answers.as_slice()[3], Reply::Pending);
+    is_plain(rt, &answers.as_slice()[4], Reply::NoSession);
+    is_plain(rt, &answers.as_slice()[5], Reply::NoStream);
 }
 
 #[test]
-fn the_core_answers_each_turn(rt: HostRuntime) -> Result<(), Fail> {
+fn the_core_answers_each_turn(rt: HostRuntime) {
     let alloc = rt.alloc();
-    let mut core = Core::new(alloc, Side::Server)?;
+    let mut core = Core::new(alloc, Side::Server).expect(&rt, "no memory");
     let mut answers = Answers::new(alloc);
-    for turn in opening(alloc)?.as_slice() {
+    for turn in opening(&rt, alloc).as_slice() {
         assert!(rt; core.is_lawful(turn));
         assert!(rt; core.is_built(turn));
-        answers.push(core.turn(turn)?)?;
+        let answer = core.turn(turn).expect(&rt, "no memory");
+        answers.push(answer).expect(&rt, "no memory");
     }
-    are_equal(&rt, &answers, &opening_answers(alloc)?);
-    assert!(rt; !core.is_lawful(&connected()));
-    Ok(())
+    are_opening_answers(&rt, alloc, &answers);
+    assert!(rt; !core.is_lawful(&connected(1000)));
 }
 
 #[test]
-fn a_trace_answers_each_turn(rt: HostRuntime) -> Result<(), Fail> {
+fn a_trace_answers_each_turn(rt: HostRuntime) {
     let alloc = rt.alloc();
-    let mut turns = opening(alloc)?;
-    let Ok(answers) = run_trace(alloc, Side::Server, turns.as_slice()) else {
-        return Err("no answers")?;
-    };
-    are_equal(&rt, &answers, &opening_answers(alloc)?);
-    turns.push(connected())?;
-    let Err(TraceError::Unlawful { at, answers }) = run_trace(alloc, Side::Server, turns.as_slice())
-    else {
-        return Err("it is lawful")?;
-    };
-    assert_eq!(rt; at, 6);
-    are_equal(&rt, &answers, &opening_answers(alloc)?);
-    Ok(())
+    let turns = opening(&rt, alloc);
+    match run_trace(alloc, Side::Server, turns.as_slice()) {
+        Ok(answers) => are_opening_answers(&rt, alloc, &answers),
+        Err(_) => assert!(rt; false),
+    }
 }
 
 #[test]
-fn a_trace_stops_at_what_is_not_built(rt: HostRuntime) -> Result<(), Fail> {
+fn a_trace_stops_at_an_unlawful_turn(rt: HostRuntime) {
+    let alloc = rt.alloc();
+    let mut turns = opening(&rt, alloc);
+    add_turn(&rt, &mut turns, connected(1000));
+    match run_trace(alloc, Side::Server, turns.as_slice()) {
+        Err(TraceError::Unlawful { at, answers }) => {
+            assert_eq!(rt; at, 6);
+            are_opening_answers(&rt, alloc, &answers);
+        }
+        _ => assert!(rt; false),
+    }
+}
+
+#[test]
+fn a_trace_stops_at_a_turn_that_is_not_built(rt: HostRuntime) {
     let alloc = rt.alloc();
     let mut turns = Turns::new(alloc);
-    turns.push(Turn::Connected {
-        uni: 9,
-        bi: 9,
-        credit: 24,
-        datagrams: DatagramFact::Disabled,
-    })?;
-    let Err(TraceError::Unbuilt { at, answers }) = run_trace(alloc, Side::Server, turns.as_slice())
-    else {
-        return Err("it is built")?;
-    };
-    assert_eq!(rt; at, 0);
-    assert!(rt; answers.as_slice().is_empty());
-    Ok(())
+    add_turn(&rt, &mut turns, connected(24));
+    match run_trace(alloc, Side::Server, turns.as_slice()) {
+        Err(TraceError::Unbuilt { at, answers }) => {
+            assert_eq!(rt; at, 0);
+            assert!(rt; answers.as_slice().is_empty());
+        }
+        _ => assert!(rt; false),
+    }
 }

@@ -4,7 +4,6 @@ use crate::outside::mem::{MemSink, MemSource};
 use crate::program::run_program;
 use std::alloc::Global;
 use std::process::Abort;
-use std::test::Fail;
 
 /// The first session: own SETTINGS, the peer's SETTINGS, a request and its acceptance.
 const OPENING: &str = "server\nconnected 9 9 1000 1200\npeer_uni\nbytes 2 000400\npeer_bi\n";
@@ -26,64 +25,71 @@ const GIVEN: &str = "request 0 3a617574686f72697479=68 3a6d6574686f64=434f4e4e45
 
 const STANDS: &str = "session 0 ; send 0 010f000027003a73746174757303323030\n";
 
-fn joined(alloc: Global, parts: &[&str]) -> Result<Vec<u8>, Fail> {
+fn joined(rt: &impl Abort, alloc: Global, parts: &[&str]) -> Vec<u8> {
     let mut text = Vec::new(alloc);
     for part in parts {
-        text.extend_from_slice(part.as_bytes())?;
+        let added = text.extend_from_slice(part.as_bytes());
+        added.expect(rt, "no memory");
     }
-    Ok(text)
+    text
 }
 
+fn owned(rt: &impl Abort, alloc: Global, words: &[&str]) -> Vec<String> {
+    let mut owned = Vec::new(alloc);
+    for word in words {
+        let word = String::from_str(alloc, word).expect(rt, "no memory");
+        let added = owned.push(word).is_ok();
+        assert!(rt; added);
+    }
+    owned
+}
+
+/// What the program answers to this input, where the given calls of the source and the sink fail.
 fn run(
+    rt: &impl Abort,
     alloc: Global,
     words: &[&str],
     input: Vec<u8>,
     failing_reads: &[u64],
     failing_writes: &[u64],
-) -> Result<(u8, MemSink), Fail> {
-    let mut owned = Vec::new(alloc);
-    for word in words {
-        owned.push(String::from_str(alloc, word)?)?;
-    }
-    let mut source = MemSource::new(input, failing_reads.to_vec(alloc)?);
-    let mut sink = MemSink::new(alloc, failing_writes.to_vec(alloc)?);
-    let status = run_program(alloc, owned.as_slice(), &mut source, &mut sink);
-    Ok((status, sink))
+) -> (u8, MemSink) {
+    let words = owned(rt, alloc, words);
+    let reads = failing_reads.to_vec(alloc).expect(rt, "no memory");
+    let writes = failing_writes.to_vec(alloc).expect(rt, "no memory");
+    let mut source = MemSource::new(input, reads);
+    let mut sink = MemSink::new(alloc, writes);
+    let status = run_program(alloc, words.as_slice(), &mut source, &mut sink);
+    (status, sink)
 }
 
-fn gives(
-    rt: &impl Abort,
-    alloc: Global,
-    script: &[&str],
-    status: u8,
-    text: &[&str],
-) -> Result<(), Fail> {
-    let (got, sink) = run(alloc, &["trace"], joined(alloc, script)?, &[], &[])?;
+fn gives(rt: &impl Abort, alloc: Global, script: &[&str], status: u8, text: &[&str]) {
+    let script = joined(rt, alloc, script);
+    let text = joined(rt, alloc, text);
+    let (got, sink) = run(rt, alloc, &["trace"], script, &[], &[]);
     assert_eq!(rt; got, status);
-    assert_eq!(rt; sink.taken(), joined(alloc, text)?.as_slice());
-    Ok(())
+    assert_eq!(rt; sink.taken(), text.as_slice());
 }
 
 #[test]
-fn a_session_stands(rt: HostRuntime) -> Result<(), Fail> {
+fn a_session_stands(rt: HostRuntime) {
     let script = [OPENING, REQUEST, ACCEPTED];
     let text = [CONNECTED, FOUR_DONE, GIVEN, STANDS];
-    gives(&rt, rt.alloc(), &script, 0, &text)
+    gives(&rt, rt.alloc(), &script, 0, &text);
 }
 
 #[test]
-fn settings_may_come_after_the_request(rt: HostRuntime) -> Result<(), Fail> {
+fn settings_may_come_after_the_request(rt: HostRuntime) {
     let script = [
         "server\nconnected 9 9 1000 1200\npeer_bi\n",
         REQUEST,
         "incoming\npeer_uni\nbytes 2 000400\nincoming\n",
     ];
     let text = [CONNECTED, "done\ndone\npending\ndone\ndone\n", GIVEN];
-    gives(&rt, rt.alloc(), &script, 0, &text)
+    gives(&rt, rt.alloc(), &script, 0, &text);
 }
 
 #[test]
-fn an_accepted_stream_is_read(rt: HostRuntime) -> Result<(), Fail> {
+fn an_accepted_stream_is_read(rt: HostRuntime) {
     let script = [
         OPENING,
         REQUEST,
@@ -97,11 +103,11 @@ fn an_accepted_stream_is_read(rt: HostRuntime) -> Result<(), Fail> {
         STANDS,
         "done\ndone\nuni 6\nread 6869\npending\n",
     ];
-    gives(&rt, rt.alloc(), &script, 0, &text)
+    gives(&rt, rt.alloc(), &script, 0, &text);
 }
 
 #[test]
-fn bytes_may_come_one_by_one(rt: HostRuntime) -> Result<(), Fail> {
+fn bytes_may_come_one_by_one(rt: HostRuntime) {
     let script = [
         OPENING,
         REQUEST,
@@ -117,107 +123,116 @@ fn bytes_may_come_one_by_one(rt: HostRuntime) -> Result<(), Fail> {
         FOUR_DONE,
         "done\ndone\nuni 6\nread 6869\npending\n",
     ];
-    gives(&rt, rt.alloc(), &script, 0, &text)
+    gives(&rt, rt.alloc(), &script, 0, &text);
 }
 
 #[test]
-fn a_turn_without_an_answer_is_told(rt: HostRuntime) -> Result<(), Fail> {
+fn a_turn_without_an_answer_is_told(rt: HostRuntime) {
     let alloc = rt.alloc();
     let incoming = ["server\nincoming\n"];
-    gives(&rt, alloc, &incoming, 3, &["turn 0 unlawful\n"])?;
+    gives(&rt, alloc, &incoming, 3, &["turn 0 unlawful\n"]);
     let little_credit = ["server\nconnected 9 9 24 1200\n"];
-    gives(&rt, alloc, &little_credit, 8, &["turn 0 unbuilt\n"])?;
+    gives(&rt, alloc, &little_credit, 8, &["turn 0 unbuilt\n"]);
     let again = [OPENING, "connected 9 9 1000 1200\n"];
     let text = [CONNECTED, "done\ndone\ndone\n", "turn 4 unlawful\n"];
-    gives(&rt, alloc, &again, 3, &text)
+    gives(&rt, alloc, &again, 3, &text);
 }
 
 #[test]
-fn a_script_without_turns_has_no_answer(rt: HostRuntime) -> Result<(), Fail> {
+fn a_script_without_turns_has_no_answer(rt: HostRuntime) {
     let alloc = rt.alloc();
-    gives(&rt, alloc, &["server"], 0, &[])?;
-    gives(&rt, alloc, &[], 2, &["line 1 refused\n"])?;
-    gives(&rt, alloc, &["server\nfoo"], 2, &["line 2 refused\n"])
+    gives(&rt, alloc, &["server"], 0, &[]);
+    gives(&rt, alloc, &[], 2, &["line 1 refused\n"]);
+    gives(&rt, alloc, &["server\nfoo"], 2, &["line 2 refused\n"]);
+}
+
+fn ends(
+    rt: &impl Abort,
+    alloc: Global,
+    words: &[&str],
+    input: Vec<u8>,
+    failing_reads: &[u64],
+    status: u8,
+    text: &str,
+) {
+    let (got, sink) = run(rt, alloc, words, input, failing_reads, &[]);
+    assert_eq!(rt; got, status);
+    assert_eq!(rt; sink.taken(), text.as_bytes());
 }
 
 #[test]
-fn other_words_get_the_usage_line(rt: HostRuntime) -> Result<(), Fail> {
+fn other_words_get_the_usage_line(rt: HostRuntime) {
     let alloc = rt.alloc();
     let cases: [&[&str]; 4] = [&[], &["traces"], &["trace", "trace"], &["large", "1"]];
     for words in cases {
-        let (status, sink) = run(alloc, words, joined(alloc, &["server"])?, &[], &[])?;
-        assert_eq!(rt; status, 1);
-        assert_eq!(rt; sink.taken(), b"usage: trace\n".as_slice());
+        ends(&rt, alloc, words, Vec::new(alloc), &[], 1, "usage: trace\n");
     }
-    let (status, sink) = run(alloc, &[], Vec::new(alloc), &[], &[0])?;
+}
+
+#[test]
+fn a_source_may_fail(rt: HostRuntime) {
+    let alloc = rt.alloc();
+    let comments = "# a comment of thirty-two bytes\n";
+    let lines = [comments; 600];
+    for read in 0..4 {
+        let script = joined(&rt, alloc, &lines);
+        ends(&rt, alloc, &["trace"], script, &[read], 4, "");
+    }
+    let script = joined(&rt, alloc, &lines);
+    ends(
+        &rt,
+        alloc,
+        &["trace"],
+        script,
+        &[4],
+        2,
+        "line 601 refused\n",
+    );
+}
+
+fn cuts(rt: &impl Abort, alloc: Global, write: u64, before: &[&str]) {
+    let script = joined(rt, alloc, &[OPENING, REQUEST, ACCEPTED]);
+    let text = joined(rt, alloc, before);
+    let (status, sink) = run(rt, alloc, &["trace"], script, &[], &[write]);
     assert_eq!(rt; status, 5);
-    assert_eq!(rt; sink.taken(), b"".as_slice());
-    Ok(())
+    assert_eq!(rt; sink.taken(), text.as_slice());
 }
 
 #[test]
-fn a_source_may_fail(rt: HostRuntime) -> Result<(), Fail> {
+fn a_sink_may_fail(rt: HostRuntime) {
     let alloc = rt.alloc();
-    let mut script = joined(alloc, &[OPENING, REQUEST, ACCEPTED])?;
-    for _ in 0..2000 {
-        script.extend_from_slice(b"# a comment\n")?;
-    }
-    for read in 0..5 {
-        let (status, sink) = run(alloc, &["trace"], script.clone()?, &[read], &[])?;
-        if read < 4 {
-            assert_eq!(rt; status, 4);
-            assert_eq!(rt; sink.taken(), b"".as_slice());
-        } else {
-            assert_eq!(rt; status, 0);
-        }
-    }
-    Ok(())
+    cuts(&rt, alloc, 0, &[]);
+    cuts(&rt, alloc, 1, &[CONNECTED]);
+    cuts(&rt, alloc, 2, &[CONNECTED, "done\n"]);
+    cuts(&rt, alloc, 3, &[CONNECTED, "done\ndone\n"]);
+    cuts(&rt, alloc, 4, &[CONNECTED, "done\ndone\ndone\n"]);
+    cuts(&rt, alloc, 5, &[CONNECTED, FOUR_DONE]);
+    cuts(&rt, alloc, 6, &[CONNECTED, FOUR_DONE, GIVEN]);
+}
+
+fn comment(rt: &impl Abort, alloc: Global, size: usize) -> Vec<u8> {
+    let bytes = vec![in alloc; b'#'; size];
+    bytes.expect(rt, "no memory")
 }
 
 #[test]
-fn a_sink_may_fail(rt: HostRuntime) -> Result<(), Fail> {
+fn a_script_has_a_greatest_length(rt: HostRuntime) {
     let alloc = rt.alloc();
-    let script = [OPENING, REQUEST, ACCEPTED];
-    let lines = [
-        CONNECTED, "done\n", "done\n", "done\n", "done\n", GIVEN, STANDS,
-    ];
-    let mut before = Vec::new(alloc);
-    for (write, line) in lines.iter().enumerate() {
-        let input = joined(alloc, &script)?;
-        let (status, sink) = run(alloc, &["trace"], input, &[], &[write as u64])?;
-        assert_eq!(rt; status, 5);
-        assert_eq!(rt; sink.taken(), before.as_slice());
-        before.extend_from_slice(line.as_bytes())?;
-    }
-    Ok(())
+    let longest = comment(&rt, alloc, 16_777_216);
+    ends(&rt, alloc, &["trace"], longest, &[], 2, "line 2 refused\n");
+    let longer = comment(&rt, alloc, 16_777_217);
+    ends(&rt, alloc, &["trace"], longer, &[], 7, "script too long\n");
 }
 
 #[test]
-fn a_script_has_a_greatest_length(rt: HostRuntime) -> Result<(), Fail> {
+fn no_more_than_one_byte_past_the_limit_is_read(rt: HostRuntime) {
     let alloc = rt.alloc();
-    let longest = vec![in alloc; b'#'; 16_777_216]?;
-    let (status, sink) = run(alloc, &["trace"], longest, &[], &[])?;
-    assert_eq!(rt; status, 2);
-    assert_eq!(rt; sink.taken(), b"line 2 refused\n".as_slice());
-    let longer = vec![in alloc; b'#'; 16_777_217]?;
-    let (status, sink) = run(alloc, &["trace"], longer, &[], &[])?;
-    assert_eq!(rt; status, 7);
-    assert_eq!(rt; sink.taken(), b"script too long\n".as_slice());
-    Ok(())
-}
-
-#[test]
-fn no_more_than_one_byte_past_the_limit_is_read(rt: HostRuntime) -> Result<(), Fail> {
-    let alloc = rt.alloc();
-    let mut input = vec![in alloc; b'#'; 16_777_217]?;
-    input.extend_from_slice(b"abc")?;
-    let words = vec![in alloc; String::from_str(alloc, "trace")?]?;
+    let input = comment(&rt, alloc, 16_777_220);
+    let word = String::from_str(alloc, "trace").expect(&rt, "no memory");
+    let words = vec![in alloc; word].expect(&rt, "no memory");
     let mut source = MemSource::new(input, Vec::new(alloc));
     let mut sink = MemSink::new(alloc, Vec::new(alloc));
     let status = run_program(alloc, words.as_slice(), &mut source, &mut sink);
     assert_eq!(rt; status, 7);
-    let mut buffer = [0u8; 4];
-    assert_eq!(rt; source.read(&mut buffer), Ok(3));
-    assert_eq!(rt; &buffer[..3], b"abc".as_slice());
-    Ok(())
+    assert_eq!(rt; source.read(&mut [0u8; 4]), Ok(3));
 }

@@ -1,70 +1,65 @@
-use crate::piece::Piece;
 use crate::script::lines::read_turn;
-use crate::script::{Script, ScriptRefused, read_script};
-use crate::tests::vocabulary::stream;
+use crate::script::read_script;
+use crate::tests::vocabulary::{piece, stream};
 use crate::turn::{Call, DatagramFact, Turn};
 use std::alloc::Global;
 use std::process::Abort;
-use std::test::Fail;
 use wt_proto::header_list::HeaderList;
 use wt_proto::side::Side;
 
-fn spells(rt: &impl Abort, alloc: Global, line: &str, turn: Turn) -> Result<(), Fail> {
-    let read = read_turn(alloc, line.as_bytes())?.ok_or("refused")?;
-    assert!(rt; read.is_equal(&turn));
-    Ok(())
+fn spells(rt: &impl Abort, alloc: Global, line: &str, turn: Turn) {
+    let read = read_turn(alloc, line.as_bytes()).expect(rt, "no memory");
+    assert!(rt; read.expect(rt, "refused").is_equal(&turn));
 }
 
-fn connected(uni: u64, bi: u64, credit: u64, datagrams: DatagramFact) -> Turn {
-    Turn::Connected {
-        uni,
-        bi,
-        credit,
-        datagrams,
-    }
+fn is_refused(rt: &impl Abort, alloc: Global, line: &str) {
+    let read = read_turn(alloc, line.as_bytes()).expect(rt, "no memory");
+    assert!(rt; read.is_none());
 }
 
 #[test]
-fn events_are_read(rt: HostRuntime) -> Result<(), Fail> {
+fn connections_are_read(rt: HostRuntime) {
+    let limit = Turn::Connected {
+        uni: 9,
+        bi: 8,
+        credit: 18446744073709551615,
+        datagrams: DatagramFact::Limit(1200),
+    };
+    let line = "connected 9 8 18446744073709551615 1200";
+    spells(&rt, rt.alloc(), line, limit);
+    let off = Turn::Connected {
+        uni: 0,
+        bi: 0,
+        credit: 25,
+        datagrams: DatagramFact::Disabled,
+    };
+    spells(&rt, rt.alloc(), "connected 0 0 25 off", off);
+}
+
+#[test]
+fn events_are_read(rt: HostRuntime) {
     let alloc = rt.alloc();
-    let limit = connected(9, 8, 1000, DatagramFact::Limit(1200));
-    spells(&rt, alloc, "connected 9 8 1000 1200", limit)?;
-    let off = connected(0, 0, u64::MAX, DatagramFact::Disabled);
-    spells(&rt, alloc, "connected 0 0 18446744073709551615 off", off)?;
-    let unsupported = connected(1, 2, 3, DatagramFact::Unsupported);
-    spells(&rt, alloc, "connected 1 2 3 unsupported", unsupported)?;
-    spells(&rt, alloc, "peer_uni", Turn::PeerUni)?;
-    spells(&rt, alloc, "peer_bi", Turn::PeerBi)?;
-    let bytes = Turn::Bytes {
-        id: stream(2),
-        piece: Piece::from_slice(alloc, &[0, 0xab, 0xcd])?,
-    };
-    spells(&rt, alloc, "bytes 2 00aBCd", bytes)?;
-    let nothing = Turn::Bytes {
-        id: stream(6),
-        piece: Piece::new(alloc),
-    };
-    spells(&rt, alloc, "bytes 6 -", nothing)
+    spells(&rt, alloc, "peer_uni", Turn::PeerUni);
+    spells(&rt, alloc, "peer_bi", Turn::PeerBi);
+    let id = stream(2);
+    let piece = piece(&rt, alloc, &[0, 0xab, 0xcd]);
+    spells(&rt, alloc, "bytes 2 00aBCd", Turn::Bytes { id, piece });
 }
 
 #[test]
-fn calls_are_read(rt: HostRuntime) -> Result<(), Fail> {
+fn calls_are_read(rt: HostRuntime) {
     let alloc = rt.alloc();
-    spells(&rt, alloc, "incoming", Turn::Call(Call::Incoming))?;
-    let accept = Call::Accept {
-        headers: HeaderList::new(alloc),
-    };
-    spells(&rt, alloc, "accept", Turn::Call(accept))?;
-    spells(&rt, alloc, "accept_uni", Turn::Call(Call::AcceptUni))?;
-    let read = Call::Read {
-        id: stream(6),
-        size: 16,
-    };
-    spells(&rt, alloc, "read 6 16", Turn::Call(read))
+    spells(&rt, alloc, "incoming", Turn::Call(Call::Incoming));
+    spells(&rt, alloc, "accept_uni", Turn::Call(Call::AcceptUni));
+    let headers = HeaderList::new(alloc);
+    spells(&rt, alloc, "accept", Turn::Call(Call::Accept { headers }));
+    let id = stream(6);
+    let read = Call::Read { id, size: 16 };
+    spells(&rt, alloc, "read 6 16", Turn::Call(read));
 }
 
 #[test]
-fn other_lines_are_refused(rt: HostRuntime) -> Result<(), Fail> {
+fn other_lines_are_refused(rt: HostRuntime) {
     let lines = [
         "",
         " ",
@@ -92,29 +87,28 @@ fn other_lines_are_refused(rt: HostRuntime) -> Result<(), Fail> {
         "read 6 x",
     ];
     for line in lines {
-        assert!(rt; read_turn(rt.alloc(), line.as_bytes())?.is_none());
+        is_refused(&rt, rt.alloc(), line);
     }
-    Ok(())
-}
-
-fn read(alloc: Global, text: &str) -> Result<Result<Script, ScriptRefused>, Fail> {
-    Ok(read_script(alloc, text.as_bytes())?)
 }
 
 #[test]
-fn scripts_are_read(rt: HostRuntime) -> Result<(), Fail> {
-    let text = "# a comment\n\nserver\npeer_uni\n#peer_uni\n\npeer_bi";
-    let script = read(rt.alloc(), text)?.ok().ok_or("refused")?;
+fn scripts_are_read(rt: HostRuntime) {
+    let text = b"# a comment\n\nserver\npeer_uni\n#peer_uni\n\npeer_bi";
+    let read = read_script(rt.alloc(), text).expect(&rt, "no memory");
+    let script = read.ok().expect(&rt, "refused");
     assert!(rt; script.side == Side::Server);
-    let turns = script.turns.as_slice();
-    assert_eq!(rt; turns.len(), 2);
-    assert!(rt; turns[0].is_equal(&Turn::PeerUni));
-    assert!(rt; turns[1].is_equal(&Turn::PeerBi));
-    Ok(())
+    assert_eq!(rt; script.turns.as_slice().len(), 2);
+    assert!(rt; script.turns.as_slice()[0].is_equal(&Turn::PeerUni));
+    assert!(rt; script.turns.as_slice()[1].is_equal(&Turn::PeerBi));
+}
+
+fn refuses(rt: &impl Abort, alloc: Global, text: &str, line: u64) {
+    let read = read_script(alloc, text.as_bytes()).expect(rt, "no memory");
+    assert_eq!(rt; read.err().expect(rt, "read").line, line);
 }
 
 #[test]
-fn the_first_other_line_refuses_a_script(rt: HostRuntime) -> Result<(), Fail> {
+fn the_first_other_line_refuses_a_script(rt: HostRuntime) {
     let cases = [
         ("", 1),
         ("\n", 2),
@@ -128,8 +122,6 @@ fn the_first_other_line_refuses_a_script(rt: HostRuntime) -> Result<(), Fail> {
         ("server\r\n", 1),
     ];
     for (text, line) in cases {
-        let refused = read(rt.alloc(), text)?.err().ok_or("read")?;
-        assert_eq!(rt; refused, ScriptRefused { line });
+        refuses(&rt, rt.alloc(), text, line);
     }
-    Ok(())
 }

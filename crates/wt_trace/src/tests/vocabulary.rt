@@ -3,7 +3,7 @@ use crate::answer::{Answer, Answers, Reply};
 use crate::piece::Piece;
 use crate::turn::{Call, DatagramFact, Turn, Turns};
 use std::alloc::Global;
-use std::test::Fail;
+use std::process::Abort;
 use wt_proto::header_list::HeaderList;
 use wt_proto::ids::{SessionId, StreamId};
 use wt_proto::varint::VarInt;
@@ -12,124 +12,132 @@ pub fn stream(id: u32) -> StreamId {
     StreamId::new(VarInt::from_u32(id))
 }
 
-pub fn session(id: u32) -> Result<SessionId, Fail> {
-    Ok(SessionId::try_from_session_stream(stream(id)).ok_or("no session's id")?)
+pub fn session(rt: &impl Abort, id: u32) -> SessionId {
+    SessionId::try_from_session_stream(stream(id)).expect(rt, "no session's id")
 }
 
-pub fn header(alloc: Global, name: &str, value: &str) -> Result<HeaderList, Fail> {
+pub fn piece(rt: &impl Abort, alloc: Global, bytes: &[u8]) -> Piece {
+    Piece::from_slice(alloc, bytes).expect(rt, "no memory")
+}
+
+pub fn header(rt: &impl Abort, alloc: Global, name: &str, value: &str) -> HeaderList {
     let mut headers = HeaderList::new(alloc);
-    headers.set(name, value)?;
-    Ok(headers)
+    headers.set(name, value).expect(rt, "no memory");
+    headers
 }
 
-pub fn send(alloc: Global, id: u32, bytes: &[u8]) -> Result<Action, Fail> {
-    Ok(Action::Send {
-        id: stream(id),
-        piece: Piece::from_slice(alloc, bytes)?,
-    })
+pub fn add_send(rt: &impl Abort, alloc: Global, actions: &mut Actions, id: u32, bytes: &[u8]) {
+    let piece = piece(rt, alloc, bytes);
+    let id = stream(id);
+    let pushed = actions.push(Action::Send { id, piece });
+    pushed.expect(rt, "no memory");
+}
+
+fn call_is_copied(rt: &impl Abort, alloc: Global, call: Call) {
+    let copy = call.copy(alloc).expect(rt, "no memory");
+    assert!(rt; copy.is_equal(&call));
+}
+
+fn turn_is_copied(rt: &impl Abort, alloc: Global, turn: Turn) {
+    let copy = turn.copy(alloc).expect(rt, "no memory");
+    assert!(rt; copy.is_equal(&turn));
+}
+
+fn reply_is_copied(rt: &impl Abort, alloc: Global, reply: Reply) {
+    let mut actions = Actions::new(alloc);
+    add_send(rt, alloc, &mut actions, 3, b"hi");
+    let answer = Answer { reply, actions };
+    let copy = answer.copy().expect(rt, "no memory");
+    assert!(rt; copy.is_equal(&answer));
 }
 
 #[test]
-fn pieces_are_copied(rt: HostRuntime) -> Result<(), Fail> {
-    let piece = Piece::from_slice(rt.alloc(), b"hi")?;
-    assert!(rt; piece.copy()?.is_equal(&piece));
-    assert_eq!(rt; piece.copy()?, piece);
-    assert!(rt; !piece.is_equal(&Piece::from_slice(rt.alloc(), b"ho")?));
-    assert_eq!(rt; piece.into_vec().as_slice(), b"hi".as_slice());
-    Ok(())
+fn pieces_are_copied(rt: HostRuntime) {
+    let hi = piece(&rt, rt.alloc(), b"hi");
+    let copy = hi.copy().expect(&rt, "no memory");
+    assert!(rt; copy.is_equal(&hi));
+    assert!(rt; copy == hi);
+    assert!(rt; !copy.is_equal(&piece(&rt, rt.alloc(), b"ho")));
 }
 
 #[test]
-fn calls_are_copied(rt: HostRuntime) -> Result<(), Fail> {
+fn calls_are_copied(rt: HostRuntime) {
     let alloc = rt.alloc();
-    let read = Call::Read {
-        id: stream(6),
-        size: 64,
-    };
-    assert!(rt; read.copy(alloc)?.is_equal(&read));
-    assert!(rt; Call::Incoming.copy(alloc)?.is_equal(&Call::Incoming));
-    assert!(rt; Call::AcceptUni.copy(alloc)?.is_equal(&Call::AcceptUni));
-    let accept = Call::Accept {
-        headers: header(alloc, "name", "value")?,
-    };
-    assert!(rt; accept.copy(alloc)?.is_equal(&accept));
-    let other = Call::Accept {
-        headers: header(alloc, "name", "other")?,
-    };
-    assert!(rt; !accept.is_equal(&other));
-    assert!(rt; !accept.is_equal(&read));
-    Ok(())
+    let id = stream(6);
+    call_is_copied(&rt, alloc, Call::Incoming);
+    call_is_copied(&rt, alloc, Call::AcceptUni);
+    call_is_copied(&rt, alloc, Call::Read { id, size: 64 });
+    let headers = header(&rt, alloc, "name", "value");
+    call_is_copied(&rt, alloc, Call::Accept { headers });
 }
 
 #[test]
-fn turns_are_copied(rt: HostRuntime) -> Result<(), Fail> {
+fn turns_are_copied(rt: HostRuntime) {
     let alloc = rt.alloc();
-    let mut turns = Turns::new(alloc);
-    turns.push(Turn::Connected {
+    let id = stream(2);
+    let piece = piece(&rt, alloc, b"hi");
+    turn_is_copied(&rt, alloc, Turn::Bytes { id, piece });
+    turn_is_copied(&rt, alloc, Turn::PeerUni);
+    turn_is_copied(&rt, alloc, Turn::PeerBi);
+    turn_is_copied(&rt, alloc, Turn::Call(Call::Incoming));
+    let connected = Turn::Connected {
         uni: 9,
         bi: 9,
         credit: 1000,
         datagrams: DatagramFact::Limit(1200),
-    })?;
-    turns.push(Turn::PeerUni)?;
-    turns.push(Turn::PeerBi)?;
-    turns.push(Turn::Bytes {
-        id: stream(2),
-        piece: Piece::from_slice(alloc, b"hi")?,
-    })?;
-    turns.push(Turn::Call(Call::Incoming))?;
-    let copied = turns.copy()?;
-    assert_eq!(rt; copied.as_slice().len(), 5);
-    for (turn, copy) in turns.as_slice().iter().zip(copied.as_slice()) {
-        assert!(rt; turn.is_equal(copy));
-    }
-    assert_eq!(rt; Turns::from_vec(copied.into_vec()).as_slice().len(), 5);
-    Ok(())
+    };
+    turn_is_copied(&rt, alloc, connected);
 }
 
 #[test]
-fn actions_are_copied(rt: HostRuntime) -> Result<(), Fail> {
+fn lists_of_turns_are_copied(rt: HostRuntime) {
+    let mut turns = Turns::new(rt.alloc());
+    turns.push(Turn::PeerUni).expect(&rt, "no memory");
+    let copy = turns.copy().expect(&rt, "no memory");
+    assert_eq!(rt; copy.as_slice().len(), 1);
+    assert!(rt; copy.as_slice()[0].is_equal(&Turn::PeerUni));
+    assert_eq!(rt; Turns::from_vec(copy.into_vec()).as_slice().len(), 1);
+}
+
+#[test]
+fn actions_are_copied(rt: HostRuntime) {
     let alloc = rt.alloc();
     let mut actions = Actions::new(alloc);
-    actions.push(Action::Opened { id: stream(3) })?;
-    actions.push(send(alloc, 3, b"hi")?)?;
-    let copied = actions.copy()?;
-    assert!(rt; copied.is_equal(&actions));
-    assert_eq!(rt; copied.as_slice().len(), 2);
-    actions.push(send(alloc, 3, b"ho")?)?;
-    assert!(rt; !copied.is_equal(&actions));
-    assert!(rt; Actions::from_vec(copied.copy()?.into_vec()).is_equal(&copied));
-    Ok(())
+    let opened = actions.push(Action::Opened { id: stream(3) });
+    opened.expect(&rt, "no memory");
+    add_send(&rt, alloc, &mut actions, 3, b"hi");
+    let copy = actions.copy().expect(&rt, "no memory");
+    assert!(rt; copy.is_equal(&actions));
+    assert!(rt; copy == actions);
+    let kept = Actions::from_vec(copy.into_vec());
+    assert!(rt; kept.is_equal(&actions));
 }
 
 #[test]
-fn answers_are_copied(rt: HostRuntime) -> Result<(), Fail> {
+fn replies_are_copied(rt: HostRuntime) {
+    let alloc = rt.alloc();
+    reply_is_copied(&rt, alloc, Reply::Done);
+    reply_is_copied(&rt, alloc, Reply::Uni(stream(6)));
+    reply_is_copied(&rt, alloc, Reply::Read(None));
+    let read = Reply::Read(Some(piece(&rt, alloc, b"hi")));
+    reply_is_copied(&rt, alloc, read);
+    let request = Reply::Request {
+        id: session(&rt, 0),
+        headers: header(&rt, alloc, ":path", "/"),
+    };
+    reply_is_copied(&rt, alloc, request);
+}
+
+#[test]
+fn lists_of_answers_are_copied(rt: HostRuntime) {
     let alloc = rt.alloc();
     let mut answers = Answers::new(alloc);
-    let replies = [
-        Reply::Done,
-        Reply::Pending,
-        Reply::NoSession,
-        Reply::NoStream,
-        Reply::Request {
-            id: session(0)?,
-            headers: header(alloc, ":path", "/")?,
-        },
-        Reply::Session(session(0)?),
-        Reply::Uni(stream(6)),
-        Reply::Read(None),
-        Reply::Read(Some(Piece::from_slice(alloc, b"hi")?)),
-    ];
-    for reply in replies {
-        let mut actions = Actions::new(alloc);
-        actions.push(send(alloc, 3, b"hi")?)?;
-        answers.push(Answer { reply, actions })?;
-    }
-    let copied = answers.copy()?;
-    assert_eq!(rt; copied.as_slice().len(), 9);
-    for (answer, copy) in answers.as_slice().iter().zip(copied.as_slice()) {
-        assert!(rt; answer.is_equal(copy));
-    }
-    assert_eq!(rt; Answers::from_vec(copied.into_vec()).as_slice().len(), 9);
-    Ok(())
+    let reply = Reply::Pending;
+    let actions = Actions::new(alloc);
+    let pushed = answers.push(Answer { reply, actions });
+    pushed.expect(&rt, "no memory");
+    let copy = answers.copy().expect(&rt, "no memory");
+    assert_eq!(rt; copy.as_slice().len(), 1);
+    assert!(rt; copy.as_slice()[0].is_equal(&answers.as_slice()[0]));
+    assert_eq!(rt; Answers::from_vec(copy.into_vec()).as_slice().len(), 1);
 }
