@@ -6,6 +6,7 @@ use Rattle.wt_trace.specs.declared.turn.Turn.{Turn}
 use Rattle.wt_trace.specs.declared.answer.Answer.{Answer}
 use Rattle.wt_trace.specs.History.{Past}
 use Rattle.wt_trace.specs.Built.{is_built}
+use Rattle.wt_trace.specs.Kept.{all_good}
 use Rattle.wt_trace.specs.Next.{Run, Stop, Finished, AtUnlawful, AtUnbuilt, run, run_from, stops_at, with_answer, is_lawful, next, then_turn, meaning_from}
 
 pub both : (a b : Bool) → a ≡ true → b ≡ true → IsTrue (a && b)
@@ -59,3 +60,9 @@ pub run-means : (side : Side) (h : Past) (ts : List Turn) → (run_from side h t
 run-means side h ts =
     along side (λ g us r. r.answers ≡ meaning_from side g (take (length r.answers) us)) (λ g. refl) (λ g t us stop. refl)
     (λ g t us r l u later. ap (λ (answers : List Answer). next side g t ∷ answers) later) h ts
+
+-- those turns are lawful and built
+pub run-good : (side : Side) (h : Past) (ts : List Turn) → IsTrue (all_good side h (take (length (run_from side h ts).answers) ts))
+run-good side h ts =
+    along side (λ g us r. IsTrue (all_good side g (take (length r.answers) us))) (λ g. refl) (λ g t us stop. refl)
+    (λ g t us r l u later. rw (l, u) later) h ts

@@ -1,5 +1,6 @@
 //! A whole list of turns.
-ghost use Rattle.std.specs.Prelude.{◌≡◌, ◌≤◌, ℕ, List, length, take};
+ghost use Rattle.std.specs.Prelude.{◌≡◌, ◌≤◌, ℕ, IsTrue, List, [], length, take};
+ghost use Rattle.wt_trace.specs.Kept.{all_good};
 ghost use Rattle.wt_trace.specs.Laws.{ActionsHaveCauses, CutsWell, HoldsOf, IfAnswered, PendingWhereNothingIsLeft, ReadsInOrder, RepliesHaveCauses, SessionsStandRightly, StandsWhereItMay, StreamsGivenRightly};
 ghost use Rattle.wt_trace.specs.Next.{meaning, past_of};
 ghost use Rattle.wt_trace.specs.Trace.{IsTrace};
@@ -38,6 +39,7 @@ impl From<OutOfMemory> for TraceError {
 pub fn run_trace(alloc: Global, side: Side, turns: &[Turn]) -> Result<Answers, TraceError>
     ensures trace { IsTrace side turns.now result }
     ensures meaning { IfAnswered result (λ answers. answers ≡ meaning side (take (length answers) turns.now)) }
+    ensures good { IfAnswered result (λ answers. IsTrue (all_good side [] (take (length answers) turns.now))) }
     ensures sessions { IfAnswered result (HoldsOf (SessionsStandRightly side) turns.now) }
     ensures allowed { IfAnswered result (λ answers. (n : ℕ) → n ≤ length answers → StandsWhereItMay side turns.now n) }
     ensures streams { IfAnswered result (HoldsOf (StreamsGivenRightly side) turns.now) }

@@ -3,11 +3,13 @@ use Rattle.wt_proto.specs.declared.side.Side.{Side}
 use Rattle.wt_trace.specs.declared.answer.Answer.{Answer}
 use Rattle.wt_trace.specs.declared.turn.Turn.{Turn}
 use Rattle.wt_trace.specs.Exchanges.{Exchange, exchanges}
+use Rattle.std.specs.Prelude.{IsTrue}
+use Rattle.wt_trace.specs.Kept.{all_good}
 use Rattle.wt_trace.specs.Laws.{KeepsLaws, HoldsOf, SessionsStandRightly, StreamsGivenRightly, ReadsInOrder, PendingWhereNothingIsLeft, RepliesHaveCauses, ActionsHaveCauses, StandsWhereItMay}
 use Rattle.wt_trace.specs.Next.{run, meaning, past_of}
 use Rattle.wt_trace.proofs.AllTurns.{answered, each, laws, stands-where}
 use Rattle.wt_trace.proofs.Cutting.{cuts-well}
-use Rattle.wt_trace.proofs.RunLaws.{run-means}
+use Rattle.wt_trace.proofs.RunLaws.{run-good, run-means}
 use Rattle.wt_trace.proofs.trace.run_trace.Goals as goal
 
 -- one of the laws, of every run
@@ -17,6 +19,10 @@ law-of side ts Law f = each (KeepsLaws side) Law f [] (exchanges ts (run side ts
 pub returns-clause-meaning : goal.returns-clause-meaning
 returns-clause-meaning c =
     answered c.args.side c.args.turns.now _ (λ answers. answers ≡ meaning c.args.side (take (length answers) c.args.turns.now)) c.run_turns.ensures.trace (run-means c.args.side [] c.args.turns.now)
+
+pub returns-clause-good : goal.returns-clause-good
+returns-clause-good c =
+    answered c.args.side c.args.turns.now _ (λ answers. IsTrue (all_good c.args.side [] (take (length answers) c.args.turns.now))) c.run_turns.ensures.trace (run-good c.args.side [] c.args.turns.now)
 
 pub returns-clause-allowed : goal.returns-clause-allowed
 returns-clause-allowed c =
