@@ -7,7 +7,7 @@ use Rattle.wt_proto.specs.declared.walk.Step.TheVariants.{Goes, Stops}
 use Rattle.wt_proto.specs.Bi.{bi_decides, bi_judged, bi_verdict_of, headers_verdict, or_cut}
 use Rattle.wt_proto.specs.FieldSection.{headers_of}
 use Rattle.wt_proto.specs.Frames.{Headers, first_judged, frame_at}
-use Rattle.wt_proto.specs.Steady.{IsSteady}
+use Rattle.wt_proto.proofs.Steady.{IsSteady}
 use Rattle.wt_proto.specs.Uni.{is_final}
 use Rattle.wt_proto.specs.Varint.{varint_at}
 use Rattle.wt_proto.specs.Walk.{Reached, walked}

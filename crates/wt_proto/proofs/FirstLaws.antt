@@ -2,7 +2,7 @@
 use Rattle.std.proofs.Common.{◌≡◌, ℕ, ◌+◌, ◌-◌, List, take, drop, Option, Some, None, refl, ap, arith}
 use Rattle.wt_proto.specs.declared.walk.Step.TheVariants.{Goes, Stops}
 use Rattle.wt_proto.specs.Frames.{Frame, Data, Headers, Settings, TooLong, Signal, Skipped, decided, first_judged, frame_at}
-use Rattle.wt_proto.specs.Steady.{taken}
+use Rattle.wt_proto.proofs.Steady.{taken}
 use Rattle.wt_proto.proofs.FrameLaws.{IsEffect}
 
 module _ {O : Type 0} (judge : Frame → ℕ → O) where

@@ -1,5 +1,6 @@
 pub mod VarintAgain
 pub mod VarintLaws
+pub mod Steady
 pub mod WalkLaws
 pub mod FrameLaws
 pub mod UniLaws

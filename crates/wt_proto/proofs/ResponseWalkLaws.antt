@@ -7,7 +7,7 @@ use Rattle.wt_proto.specs.declared.walk.Step.TheVariants.{Goes, Stops}
 use Rattle.wt_proto.specs.ResponseWalk.{response_decides, response_judged, response_walk_of, headers_response, is_answered, or_waiting}
 use Rattle.wt_proto.specs.FieldSection.{headers_of}
 use Rattle.wt_proto.specs.Frames.{Headers, first_judged, frame_at, unread}
-use Rattle.wt_proto.specs.Steady.{IsSteady}
+use Rattle.wt_proto.proofs.Steady.{IsSteady}
 use Rattle.wt_proto.specs.Walk.{Reached, walked}
 use Rattle.wt_proto.proofs.FirstLaws.{first-effect, first-headers, first-next}
 use Rattle.wt_proto.proofs.FrameLaws.{frames-steady, unread-on}

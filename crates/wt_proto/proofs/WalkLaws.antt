@@ -5,7 +5,7 @@ use Rattle.std.proofs.Math.ListN.{drop_of_length-le}
 use Rattle.wt_proto.specs.declared.walk.Step.{Step}
 use Rattle.wt_proto.specs.declared.walk.Step.TheVariants.{Cut, Goes, Stops}
 use Rattle.wt_proto.specs.Walk.{led, walk, walked}
-use Rattle.wt_proto.specs.Steady.{taken, IsSteady}
+use Rattle.wt_proto.proofs.Steady.{taken, IsSteady}
 
 pub stopped : {S O : Type 0} (decide : S → List ℕ → Step S O) (s : S) (o : O) (bytes : List ℕ) →
     walk decide s (Some o) 0 bytes ≡ record { state = s; stop = Some o; between = true }

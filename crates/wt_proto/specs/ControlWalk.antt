@@ -7,7 +7,7 @@ use Rattle.wt_proto.specs.declared.settings.Settings.{Settings}
 use Rattle.wt_proto.specs.declared.side.StreamEnd.{StreamEnd}
 use Rattle.wt_proto.specs.declared.side.StreamEnd.TheVariants.{Running, Fin, Reset}
 use Rattle.wt_proto.specs.declared.walk.Step.{Step}
-use Rattle.wt_proto.specs.declared.walk.Step.TheVariants.{Cut, Goes, Stops}
+use Rattle.wt_proto.specs.declared.walk.Step.TheVariants.{Goes, Stops}
 use Rattle.wt_proto.specs.Frames as frames
 use Rattle.wt_proto.specs.Settings.{settings_of}
 use Rattle.wt_proto.specs.Walk.{Reached, walked}

@@ -5,7 +5,6 @@ pub mod Uni
 pub mod Walk
 pub mod Frames
 pub mod Front
-pub mod Steady
 pub mod FrameBytes
 pub mod StreamHeader
 pub mod Utf8

@@ -1,5 +1,5 @@
 -- The walk over a session's stream behind the frame that made the session stand, over all bytes and the end (draft-ietf-webtrans-http3, section 5; RFC 9297, section 3.2).
-use Rattle.std.specs.Prelude.{ℕ, List, [], Bool, true, false, Option, Some, None, Result, Ok, Err, if◌then◌else◌}
+use Rattle.std.specs.Prelude.{ℕ, List, [], Bool, true, false, Option, Some, None, Result, Ok, Err}
 use Rattle.wt_proto.specs.declared.capsule.CloseWebTransportSession.{CloseWebTransportSession}
 use Rattle.wt_proto.specs.declared.error.ErrorCode.{ErrorCode}
 use Rattle.wt_proto.specs.declared.error.ErrorCode.TheVariants.{FrameUnexpected, ExcessiveLoad, ClosedCriticalStream}
@@ -8,7 +8,7 @@ use Rattle.wt_proto.specs.declared.session_walk.SessionWalk.TheVariants as walks
 use Rattle.wt_proto.specs.declared.side.StreamEnd.{StreamEnd}
 use Rattle.wt_proto.specs.declared.side.StreamEnd.TheVariants.{Running, Fin, Reset}
 use Rattle.wt_proto.specs.declared.walk.Step.{Step}
-use Rattle.wt_proto.specs.declared.walk.Step.TheVariants.{Cut, Goes, Stops}
+use Rattle.wt_proto.specs.declared.walk.Step.TheVariants.{Goes, Stops}
 use Rattle.wt_proto.specs.Capsule.{close_value_at, close_of}
 use Rattle.wt_proto.specs.Frames as frames
 use Rattle.wt_proto.specs.Walk.{Reached, walked}

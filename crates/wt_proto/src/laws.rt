@@ -1,10 +1,11 @@
 //! What holds of the grammar, each a function whose contract is the law.
-ghost use Rattle.std.specs.Prelude.{◌≡◌, ℕ, List, ◌++◌, IsSome, true};
+ghost use Rattle.std.specs.Prelude.{◌≡◌, ℕ, List, ◌++◌, IsSome, Some, true};
 ghost use Rattle.wt_proto.specs.Bi.{bi_verdict_of};
 ghost use Rattle.wt_proto.specs.ControlWalk.{control_walk_of};
 ghost use Rattle.wt_proto.specs.ResponseWalk.{is_answered, response_walk_of};
 ghost use Rattle.wt_proto.specs.SessionWalk.{is_over, session_walk_of};
 ghost use Rattle.wt_proto.specs.Uni.{is_final, uni_verdict_of};
+ghost use Rattle.wt_proto.specs.declared.settings.Settings.{Settings};
 ghost use Rattle.wt_proto.specs.declared.side.StreamEnd.{StreamEnd};
 ghost use Rattle.wt_proto.specs.declared.side.StreamEnd.TheVariants.{Running};
 
@@ -30,6 +31,13 @@ pub fn bi_verdict_stays()
 pub fn control_fault_stays()
     ensures { (bytes more : List ℕ) (end : StreamEnd) → IsSome (control_walk_of bytes Running).fault →
         control_walk_of (bytes ++ more) end ≡ control_walk_of bytes Running }
+{}
+
+/// Settings that came stay under more bytes and whatever the end.
+#[tactic(auto, using(crate::proofs::ControlLaws::settings_stay))]
+pub fn settings_stay()
+    ensures { (bytes more : List ℕ) (end later : StreamEnd) (s : Settings) → (control_walk_of bytes end).settings ≡ Some s →
+        (control_walk_of (bytes ++ more) later).settings ≡ Some s }
 {}
 
 /// A session's close or fault stays under more bytes and under an end.

@@ -10,7 +10,7 @@ pub mod control_walk;
 pub mod datagram;
 pub mod error;
 mod exercise;
-pub mod field_section;
+mod field_section;
 #[cfg(test)]
 mod field_tests;
 pub mod frame;
@@ -21,7 +21,7 @@ pub mod ids;
 pub mod laws;
 pub mod lookup;
 pub mod outgoing;
-pub mod prefixed_integer;
+mod prefixed_integer;
 pub mod read_back;
 pub mod response_walk;
 pub mod rows;

@@ -14,3 +14,9 @@ pub mod Start
 pub mod ReplayCalls
 pub mod Standing
 pub mod RunLaws
+pub mod Turned
+pub mod Tells
+pub mod EachTurn
+pub mod AllTurns
+pub mod Cutting
+pub mod LawsHold

@@ -31,8 +31,9 @@ use Rattle.wt_trace.specs.Calls.{in_session, accept_uni, names, can_read, offset
 use Rattle.wt_trace.specs.Next.{went, between, joined, next, then_turn, called, is_lawful, is_given, responds_to}
 use Rattle.wt_trace.specs.Built.{is_built_call}
 use Rattle.wt_trace.specs.Kept.{Kept, kept_of, stream_of, unis_of, bis_of, progress_of}
-use Rattle.wt_trace.specs.Step.{answer_of, after, settings_came, control_came, request_on, incoming_reply, left_in, uni_reply, with_handed, with_uni, handed, read_reply, read_on, unread_of, uni_at, has_uni, bytes_reply, given_after, session_named, uni_in, fresh}
+use Rattle.wt_trace.specs.Step.{answer_of, after, settings_came, request_on, incoming_reply, left_in, uni_reply, with_handed, with_uni, handed, read_reply, read_on, unread_of, uni_at, has_uni, bytes_reply, given_after, session_named, uni_in, fresh}
 use Rattle.wt_trace.specs.Step as step
+use Rattle.wt_trace.specs.Exchanges.{control_came}
 use Rattle.wt_trace.proofs.Readable.{one_fields, uni-empty, bi-empty, IsOrWaits, Waits, Is, settings-waits}
 use Rattle.wt_trace.proofs.WalkFacts.{shown}
 use Rattle.wt_trace.proofs.Moments.{settings_in, verdicts_of}
@@ -41,19 +42,20 @@ use Rattle.wt_trace.proofs.Facts.{Facts, Calls, built-streams, accepted, facts-d
 use Rattle.wt_trace.proofs.AfterTurns.{between-none}
 use Rattle.wt_trace.proofs.CallTurns.{asked-is, placed, asked_for, incoming-is, left_of, accept_uni-is, handed_over, hands-is, session_begun, accept-is, unread_in, unread-is, facts-read, facts-asked, facts-handed, facts-begun}
 use Rattle.wt_trace.proofs.Ranges.{map-set}
+use Rattle.wt_trace.proofs.Turned.{Turned, NoRequest, GivesRequest, Accepts, NoSession, NoneLeft, HandsOut, NoStream, ReadsNone, NoBytes, Reads, telling}
 use Rattle.wt_trace.proofs.Replay.{kept, uni_at-is, has_uni-is, same-kept, apart}
 
 -- ---- what the streams that are kept show
 
-control-came : (h : Past) (v : Verdict) → IsOrWaits (Control 1) v → (v ≡ Incomplete → settings_in h ≡ false) → control_came v (contents h 2) ≡ settings_in h
+pub control-came : (h : Past) (v : Verdict) → IsOrWaits (Control 1) v → (v ≡ Incomplete → settings_in h ≡ false) → control_came v (contents h 2) ≡ settings_in h
 control-came h v Waits w = sym (w refl)
 control-came h v Is w = refl
 
-session-came : (v : Verdict) (bytes : List ℕ) → IsOrWaits (WebTransport 0 3) v → control_came v bytes ≡ false
+pub session-came : (v : Verdict) (bytes : List ℕ) → IsOrWaits (WebTransport 0 3) v → control_came v bytes ≡ false
 session-came v bytes Waits = refl
 session-came v bytes Is = refl
 
-or-false : (a : Bool) → (a || false) ≡ a
+pub or-false : (a : Bool) → (a || false) ≡ a
 or-false true = refl
 or-false false = refl
 
@@ -82,14 +84,18 @@ pub record Replays (h : Past) (c : Call) : Type 0 where
   pub answer : answer_of (kept h) (turns.Call c) ≡ next Server h (turns.Call c)
   pub after : after (kept h) (turns.Call c) ≡ kept (then_turn Server h (turns.Call c))
   pub facts : Facts (then_turn Server h (turns.Call c))
+  pub turned : Turned h (turns.Call c) (next Server h (turns.Call c)) (then_turn Server h (turns.Call c))
 
 -- by what the call gives in closed form
 replays : (h g : Past) (c : Call) (r : Reply) (out : List Action) → called Server h c ≡ tells g r → between h g ≡ out
-    → answer_of (kept h) (turns.Call c) ≡ record { reply = r; actions = joined out } → after (kept h) (turns.Call c) ≡ kept g → Facts g → Replays h c
-replays h g c r out e b a k f = record {
+    → answer_of (kept h) (turns.Call c) ≡ record { reply = r; actions = joined out } → after (kept h) (turns.Call c) ≡ kept g → Facts g
+    → Turned h (turns.Call c) (record { reply = r; actions = joined out }) g → Replays h c
+replays h g c r out e b a k f w = record {
   answer = a ∙ ap (λ (o : List Action). record { reply = r; actions = joined o }) (sym b) ∙ ap (λ (t : Told). record { reply = t.reply; actions = joined (between h t.past) }) (sym e);
   after = k ∙ ap (λ (t : Told). kept t.past) (sym e);
   facts = subst (λ (t : Told). Facts t.past) (sym e) f;
+  turned = subst (λ (t : Told). Turned h (turns.Call c) (record { reply = t.reply; actions = joined (between h t.past) }) t.past) (sym e)
+      (subst (λ (o : List Action). Turned h (turns.Call c) (record { reply = r; actions = joined o }) g) (sym b) w);
 }
 
 replying-same : (r s : Reply) → r ≡ s → ◌≡◌ {A = Answer} (record { reply = r; actions = [] }) (record { reply = s; actions = [] })
@@ -111,7 +117,7 @@ waits-replays h f g none pending =
     let reply : incoming_reply (kept h) ≡ replies.Pending = reply-is h f ∙ pending in
     replays h (Did Asked ∷ h) calls.Incoming replies.Pending [] (called-incoming h f g ∙ ap (gives_request Server h) none ∙ asked-is h replies.Pending f)
     (between-none h (Did Asked ∷ h) refl) (replying-same _ _ reply)
-    (ap (λ (r : Reply). record (kept h) { progress = given_after (kept h).progress r }) reply) (facts-asked h f)
+    (ap (λ (r : Reply). record (kept h) { progress = given_after (kept h).progress r }) reply) (facts-asked h f) (NoRequest g none)
 
 gives-replays : (h : Past) → Facts h → list_any is_given (deeds h) ≡ false → standing (deeds h) ≡ None → settings_in h ≡ true
     → bi_verdict_of (contents h 0) Running ≡ Request one_fields 83 → Replays h calls.Incoming
@@ -121,7 +127,7 @@ gives-replays h f g n came request =
     replays h (Did (Given 0) ∷ h) calls.Incoming (replies.Request 0 one_fields) []
     (called-incoming h f g ∙ rw (came, request) (ap (λ g. tells g (replies.Request 0 one_fields)) (moment-is h (Did (Given 0)) facts.connection)))
     (between-none h (Did (Given 0) ∷ h) refl) (replying-same _ _ reply)
-    (ap (λ (r : Reply). record (kept h) { progress = given_after (kept h).progress r }) reply ∙ same-kept _ _ _ _ _ _ _ _ refl refl refl (rw n refl)) facts
+    (ap (λ (r : Reply). record (kept h) { progress = given_after (kept h).progress r }) reply ∙ same-kept _ _ _ _ _ _ _ _ refl refl refl (rw n refl)) facts (GivesRequest g n came request)
 
 incoming-by : (h : Past) → Facts h → list_any is_given (deeds h) ≡ false → standing (deeds h) ≡ None → (b : Bool) (v : Verdict) → IsOrWaits (Request one_fields 83) v
     → settings_in h ≡ b → bi_verdict_of (contents h 0) Running ≡ v → Replays h calls.Incoming
@@ -155,7 +161,7 @@ accept-replays h f g n =
     let given : (kept h).progress ≡ progresses.Given 0 = progress-given h f g n in
     replays h (session_begun h) (calls.Accept []) (replies.Session 0) (actions.Send 0 (accepting_response []) ∷ []) (called-accept h [] ∙ accept-is h f g n) (begun-between h)
     (ap (λ (p : Progress). record { reply = replies.Session (session_named p); actions = actions.Send (session_named p) (accepting_response []) ∷ [] }) given)
-    (ap (λ (p : Progress). record (kept h) { progress = progresses.Standing (session_named p) }) given) (facts-begun h f g n)
+    (ap (λ (p : Progress). record (kept h) { progress = progresses.Standing (session_named p) }) given) (facts-begun h f g n) (Accepts g n)
 
 -- ---- accepting a stream
 
@@ -181,7 +187,7 @@ no-session-replays : (h : Past) → Facts h → standing (deeds h) ≡ None → 
 no-session-replays h f n =
     replays h (Did Asked ∷ h) calls.AcceptUni replies.NoSession [] (called-uni h None n ∙ asked-is h replies.NoSession f) (between-none h (Did Asked ∷ h) refl)
     (replying-same _ _ (progress-none h n))
-    (same-kept _ _ _ _ _ _ _ _ refl (left-none h n) refl refl) (facts-asked h f)
+    (same-kept _ _ _ _ _ _ _ _ refl (left-none h n) refl refl) (facts-asked h f) (NoSession n)
 
 -- the place of the session's stream, among those that are kept
 abbrev left_here : Bool → Verdict → Option ℕ
@@ -209,14 +215,14 @@ left-by h f (suc (suc zero)) l none =
     ∙ session-left (uni_verdict_of (contents h 6) Running) (list_any (hands_out 6) (deeds h)) (built-streams h f.streams).session
 left-by h f (suc (suc (suc n))) l none = absurd (omega arith)
 
-few-none : (n k : ℕ) → n ≤ 1 → is_among 2 n 6 ≡ false
+pub few-none : (n k : ℕ) → n ≤ 1 → is_among 2 n 6 ≡ false
 few-none n k l = grind (arith, nat_tests)
 
 left-is : (h : Past) → Facts h → step.left_from 0 0 (kept h).unis ≡ left_here (list_any (hands_out 6) (deeds h)) (uni_verdict_of (contents h 6) Running)
 left-is h f = left-by h f (peer_unis (came h)) f.streams.unis (λ l. f.streams.unopened 6 (few-none (peer_unis (came h)) 6 l) refl)
 
 -- a stream that shows a session is there
-shows-opened : (h : Past) → Facts h → uni_verdict_of (contents h 6) Running ≡ WebTransport 0 3 → is_among 2 (peer_unis (came h)) 6 ≡ true
+pub shows-opened : (h : Past) → Facts h → uni_verdict_of (contents h 6) Running ≡ WebTransport 0 3 → is_among 2 (peer_unis (came h)) 6 ≡ true
 shows-opened h f v = by (is_among 2 (peer_unis (came h)) 6) refl
   where
     by : (b : Bool) → is_among 2 (peer_unis (came h)) 6 ≡ b → b ≡ true
@@ -248,7 +254,7 @@ waits-uni h f n none nothing =
     replays h (Did Asked ∷ h) calls.AcceptUni replies.Pending []
     (called-uni h (Some 0) n ∙ accept_uni-is h f ∙ ap (hands Server (λ id. replies.Uni id) h) none ∙ asked-is h replies.Pending f) (between-none h (Did Asked ∷ h) refl)
     (replying-same _ _ (rw (left, standing-progress h n) refl))
-    (same-kept _ _ _ _ _ _ _ _ refl (ap (with_handed (kept h).unis) left) refl refl) (facts-asked h f)
+    (same-kept _ _ _ _ _ _ _ _ refl (ap (with_handed (kept h).unis) left) refl refl) (facts-asked h f) (NoneLeft n none)
 
 -- the session's stream has the second place
 second-is : (h : Past) → Facts h → uni_verdict_of (contents h 6) Running ≡ WebTransport 0 3 → uni_in (kept h).unis 1 ≡ stream_of h 6
@@ -265,7 +271,7 @@ hands-uni h f n e v =
     (called-uni h (Some 0) n ∙ accept_uni-is h f ∙ ap (hands Server (λ id. replies.Uni id) h) next ∙ hands-is h f v) (between-none h (handed_over h) refl)
     (replying-same _ _ (rw (left, standing-progress h n) (ap (λ (s : Stream). replies.Uni s.id) (second-is h f v))))
     (same-kept _ _ _ _ _ _ _ _ refl
-    (ap (with_handed (kept h).unis) left ∙ ap (λ s. slice_set (kept h).unis 1 (handed s)) (second-is h f v) ∙ with-six h (handed_over h) (handed (stream_of h 6)) (shows-opened h f v) refl (handed-streams h)) refl refl) (facts-handed h f v)
+    (ap (with_handed (kept h).unis) left ∙ ap (λ s. slice_set (kept h).unis 1 (handed s)) (second-is h f v) ∙ with-six h (handed_over h) (handed (stream_of h 6)) (shows-opened h f v) refl (handed-streams h)) refl refl) (facts-handed h f v) (HandsOut n e v)
 
 uni-by : (h : Past) → Facts h → standing (deeds h) ≡ Some 0 → (b : Bool) (v : Verdict) → IsOrWaits (WebTransport 0 3) v
     → list_any (hands_out 6) (deeds h) ≡ b → uni_verdict_of (contents h 6) Running ≡ v → Replays h calls.AcceptUni
@@ -308,7 +314,7 @@ no-stream-replays h id size f e =
     let none : step.can_read (kept h) id ≡ false = kept-readable h id f false e in
     replays h (Did Asked ∷ h) (calls.Read id size) replies.NoStream [] (called-read h id size false (readable h id f false e) ∙ asked-is h replies.NoStream f) (between-none h (Did Asked ∷ h) refl)
     (ap (λ b. record { reply = cond b (read_reply size (unread_of (uni_at (kept h).unis id))) replies.NoStream; actions = [] }) none)
-    (same-kept _ _ _ _ _ _ _ _ refl (ap (λ b. cond b (with_uni (kept h).unis id (read_on size (uni_at (kept h).unis id))) (kept h).unis) none) refl refl) (facts-asked h f)
+    (same-kept _ _ _ _ _ _ _ _ refl (ap (λ b. cond b (with_uni (kept h).unis id (read_on size (uni_at (kept h).unis id))) (kept h).unis) none) refl refl) (facts-asked h f) (NoStream id size e)
 
 module _ (h : Past) (f : Facts h) (here : list_any (hands_out 6) (deeds h) ≡ true) where
   six-kept : uni_at (kept h).unis 6 ≡ stream_of h 6
@@ -329,16 +335,17 @@ module _ (h : Past) (f : Facts h) (here : list_any (hands_out 6) (deeds h) ≡ t
   six-streams g n e other = with-six h g (record (stream_of h 6) { read = n }) (shows-opened h f (f.calls.handed_session here)) e other
 
   -- nothing is read
-  six-asked : (size : ℕ) (r : Reply) → called Server h (calls.Read 6 size) ≡ asks Server h r → read_reply size (unread_in h) ≡ r → length (take size (unread_in h)) ≡ 0 → Replays h (calls.Read 6 size)
-  six-asked size r e reply none =
+  six-asked : (size : ℕ) (r : Reply) → called Server h (calls.Read 6 size) ≡ asks Server h r → read_reply size (unread_in h) ≡ r → length (take size (unread_in h)) ≡ 0
+      → Turned h (turns.Call (calls.Read 6 size)) (telling r) (Did Asked ∷ h) → Replays h (calls.Read 6 size)
+  six-asked size r e reply none w =
       let total : total_read 6 (deeds h) ≡ total_read 6 (deeds h) + length (take size (unread_in h)) = omega (arith, none) in
       replays h (Did Asked ∷ h) (calls.Read 6 size) r [] (e ∙ asked-is h r f) (between-none h (Did Asked ∷ h) refl) (six-reply size ∙ replying-same _ _ reply)
-      (six-after size ∙ same-kept _ _ _ _ _ _ _ _ refl (six-streams (Did Asked ∷ h) _ (ap (λ (n : ℕ). record (stream_of h 6) { read = n }) total) (λ k n. refl)) refl refl) (facts-asked h f)
+      (six-after size ∙ same-kept _ _ _ _ _ _ _ _ refl (six-streams (Did Asked ∷ h) _ (ap (λ (n : ℕ). record (stream_of h 6) { read = n }) total) (λ k n. refl)) refl refl) (facts-asked h f) w
 
   -- these bytes are read
-  six-read : (size b : ℕ) (bytes : List ℕ) → take size (unread_in h) ≡ b ∷ bytes → called Server h (calls.Read 6 size) ≡ gives_bytes Server h 6 (b ∷ bytes)
+  six-read : (size b : ℕ) (bytes : List ℕ) → (size == 0) ≡ false → take size (unread_in h) ≡ b ∷ bytes → called Server h (calls.Read 6 size) ≡ gives_bytes Server h 6 (b ∷ bytes)
       → read_reply size (unread_in h) ≡ replies.Read (Some (b ∷ bytes)) → Replays h (calls.Read 6 size)
-  six-read size b bytes taken e reply =
+  six-read size b bytes z taken e reply =
       let g : Past = Did (ReadOut 6 (length (b ∷ bytes))) ∷ h in
       let facts : Facts (Did (ReadOut 6 (length (b ∷ bytes))) ∷ h) = facts-read h (length (b ∷ bytes)) f here in
       replays h (Did (ReadOut 6 (length (b ∷ bytes))) ∷ h) (calls.Read 6 size) (replies.Read (Some (b ∷ bytes))) []
@@ -346,18 +353,18 @@ module _ (h : Past) (f : Facts h) (here : list_any (hands_out 6) (deeds h) ≡ t
       (between-none h (Did (ReadOut 6 (length (b ∷ bytes))) ∷ h) refl) (six-reply size ∙ replying-same _ _ reply)
       (six-after size ∙ same-kept _ _ _ _ _ _ _ _ refl
       (six-streams (Did (ReadOut 6 (length (b ∷ bytes))) ∷ h) _ (ap (λ (xs : List ℕ). record (stream_of h 6) { read = total_read 6 (deeds h) + length xs }) (sym taken))
-      (λ k n. ap (λ c. record (stream_of h k) { read = cond c (total_read k (deeds h) + length (b ∷ bytes)) (total_read k (deeds h)) }) n)) refl refl) facts
+      (λ k n. ap (λ c. record (stream_of h k) { read = cond c (total_read k (deeds h) + length (b ∷ bytes)) (total_read k (deeds h)) }) n)) refl refl) facts (Reads size b bytes here z taken)
 
   called-six : (size : ℕ) (z : Bool) → (size == 0) ≡ z → called Server h (calls.Read 6 size) ≡ reads z Server h 6 size
   called-six size z e = called-read h 6 size true (readable h 6 f true here) ∙ ap (λ c. reads c Server h 6 size) e
 
   six-by : (size : ℕ) (bytes : List ℕ) → take size (unread_in h) ≡ bytes → (size == 0) ≡ false → called Server h (calls.Read 6 size) ≡ gives_bytes Server h 6 bytes → Replays h (calls.Read 6 size)
-  six-by size [] t z e = six-asked size replies.Pending e (rw (z, t) refl) (ap length t)
-  six-by size (b ∷ bytes) t z e = six-read size b bytes t e (rw (z, t) refl)
+  six-by size [] t z e = six-asked size replies.Pending e (rw (z, t) refl) (ap length t) (NoBytes size here z t)
+  six-by size (b ∷ bytes) t z e = six-read size b bytes z t e (rw (z, t) refl)
 
   six-replays : (size : ℕ) (z : Bool) → (size == 0) ≡ z → Replays h (calls.Read 6 size)
   six-replays size true z =
-      six-asked size (replies.Read (Some [])) (called-six size true z) (rw z refl) (ap (λ n. length (take n (unread_in h))) (eqb-true size 0 z))
+      six-asked size (replies.Read (Some [])) (called-six size true z) (rw z refl) (ap (λ n. length (take n (unread_in h))) (eqb-true size 0 z)) (ReadsNone size here z)
   six-replays size false z =
       six-by size (take size (unread_in h)) refl z (called-six size false z ∙ ap (λ u. gives_bytes Server h 6 (take size u)) (unread-is h f here))
 

@@ -26,20 +26,24 @@ use Rattle.wt_trace.proofs.AfterTurns.{bytes_on, is_opened, bytes-bring, between
 use Rattle.wt_trace.proofs.Replay.{kept, lawful-is, built-is, after-uni, after-bi, after-bytes, no-own, contents_at-is}
 use Rattle.wt_trace.proofs.Moments.{running}
 use Rattle.wt_trace.proofs.ReplayCalls.{call-replays}
+use Rattle.wt_trace.proofs.Turned.{Turned, Connects, OpensUni, OpensBi, Brings, done}
 
 -- one turn: the answer, and what is kept after it
 pub record TurnReplays (h : Past) (t : Turn) : Type 0 where
   pub answer : answer_of (kept h) t ≡ next Server h t
   pub after : after (kept h) t ≡ kept (then_turn Server h t)
   pub facts : Facts (then_turn Server h t)
+  pub turned : Turned h t (next Server h t) (then_turn Server h t)
 
 -- a turn of the transport that leads here without actions
 quiet : (h g : Past) (t : Turn) → (takes Server h t).past ≡ g → (takes Server h t).reply ≡ replies.Done → between h g ≡ []
-    → answer_of (kept h) t ≡ record { reply = replies.Done; actions = [] } → after (kept h) t ≡ kept g → Facts g → TurnReplays h t
-quiet h g t p r b a k f = record {
+    → answer_of (kept h) t ≡ record { reply = replies.Done; actions = [] } → after (kept h) t ≡ kept g → Facts g → Turned h t done g → TurnReplays h t
+quiet h g t p r b a k f w = record {
   answer = a ∙ λ i. record { reply = sym r i; actions = joined (between-is i) };
   after = k ∙ ap kept (sym p);
   facts = subst Facts (sym p) f;
+  turned = subst (λ (q : Past). Turned h t (record { reply = (takes Server h t).reply; actions = joined (between h q) }) q) (sym p)
+      (subst (λ (s : Reply). Turned h t (record { reply = s; actions = joined (between h g) }) g) (sym r) (subst (λ (o : List Action). Turned h t (record { reply = replies.Done; actions = joined o }) g) (sym b) w));
 }
   where
     between-is : [] ≡ between h (takes Server h t).past
@@ -64,14 +68,14 @@ opened-is h id f l = last (is_among 2 (peer_unis (came h)) id) (is_among 0 (peer
 turn-replays : (h : Past) (t : Turn) → Facts h → is_lawful Server h t ≡ true → is_built Server h t ≡ true → TurnReplays h t
 turn-replays h (turns.Connected uni bi credit datagrams) f l b = let none : false ≡ true = rw f.connection.connected at l in absurd (cc)
 turn-replays h turns.PeerUni f l b =
-    quiet h (Came PeerUni ∷ h) turns.PeerUni (moment-is h (Came PeerUni) (facts-uni h f b).connection) refl (between-none h (Came PeerUni ∷ h) refl) refl (after-uni h f) (facts-uni h f b)
+    quiet h (Came PeerUni ∷ h) turns.PeerUni (moment-is h (Came PeerUni) (facts-uni h f b).connection) refl (between-none h (Came PeerUni ∷ h) refl) refl (after-uni h f) (facts-uni h f b) OpensUni
 turn-replays h turns.PeerBi f l b =
-    quiet h (Came PeerBi ∷ h) turns.PeerBi (moment-is h (Came PeerBi) (facts-bi h f b).connection) refl (between-none h (Came PeerBi ∷ h) refl) refl (after-bi h f) (facts-bi h f b)
+    quiet h (Came PeerBi ∷ h) turns.PeerBi (moment-is h (Came PeerBi) (facts-bi h f b).connection) refl (between-none h (Came PeerBi ∷ h) refl) refl (after-bi h f) (facts-bi h f b) OpensBi
 turn-replays h (turns.Bytes id piece) f l b =
     let o : is_opened h id ≡ true = opened-is h id f l in
     let brought = bytes-bring h id piece f o b in
-    quiet h (bytes_on h id piece) (turns.Bytes id piece) (sym brought.is) refl (between-none h (bytes_on h id piece) (went-bytes h id piece)) refl (after-bytes h id piece o) (subst Facts (sym brought.is) brought.facts)
-turn-replays h (turns.Call c) f l b = let r = call-replays h c f l b in record { answer = r.answer; after = r.after; facts = r.facts }
+    quiet h (bytes_on h id piece) (turns.Bytes id piece) (sym brought.is) refl (between-none h (bytes_on h id piece) (went-bytes h id piece)) refl (after-bytes h id piece o) (subst Facts (sym brought.is) brought.facts) (Brings id piece o)
+turn-replays h (turns.Call c) f l b = let r = call-replays h c f l b in record { answer = r.answer; after = r.after; facts = r.facts; turned = r.turned }
 
 -- ---- the first turn
 
@@ -84,6 +88,7 @@ start-replays (turns.Connected uni bi credit datagrams) l b =
       answer = ap (λ (g : Past). record { reply = replies.Done; actions = joined (between [] g) }) (sym s);
       after = ap kept (sym s);
       facts = subst Facts (sym s) (facts-started uni bi credit datagrams u e);
+      turned = subst (λ (g : Past). Turned [] (turns.Connected uni bi credit datagrams) (record { reply = replies.Done; actions = joined (between [] g) }) g) (sym s) (Connects uni bi credit datagrams refl);
     }
   where
     not-true : (a : Bool) → not a ≡ true → a ≡ false
@@ -112,7 +117,7 @@ reached h Start = AtStart
 reached h (More g t i l b) = Later (then_turn Server g t) (replays g t (reached g i) l b).facts
 
 -- nothing happens on a client yet
-client-none : (t : Turn) → is_lawful Client [] t ≡ false
+pub client-none : (t : Turn) → is_lawful Client [] t ≡ false
 client-none (turns.Connected uni bi credit datagrams) = refl
 client-none turns.PeerUni = refl
 client-none turns.PeerBi = refl

@@ -10,6 +10,8 @@ pub mod Session
 pub mod Calls
 pub mod Built
 pub mod Next
+pub mod Exchanges
+pub mod Laws
 pub mod Kept
 pub mod Step
 pub mod Outside

@@ -1,5 +1,5 @@
 -- The server's handshake: the request, the response, and the session that stands.
-use Rattle.std.specs.Prelude.{ℕ, ◌-◌, List, [], ◌∷◌, ◌++◌, length, take, drop, Option, Some, None, Bool, true, false, ◌==◌, ◌||◌, ◌&&◌, not, codes, if◌then◌else◌}
+use Rattle.std.specs.Prelude.{ℕ, ◌-◌, List, [], ◌∷◌, ◌++◌, length, take, drop, Option, Some, None, Bool, true, false, ◌==◌, ◌||◌, ◌&&◌, not, codes, if◌then◌else◌, IsTrue, ◌≡◌}
 use Rattle.std.specs.List.{list_any}
 use Rattle.wt_proto.specs.declared.side.Side.{Side}
 use Rattle.wt_trace.specs.declared.action.Action.{Action}
@@ -9,7 +9,7 @@ use Rattle.wt_proto.specs.declared.verdict.Verdict.{Verdict}
 use Rattle.wt_proto.specs.declared.verdict.Verdict.TheVariants as verdicts
 use Rattle.wt_proto.specs.FixedBytes.{headers_frame_bytes}
 use Rattle.wt_proto.specs.HeaderList.{Fields, with_field}
-use Rattle.wt_trace.specs.History.{Deed, HandedOut, Given, Begun, Stands, ReadOut, Asked, Fact, Did, Past, came, outs, deeds, put}
+use Rattle.wt_trace.specs.History.{Deed, HandedOut, Given, Begun, Stands, ReadOut, Asked, Fact, Did, Past, came, outs, deeds, put, is_open}
 use Rattle.wt_trace.specs.Seam.{credit, sent}
 use Rattle.wt_trace.specs.Driver.{Ripe, Walk, walk, moment, sending, rest_of}
 
@@ -102,3 +102,11 @@ responds false side h s head = tells (does side h (sending s (rest_of h s head))
 abbrev pub accept : Side → Past → Fields → Told
 accept side h headers =
     responds (is_whole h (given (deeds h)) (accepting_response headers)) side h (given (deeds h)) (accepting_response headers)
+
+-- A session may stand once the peer's SETTINGS came, its request was given, and the whole response to it went out
+-- (RFC 9220, section 3), while the connection is open.
+pub record MayStand (side : Side) (h : Past) (s : ℕ) : Type 0 where
+  pub still_open : IsTrue (is_open h)
+  pub settings : IsTrue (walk side h).settings
+  pub given : IsTrue (list_any (gives s) (deeds h))
+  pub responded : (headers : Fields) × (sent (outs h) s ≡ accepting_response headers)

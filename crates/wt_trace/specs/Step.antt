@@ -18,12 +18,12 @@ use Rattle.wt_trace.specs.declared.session.Progress.TheVariants as progresses
 use Rattle.wt_proto.specs.declared.verdict.Verdict.{Verdict}
 use Rattle.wt_proto.specs.declared.verdict.Verdict.TheVariants as verdicts
 use Rattle.wt_proto.specs.Bi.{bi_verdict_of}
-use Rattle.wt_proto.specs.ControlWalk.{control_walk_of}
 use Rattle.wt_proto.specs.FixedBytes.{own_control_bytes}
 use Rattle.wt_proto.specs.Uni.{uni_verdict_of}
-use Rattle.wt_trace.specs.Seam.{is_among, is_some, own_uni, peer_uni, peer_bi}
+use Rattle.wt_trace.specs.Seam.{is_among, own_uni, peer_uni, peer_bi}
 use Rattle.wt_trace.specs.Session.{accepting_response}
 use Rattle.wt_trace.specs.Calls.{names, offset_of}
+use Rattle.wt_trace.specs.Exchanges.{control_came}
 use Rattle.wt_trace.specs.Built.{is_readable, is_built_call}
 use Rattle.wt_trace.specs.Next.{is_server}
 use Rattle.wt_trace.specs.Kept.{Kept}
@@ -104,11 +104,7 @@ may_turn k t = may_come_now k t && is_built_now k t
 
 -- ---- calls
 
--- the peer's first stream of this verdict's kind tells that its SETTINGS came
-abbrev pub control_came : Verdict → List ℕ → Bool
-control_came (verdicts.Control at) bytes = is_some (control_walk_of (drop at bytes) Running).settings
-control_came _ bytes = false
-
+-- the peer's SETTINGS came on one of its streams
 abbrev pub settings_came : List Stream → Bool
 settings_came [] = false
 settings_came (s ∷ unis) = control_came (uni_verdict_of s.contents Running) s.contents || settings_came unis

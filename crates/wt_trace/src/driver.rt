@@ -2,7 +2,8 @@
 ghost use Rattle.std.specs.Prelude.{◌≡◌, ◌<◌, ◌+◌, ◌^◌, IfOk, IfSome, length};
 ghost use Rattle.wt_proto.specs.Uni.{uni_verdict_of};
 ghost use Rattle.wt_proto.specs.declared.side.StreamEnd.TheVariants.{Running};
-ghost use Rattle.wt_trace.specs.Step.{control_came, is_left, left_from, request_on, settings_came, unread_of};
+ghost use Rattle.wt_trace.specs.Exchanges.{control_came};
+ghost use Rattle.wt_trace.specs.Step.{is_left, left_from, request_on, settings_came, unread_of};
 
 use crate::piece::Piece;
 use crate::seam::{Stream, behind};

@@ -5,6 +5,7 @@ ghost use Rattle.std.specs.Io.KnownBytes.{Consumes, Appends, Keeps, IsAtEnd};
 ghost use Rattle.wt_trace.specs.Next.{run};
 ghost use Rattle.wt_trace.specs.Outside.{Rose, AppendsPart};
 ghost use Rattle.wt_trace.specs.Print.{answer_line, print};
+ghost use Rattle.wt_trace.specs.Laws.{ScriptKeepsLaws};
 ghost use Rattle.wt_trace.specs.Program.{is_trace, is_cut_short, tells_script, tells_input, script_limit, usage, refused_at, run_outcome, input_outcome, outcome, AnswersInput, cut_status, Cuts, CutsReading, CutsWriting};
 ghost use Rattle.wt_trace.specs.Script.{script_of};
 
@@ -86,6 +87,7 @@ pub fn run_program<S: Source, K: Sink>(
     ensures nothing { result ≡ 4 → K.took sink.new ≡ K.took sink.old }
     ensures source_same { is_cut_short result ≡ false → S.faults source.new ≡ S.faults source.old }
     ensures sink_same { is_cut_short result ≡ false → K.faults sink.new ≡ K.faults sink.old }
+    ensures laws { (input : List ℕ) → ScriptKeepsLaws (script_of input) }
 {
     match answer(alloc, words, source, sink) {
         Ok(status) => status,

@@ -1,4 +1,7 @@
 //! A whole list of turns.
+ghost use Rattle.std.specs.Prelude.{◌≡◌, ◌≤◌, ℕ, List, length, take};
+ghost use Rattle.wt_trace.specs.Laws.{ActionsHaveCauses, CutsWell, HoldsOf, IfAnswered, PendingWhereNothingIsLeft, ReadsInOrder, RepliesHaveCauses, SessionsStandRightly, StandsWhereItMay, StreamsGivenRightly};
+ghost use Rattle.wt_trace.specs.Next.{meaning, past_of};
 ghost use Rattle.wt_trace.specs.Trace.{IsTrace};
 
 use crate::answer::Answers;
@@ -28,7 +31,26 @@ impl From<OutOfMemory> for TraceError {
 
 /// The answers to a connection's turns, the first turn first, or to those before the first that isn't
 /// lawful and built.
+///
+/// `trace` says them whole; the clauses after it say what is true of them in the words of turns and
+/// answers: where a session stands, which streams are accepted, what reads give, where a call is
+/// pending, each reply's and each action's cause, and that a piece may come cut in two.
 pub fn run_trace(alloc: Global, side: Side, turns: &[Turn]) -> Result<Answers, TraceError>
+    ensures trace { IsTrace side turns.now result }
+    ensures meaning { IfAnswered result (λ answers. answers ≡ meaning side (take (length answers) turns.now)) }
+    ensures sessions { IfAnswered result (HoldsOf (SessionsStandRightly side) turns.now) }
+    ensures allowed { IfAnswered result (λ answers. (n : ℕ) → n ≤ length answers → StandsWhereItMay side turns.now n) }
+    ensures streams { IfAnswered result (HoldsOf (StreamsGivenRightly side) turns.now) }
+    ensures reads { IfAnswered result (HoldsOf ReadsInOrder turns.now) }
+    ensures pending { IfAnswered result (HoldsOf (PendingWhereNothingIsLeft side) turns.now) }
+    ensures replies { IfAnswered result (HoldsOf (RepliesHaveCauses side) turns.now) }
+    ensures actions { IfAnswered result (HoldsOf (ActionsHaveCauses side) turns.now) }
+    ensures cutting { (n id : ℕ) (first second : List ℕ) → CutsWell side (past_of side (take n turns.now)) id first second }
+{
+    run_turns(alloc, side, turns)
+}
+
+fn run_turns(alloc: Global, side: Side, turns: &[Turn]) -> Result<Answers, TraceError>
     ensures trace { IsTrace side turns.now result }
 {
     let Ok(mut core) = Core::new(alloc, side) else {

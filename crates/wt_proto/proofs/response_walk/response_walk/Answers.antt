@@ -1,4 +1,4 @@
-use Rattle.std.proofs.Common.{◌≡◌, ◌+◌, ℕ, ap, sym, ◌∙◌, drop, arith}
+use Rattle.std.proofs.Common.{◌+◌, ℕ, ap, sym, ◌∙◌, drop, arith}
 use Rattle.wt_proto.specs.ResponseWalk.{response_decides}
 use Rattle.wt_proto.specs.Walk.{walked}
 use Rattle.wt_proto.proofs.WalkLaws.{at_end, at_cut, at_goes, at_goes_far, at_stops, at_stops_far, some_at}

@@ -1,33 +1,50 @@
-use Rattle.std.proofs.Common.{arith, ◌≡◌, ◌<◌, ◌+◌, ◌∷◌, ◌++◌, [], List, drop, drop-cons, get_or, sym, ◌∙◌, length, length-append, suc, ap, add-one, true, subst}
+use Rattle.std.proofs.Common.{◌≡◌, ◌≤◌, ℕ, List, [], length, take}
 use Rattle.wt_proto.specs.declared.side.Side.{Side}
 use Rattle.wt_trace.specs.declared.answer.Answer.{Answer}
 use Rattle.wt_trace.specs.declared.turn.Turn.{Turn}
-use Rattle.wt_trace.specs.Built.{is_built}
-use Rattle.wt_trace.specs.Next.{Run, is_lawful, next, run, run_from, then_turn}
-use Rattle.wt_trace.proofs.RunLaws.{behind, goes-on, both}
+use Rattle.wt_trace.specs.Exchanges.{Exchange, exchanges}
+use Rattle.wt_trace.specs.Laws.{KeepsLaws, HoldsOf, SessionsStandRightly, StreamsGivenRightly, ReadsInOrder, PendingWhereNothingIsLeft, RepliesHaveCauses, ActionsHaveCauses, StandsWhereItMay}
+use Rattle.wt_trace.specs.Next.{run, meaning, past_of}
+use Rattle.wt_trace.proofs.AllTurns.{answered, each, laws, stands-where}
+use Rattle.wt_trace.proofs.Cutting.{cuts-well}
+use Rattle.wt_trace.proofs.RunLaws.{run-means}
 use Rattle.wt_trace.proofs.trace.run_trace.Goals as goal
 
-pub turn-requires : goal.turn-requires
-turn-requires c = both _ _ (sym c.is_lawful.ensures.state ∙ c.if-not-is_lawful.false) (sym c.is_built.ensures.state ∙ c.if-not-is_built.false)
+-- one of the laws, of every run
+law-of : (side : Side) (ts : List Turn) (Law : List Exchange → Exchange → Type 0) → ((before : List Exchange) (x : Exchange) → KeepsLaws side before x → Law before x) → HoldsOf Law ts (run side ts).answers
+law-of side ts Law f = each (KeepsLaws side) Law f [] (exchanges ts (run side ts).answers) (laws side ts)
 
-pub loop-at-preserved : goal.loop-at-preserved
-loop-at-preserved c =
-    let (h, stands, side, goes, count) = c.loop-at.invariant in
-    let t = c.index-turns-at.result in
-    let within : c.loop-at.at < length c.args.turns.now = omega arith in
-    let rest : drop c.loop-at.at c.args.turns.now ≡ t ∷ drop (c.loop-at.at + 1) c.args.turns.now =
-    drop-cons c.args.turns.now c.loop-at.at t within ∙ ap (λ (u : Turn). u ∷ drop (suc c.loop-at.at) c.args.turns.now) (sym c.index-turns-at.is) ∙ ap (λ n. t ∷ drop n c.args.turns.now) (sym (add-one c.loop-at.at)) in
-    let lawful : is_lawful c.loop-at.core.side h t ≡ true = sym (c.is_lawful.ensures.history h stands) ∙ c.if-not-is_lawful.false in
-    let built : is_built c.loop-at.core.side h t ≡ true = sym (c.is_built.ensures.history h stands) ∙ c.if-not-is_built.false in
-    let here : behind c.loop-at.answers (run_from c.loop-at.core.side h (drop c.loop-at.at c.args.turns.now)) ≡ run c.args.side c.args.turns.now =
-    subst (λ (s : Side). behind c.loop-at.answers (run_from s h (drop c.loop-at.at c.args.turns.now)) ≡ run c.args.side c.args.turns.now) (sym side) goes in
-    let more = goes-on c.loop-at.core.side h t (drop c.loop-at.at c.args.turns.now) (drop (c.loop-at.at + 1) c.args.turns.now) c.loop-at.answers c.in-Ok-turn.answer (run c.args.side c.args.turns.now)
-    rest lawful built (c.in-Ok-turn.ensures.answer h stands) here in
-    let at_side : behind (c.loop-at.answers ++ c.in-Ok-turn.answer ∷ []) (run_from c.args.side (then_turn c.loop-at.core.side h t) (drop (c.loop-at.at + 1) c.args.turns.now)) ≡ run c.args.side c.args.turns.now =
-    subst (λ (s : Side). behind (c.loop-at.answers ++ c.in-Ok-turn.answer ∷ []) (run_from s (then_turn c.loop-at.core.side h t) (drop (c.loop-at.at + 1) c.args.turns.now)) ≡ run c.args.side c.args.turns.now) side more in (
-      then_turn c.loop-at.core.side h t,
-      c.in-Ok-turn.ensures.state h stands,
-      c.in-Ok-turn.ensures.side ∙ side,
-      subst (λ (answers : List Answer). behind answers (run_from c.args.side (then_turn c.loop-at.core.side h t) (drop (c.loop-at.at + 1) c.args.turns.now)) ≡ run c.args.side c.args.turns.now) (sym c.in-Ok-push.ensures.ok) at_side,
-      ap length c.in-Ok-push.ensures.ok ∙ length-append c.loop-at.answers (c.in-Ok-turn.answer ∷ []) ∙ omega (arith, count),
-    )
+pub returns-clause-meaning : goal.returns-clause-meaning
+returns-clause-meaning c =
+    answered c.args.side c.args.turns.now _ (λ answers. answers ≡ meaning c.args.side (take (length answers) c.args.turns.now)) c.run_turns.ensures.trace (run-means c.args.side [] c.args.turns.now)
+
+pub returns-clause-allowed : goal.returns-clause-allowed
+returns-clause-allowed c =
+    answered c.args.side c.args.turns.now _ (λ answers. (n : ℕ) → n ≤ length answers → StandsWhereItMay c.args.side c.args.turns.now n) c.run_turns.ensures.trace (stands-where c.args.side c.args.turns.now)
+
+pub returns-clause-cutting : goal.returns-clause-cutting
+returns-clause-cutting c = λ n id first second. cuts-well c.args.side (past_of c.args.side (take n c.args.turns.now)) id first second
+
+pub returns-clause-sessions : goal.returns-clause-sessions
+returns-clause-sessions c =
+    answered c.args.side c.args.turns.now _ (HoldsOf (SessionsStandRightly c.args.side) c.args.turns.now) c.run_turns.ensures.trace (law-of c.args.side c.args.turns.now (SessionsStandRightly c.args.side) (λ before x k. k.sessions))
+
+pub returns-clause-streams : goal.returns-clause-streams
+returns-clause-streams c =
+    answered c.args.side c.args.turns.now _ (HoldsOf (StreamsGivenRightly c.args.side) c.args.turns.now) c.run_turns.ensures.trace (law-of c.args.side c.args.turns.now (StreamsGivenRightly c.args.side) (λ before x k. k.streams))
+
+pub returns-clause-reads : goal.returns-clause-reads
+returns-clause-reads c =
+    answered c.args.side c.args.turns.now _ (HoldsOf (ReadsInOrder) c.args.turns.now) c.run_turns.ensures.trace (law-of c.args.side c.args.turns.now (ReadsInOrder) (λ before x k. k.reads))
+
+pub returns-clause-pending : goal.returns-clause-pending
+returns-clause-pending c =
+    answered c.args.side c.args.turns.now _ (HoldsOf (PendingWhereNothingIsLeft c.args.side) c.args.turns.now) c.run_turns.ensures.trace (law-of c.args.side c.args.turns.now (PendingWhereNothingIsLeft c.args.side) (λ before x k. k.pending))
+
+pub returns-clause-replies : goal.returns-clause-replies
+returns-clause-replies c =
+    answered c.args.side c.args.turns.now _ (HoldsOf (RepliesHaveCauses c.args.side) c.args.turns.now) c.run_turns.ensures.trace (law-of c.args.side c.args.turns.now (RepliesHaveCauses c.args.side) (λ before x k. k.replies))
+
+pub returns-clause-actions : goal.returns-clause-actions
+returns-clause-actions c =
+    answered c.args.side c.args.turns.now _ (HoldsOf (ActionsHaveCauses c.args.side) c.args.turns.now) c.run_turns.ensures.trace (law-of c.args.side c.args.turns.now (ActionsHaveCauses c.args.side) (λ before x k. k.actions))

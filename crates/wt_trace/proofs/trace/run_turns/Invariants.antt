@@ -3,7 +3,7 @@ use Rattle.wt_trace.specs.History.{Past}
 use Rattle.wt_trace.specs.Kept.{Stands}
 use Rattle.wt_trace.specs.Next.{run, run_from}
 use Rattle.wt_trace.proofs.RunLaws.{behind}
-use Rattle.wt_trace.proofs.trace.run_trace.Given as goal
+use Rattle.wt_trace.proofs.trace.run_turns.Given as goal
 
 abbrev pub invariant-loop-at : goal.invariant-loop-at
 invariant-loop-at l = (h : Past) × Stands l.core h × (l.core.side ≡ l.fn.side)

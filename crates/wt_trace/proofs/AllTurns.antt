@@ -1,0 +1,134 @@
+-- The laws hold along every run.
+use Rattle.std.proofs.Common.{arith, ◌≡◌, ◌≤◌, ℕ, zero, suc, Bool, true, false, cond, List, [], ◌∷◌, length, take, refl, sym, subst, ap, ◌∙◌}
+use Rattle.std.specs.Prelude.{Option, Some, None, not, Result, Ok, Err}
+use Rattle.std.specs.List.{list_any}
+use Rattle.wt_proto.specs.declared.side.Side.{Side}
+use Rattle.wt_proto.specs.declared.side.Side.TheVariants.{Client, Server}
+use Rattle.wt_trace.specs.declared.answer.Answer.{Answer}
+use Rattle.wt_trace.specs.declared.script.Script.{Script}
+use Rattle.wt_trace.specs.declared.script.ScriptRefused.{ScriptRefused}
+use Rattle.wt_trace.specs.declared.trace.TraceError.{TraceError}
+use Rattle.wt_trace.specs.declared.trace.TraceError.TheVariants as errors
+use Rattle.wt_trace.specs.declared.turn.Turn.{Turn}
+use Rattle.wt_trace.specs.Built.{is_built}
+use Rattle.wt_trace.specs.Exchanges.{Exchange, exchanges}
+use Rattle.wt_trace.specs.History.{Fact, Byte, Came, Out, Did, Past, deeds, ends, is_open}
+use Rattle.wt_trace.specs.Laws.{AllAlong, HoldsOf, IfAnswered, KeepsLaws, ScriptKeepsLaws, StandsWhereItMay}
+use Rattle.wt_trace.specs.Next.{Run, is_given, run, run_from, is_lawful, next, then_turn, past_from}
+use Rattle.wt_trace.specs.Seam.{is_some}
+use Rattle.wt_trace.specs.Session.{MayStand, standing, accepting_response, gives}
+use Rattle.wt_trace.specs.Trace.{IsTrace}
+use Rattle.wt_trace.proofs.EachTurn.{facts-later, turn-keeps}
+use Rattle.wt_trace.proofs.Facts.{Facts}
+use Rattle.wt_trace.proofs.LawsHold.{reads-follow}
+use Rattle.wt_trace.proofs.RunLaws.{along, run-unlawful}
+use Rattle.wt_trace.proofs.Standing.{Reached, AtStart, Later, replays, client-none}
+use Rattle.wt_trace.proofs.Tells.{Tells, tells-turned, tells-start}
+
+-- ---- each exchange keeps the laws
+
+Keeps : Past → List Turn → Run → Type 0
+Keeps h ts r = (before : List Exchange) → Reached h → Tells before h → AllAlong (KeepsLaws Server) before (exchanges ts r.answers)
+
+keeps-more : (h : Past) (t : Turn) (ts : List Turn) (r : Run) → is_lawful Server h t ≡ true → is_built Server h t ≡ true → Keeps (then_turn Server h t) ts r
+    → (before : List Exchange) → Reached h → Tells before h → AllAlong (KeepsLaws Server) before (record { turn = t; answer = next Server h t } ∷ exchanges ts r.answers)
+unfolding Keeps
+keeps-more h t ts r l u later before reached tells =
+    let q = replays h t reached l u in
+    let more : Tells (record { turn = t; answer = next Server h t } ∷ before) (then_turn Server h t) = tells-turned before h (then_turn Server h t) t (next Server h t) tells q.turned in (
+      turn-keeps before h (then_turn Server h t) t (next Server h t) (facts-later h t reached l) tells
+          (λ k. reads-follow (record { turn = t; answer = next Server h t } ∷ before) (then_turn Server h t) k q.facts more) q.turned,
+      later (record { turn = t; answer = next Server h t } ∷ before) (Later (then_turn Server h t) q.facts) more,
+    )
+
+keeps-all : (h : Past) (ts : List Turn) → Keeps h ts (run_from Server h ts)
+unfolding Keeps
+keeps-all h ts = along Server Keeps (λ g before r t. tt) (λ g t us stop before r s. tt) keeps-more h ts
+
+-- a client takes no turn yet
+pub client-answers : (ts : List Turn) → (run Client ts).answers ≡ []
+client-answers [] = refl
+client-answers (t ∷ ts) = ap (λ (r : Run). r.answers) (run-unlawful Client [] t ts (client-none t))
+
+none-exchanged : (ts : List Turn) → exchanges ts [] ≡ []
+none-exchanged [] = refl
+none-exchanged (t ∷ ts) = refl
+
+pub laws : (side : Side) (ts : List Turn) → HoldsOf (KeepsLaws side) ts (run side ts).answers
+unfolding Keeps
+laws Server ts = keeps-all [] ts [] AtStart tells-start
+laws Client ts = subst (AllAlong (KeepsLaws Client) []) (sym (ap (exchanges ts) (client-answers ts) ∙ none-exchanged ts)) tt
+
+pub script-keeps : (read : Result Script ScriptRefused) → ScriptKeepsLaws read
+script-keeps (Ok script) = laws script.side script.turns
+script-keeps (Err refused) = tt
+
+-- one of the laws
+pub each : (Law Part : List Exchange → Exchange → Type 0) → ((before : List Exchange) (x : Exchange) → Law before x → Part before x) → (before xs : List Exchange) → AllAlong Law before xs → AllAlong Part before xs
+each Law Part f before [] a = tt
+each Law Part f before (x ∷ xs) a = (f before x a.0, each Law Part f (x ∷ before) xs a.1)
+
+-- what holds of the answers of a run holds of a trace's
+pub answered : (side : Side) (ts : List Turn) (result : Result (List Answer) TraceError) (P : List Answer → Type 0) → IsTrace side ts result → P (run side ts).answers → IfAnswered result P
+answered side ts (Ok answers) P t p = subst P (ap (λ (r : Run). r.answers) t) p
+answered side ts (Err (errors.Unlawful at answers)) P t p = subst P (ap (λ (r : Run). r.answers) t.0) p
+answered side ts (Err (errors.Unbuilt at answers)) P t p = subst P (ap (λ (r : Run). r.answers) t.0) p
+answered side ts (Err errors.OutOfMemory) P t p = tt
+
+-- ---- the session that stands may stand
+
+always-open : (h : Past) → list_any ends h ≡ false
+always-open [] = refl
+always-open (Byte id byte ∷ h) = always-open h
+always-open (Came e ∷ h) = always-open h
+always-open (Out a ∷ h) = always-open h
+always-open (Did d ∷ h) = always-open h
+
+may-stand : (h : Past) → Facts h → (s : ℕ) → standing (deeds h) ≡ Some s → MayStand Server h s
+may-stand h f s e =
+    let stands : is_some (standing (deeds h)) ≡ true = ap is_some e in
+    let was_given : list_any is_given (deeds h) ≡ true = f.calls.stands_given stands in
+    subst (MayStand Server h) (sym (f.calls.stands_first s e))
+    (record {
+      still_open = ap not (always-open h);
+      settings = f.knows.settings ∙ f.calls.given_settings was_given;
+      given = f.calls.gave_first ∙ was_given;
+      responded = ([], f.calls.response_sent ∙ ap (λ b. cond b (accepting_response []) []) stands);
+    })
+
+reached-stands : (h : Past) → Reached h → (s : ℕ) → standing (deeds h) ≡ Some s → MayStand Server h s
+reached-stands h AtStart s e = absurd (cc)
+reached-stands h (Later g f) s e = may-stand h f s e
+
+Reaches : Past → List Turn → Run → Type 0
+Reaches h ts r = (n : ℕ) → n ≤ length r.answers → Reached h → Reached (past_from Server h (take n ts))
+
+reaches-more : (h : Past) (t : Turn) (ts : List Turn) (r : Run) → is_lawful Server h t ≡ true → is_built Server h t ≡ true → Reaches (then_turn Server h t) ts r
+    → (n : ℕ) → n ≤ suc (length r.answers) → Reached h → Reached (past_from Server h (take n (t ∷ ts)))
+unfolding Reaches
+reaches-more h t ts r l u later zero e reached = reached
+reaches-more h t ts r l u later (suc n) e reached = later n (omega (arith, e)) (Later (then_turn Server h t) (replays h t reached l u).facts)
+
+reaches-none : (h : Past) (t : Turn) (ts : List Turn) (n : ℕ) → n ≤ 0 → Reached h → Reached (past_from Server h (take n (t ∷ ts)))
+reaches-none h t ts zero e reached = reached
+reaches-none h t ts (suc n) e reached = absurd (omega (arith, e))
+
+reaches-end : (h : Past) (n : ℕ) → Reached h → Reached (past_from Server h (take n []))
+reaches-end h zero reached = reached
+reaches-end h (suc n) reached = reached
+
+reaches-all : (h : Past) (ts : List Turn) → Reaches h ts (run_from Server h ts)
+unfolding Reaches
+reaches-all h ts = along Server Reaches (λ g n e r. reaches-end g n r) (λ g t us stop n e r. reaches-none g t us n e r) reaches-more h ts
+
+client-stays : (ts : List Turn) (n : ℕ) → n ≤ 0 → past_from Client [] (take n ts) ≡ []
+client-stays ts zero e = refl
+client-stays ts (suc n) e = absurd (omega (arith, e))
+
+pub stands-where : (side : Side) (ts : List Turn) (n : ℕ) → n ≤ length (run side ts).answers → StandsWhereItMay side ts n
+unfolding Reaches
+stands-where Server ts n e s stands = reached-stands (past_from Server [] (take n ts)) (reaches-all [] ts n e AtStart) s stands
+stands-where Client ts n e s stands =
+    let none : n ≤ 0 = subst (λ (answers : List Answer). n ≤ length answers) (client-answers ts) e in
+    let both : None ≡ Some s = sym (ap (λ (h : Past). standing (deeds h)) (client-stays ts n none)) ∙ stands in
+    absurd (cc)

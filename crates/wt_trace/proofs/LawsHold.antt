@@ -1,0 +1,116 @@
+-- Each exchange keeps the laws.
+use Rattle.std.proofs.Common.{arith, ◌≡◌, ◌+◌, ◌*◌, ◌≤◌, ◌<◌, ℕ, zero, suc, Bool, true, false, cond, List, [], ◌∷◌, ◌++◌, length, take, drop, refl, sym, subst, ap, ◌∙◌}
+use Rattle.std.specs.Prelude.{Option, Some, None, ◌==◌, ◌&&◌, ◌||◌, not, IsTrue}
+use Rattle.std.specs.List.{list_any}
+use Rattle.std.proofs.lemmas.Bool.{eqb-true, eq-eqb}
+use Rattle.std.proofs.lemmas.Bool.Decides.{nat_tests}
+use Rattle.wt_proto.specs.declared.side.Side.{Side}
+use Rattle.wt_proto.specs.declared.side.Side.TheVariants.{Client, Server}
+use Rattle.wt_proto.specs.declared.side.StreamEnd.TheVariants.{Running}
+use Rattle.wt_proto.specs.declared.verdict.Verdict.{Verdict}
+use Rattle.wt_proto.specs.declared.verdict.Verdict.TheVariants.{Incomplete, WebTransport, Control, Request}
+use Rattle.wt_proto.specs.Bi.{bi_verdict_of}
+use Rattle.wt_proto.specs.Uni.{uni_verdict_of}
+use Rattle.wt_trace.specs.declared.action.Action.{Action}
+use Rattle.wt_trace.specs.declared.answer.Answer.{Answer}
+use Rattle.wt_trace.specs.declared.answer.Reply.{Reply}
+use Rattle.wt_trace.specs.declared.answer.Reply.TheVariants as replies
+use Rattle.wt_trace.specs.declared.turn.Call.TheVariants as calls
+use Rattle.wt_trace.specs.declared.turn.Turn.{Turn}
+use Rattle.wt_trace.specs.declared.turn.Turn.TheVariants as turns
+use Rattle.wt_trace.specs.Calls.{names, offset_of, total_read}
+use Rattle.wt_trace.specs.Driver.{hands_out, ids}
+use Rattle.wt_trace.specs.Exchanges.{Exchange, brought, opened_unis, opened_bis, was_given, session_of, was_accepted, read_from, settings_came, request_waits, stream_waits, shows_settings, behind_header, unread_of, control_came}
+use Rattle.wt_trace.specs.History.{Past, came, deeds}
+use Rattle.wt_trace.specs.Laws.{KeepsLaws, ReadsFollow, ReadsInOrder, PendingWhereNothingIsLeft, RepliesHaveCauses, ActionsHaveCauses, StandsRightly, GivenRightly, AskedRightly, is_pending, is_done, is_no_session, is_no_stream, is_call, is_none, is_empty, wants_session, wants_stream, nothing_left, none_waits, goes_out}
+use Rattle.wt_trace.specs.Next.{is_given}
+use Rattle.wt_trace.specs.Seam.{contents, peer_unis, peer_bis, is_among}
+use Rattle.wt_trace.specs.Session.{standing, given, gives, is_request}
+use Rattle.wt_trace.proofs.CallTurns.{left_of, handed_over, session_begun, unread_in, asked_for, placed}
+use Rattle.wt_trace.proofs.Facts.{Facts, built-streams, started}
+use Rattle.wt_trace.proofs.Moments.{settings_in}
+use Rattle.wt_trace.proofs.Readable.{IsOrWaits, Waits, Is, one_fields, uni-empty, bi-empty, settings-waits}
+use Rattle.wt_trace.proofs.ReplayCalls.{control-came, session-came, or-false, shows-opened}
+use Rattle.wt_trace.proofs.Tells.{Tells, tells-turned}
+use Rattle.wt_trace.proofs.Turned.{Turned, Connects, OpensUni, OpensBi, Brings, NoRequest, GivesRequest, Accepts, NoSession, NoneLeft, HandsOut, NoStream, ReadsNone, NoBytes, Reads, done, telling}
+use Rattle.wt_trace.proofs.WalkFacts.{shown}
+
+-- ---- reads
+
+follow : (before : List Exchange) (h : Past) (k : ℕ) (b : Bool) → Facts h → Tells before h → list_any (hands_out k) (deeds h) ≡ b → (rest : List ℕ) × (read_from k before ++ rest ≡ behind_header k before)
+follow before h k false f t e = (behind_header k before, ap (λ r. r ++ behind_header k before) (t.unaccepted k e))
+follow before h k true f t e =
+    let six : k ≡ 6 = f.calls.handed k e in
+    let there : list_any (hands_out 6) (deeds h) ≡ true = subst (λ (j : ℕ). list_any (hands_out j) (deeds h) ≡ true) six e in
+    let header : behind_header 6 before ≡ drop 3 (contents h 6) =
+    ap (λ (bytes : List ℕ). drop (offset_of (Some (uni_verdict_of bytes Running))) bytes) (t.bytes 6) ∙ ap (λ (v : Verdict). drop (offset_of (Some v)) (contents h 6)) (f.calls.handed_session there) in
+    subst (λ (j : ℕ). (rest : List ℕ) × (read_from j before ++ rest ≡ behind_header j before)) (sym six) (t.prefix.0, t.prefix.1 ∙ sym header)
+
+pub reads-follow : (before : List Exchange) (h : Past) (k : ℕ) → Facts h → Tells before h → ReadsFollow before k
+reads-follow before h k f t = record {
+  in_order = follow before h k (list_any (hands_out k) (deeds h)) f t refl;
+  accepted = λ e. t.unaccepted k (sym (t.accepted k) ∙ e);
+}
+
+-- ---- what is left
+
+came-tells : (before : List Exchange) (h : Past) → Facts h → Tells before h → (n : ℕ) → n ≤ 2 → (n ≡ 0 → contents h 2 ≡ []) → list_any (λ k. shows_settings (brought k before)) (ids 2 0 n) ≡ settings_in h
+came-tells before h f t zero l none = sym (settings-waits (contents h 2) f.streams.control (ap (λ (c : List ℕ). uni_verdict_of c Running) (none refl) ∙ uni-empty))
+came-tells before h f t (suc zero) l none =
+    or-false (shows_settings (brought 2 before)) ∙ ap shows_settings (t.bytes 2)
+    ∙ control-came h (uni_verdict_of (contents h 2) Running) (built-streams h f.streams).control (settings-waits (contents h 2) f.streams.control)
+came-tells before h f t (suc (suc zero)) l none =
+    ap (λ b. shows_settings (brought 2 before) || (b || false)) (ap shows_settings (t.bytes 6) ∙ session-came (uni_verdict_of (contents h 6) Running) (contents h 6) (built-streams h f.streams).session)
+    ∙ or-false (shows_settings (brought 2 before)) ∙ ap shows_settings (t.bytes 2)
+    ∙ control-came h (uni_verdict_of (contents h 2) Running) (built-streams h f.streams).control (settings-waits (contents h 2) f.streams.control)
+came-tells before h f t (suc (suc (suc n))) l none = absurd (omega arith)
+
+pub settings-tells : (before : List Exchange) (h : Past) → Facts h → Tells before h → settings_came Server before ≡ settings_in h
+settings-tells before h f t =
+    ap (λ n. list_any (λ k. shows_settings (brought k before)) (ids 2 0 n)) t.unis
+    ∙ came-tells before h f t (peer_unis (came h)) f.streams.unis (λ z. f.streams.unopened 2 (rw z refl) refl)
+
+asks-tells : (before : List Exchange) (h : Past) → Facts h → Tells before h → (n : ℕ) → n ≤ 1 → (n ≡ 0 → contents h 0 ≡ [])
+    → list_any (λ k. is_request (bi_verdict_of (brought k before) Running) && not (was_given k before)) (ids 0 0 n) ≡ (is_request (bi_verdict_of (contents h 0) Running) && not (list_any is_given (deeds h)))
+asks-tells before h f t zero l none = sym (ap (λ (v : Verdict). is_request v && not (list_any is_given (deeds h))) (ap (λ (c : List ℕ). bi_verdict_of c Running) (none refl) ∙ bi-empty))
+asks-tells before h f t (suc zero) l none =
+    or-false _ ∙ ap (λ (c : List ℕ). is_request (bi_verdict_of c Running) && not (was_given 0 before)) (t.bytes 0)
+    ∙ ap (λ b. is_request (bi_verdict_of (contents h 0) Running) && not b) (t.given 0 ∙ f.calls.gave_first)
+asks-tells before h f t (suc (suc n)) l none = absurd (omega arith)
+
+pub request-tells : (before : List Exchange) (h : Past) → Facts h → Tells before h → request_waits Server before ≡ (is_request (bi_verdict_of (contents h 0) Running) && not (list_any is_given (deeds h)))
+request-tells before h f t =
+    ap (λ n. list_any (λ k. is_request (bi_verdict_of (brought k before) Running) && not (was_given k before)) (ids 0 0 n)) t.bis
+    ∙ asks-tells before h f t (peer_bis (came h)) f.streams.bis (λ z. f.streams.unopened 0 refl (rw z refl))
+
+control-unnamed : (v : Verdict) (b : Bool) → IsOrWaits (Control 1) v → (names 0 v && b) ≡ false
+control-unnamed v b Waits = refl
+control-unnamed v b Is = refl
+
+waits-tells : (before : List Exchange) (h : Past) → Facts h → Tells before h → (n : ℕ) → n ≤ 2 → (n ≤ 1 → contents h 6 ≡ [])
+    → list_any (λ k. names 0 (uni_verdict_of (brought k before) Running) && not (was_accepted k before)) (ids 2 0 n) ≡ (names 0 (uni_verdict_of (contents h 6) Running) && not (list_any (hands_out 6) (deeds h)))
+waits-tells before h f t zero l none = sym (ap (λ (v : Verdict). names 0 v && not (list_any (hands_out 6) (deeds h))) (ap (λ (c : List ℕ). uni_verdict_of c Running) (none (omega arith)) ∙ uni-empty))
+waits-tells before h f t (suc zero) l none =
+    or-false _ ∙ ap (λ (c : List ℕ). names 0 (uni_verdict_of c Running) && not (was_accepted 2 before)) (t.bytes 2)
+    ∙ control-unnamed (uni_verdict_of (contents h 2) Running) (not (was_accepted 2 before)) (built-streams h f.streams).control
+    ∙ sym (ap (λ (v : Verdict). names 0 v && not (list_any (hands_out 6) (deeds h))) (ap (λ (c : List ℕ). uni_verdict_of c Running) (none (omega arith)) ∙ uni-empty))
+waits-tells before h f t (suc (suc zero)) l none =
+    ap (λ b. b || ((names 0 (uni_verdict_of (brought 6 before) Running) && not (was_accepted 6 before)) || false))
+    (ap (λ (c : List ℕ). names 0 (uni_verdict_of c Running) && not (was_accepted 2 before)) (t.bytes 2) ∙ control-unnamed (uni_verdict_of (contents h 2) Running) (not (was_accepted 2 before)) (built-streams h f.streams).control)
+    ∙ or-false _ ∙ ap (λ (c : List ℕ). names 0 (uni_verdict_of c Running) && not (was_accepted 6 before)) (t.bytes 6)
+    ∙ ap (λ b. names 0 (uni_verdict_of (contents h 6) Running) && not b) (t.accepted 6)
+waits-tells before h f t (suc (suc (suc n))) l none = absurd (omega arith)
+
+few-opened : (n : ℕ) → n ≤ 1 → is_among 2 n 6 ≡ false
+few-opened n l = grind (arith, nat_tests)
+
+pub stream-tells : (before : List Exchange) (h : Past) → Facts h → Tells before h → stream_waits Server 0 before ≡ (names 0 (uni_verdict_of (contents h 6) Running) && not (list_any (hands_out 6) (deeds h)))
+stream-tells before h f t =
+    ap (λ n. list_any (λ k. names 0 (uni_verdict_of (brought k before) Running) && not (was_accepted k before)) (ids 2 0 n)) t.unis
+    ∙ waits-tells before h f t (peer_unis (came h)) f.streams.unis (λ l. f.streams.unopened 6 (few-opened (peer_unis (came h)) l) refl)
+
+pub unread-tells : (before : List Exchange) (h : Past) → Facts h → Tells before h → list_any (hands_out 6) (deeds h) ≡ true → unread_of 6 before ≡ unread_in h
+unread-tells before h f t here =
+    ap (λ n. drop n (behind_header 6 before)) (t.counted 6)
+    ∙ ap (λ (bytes : List ℕ). drop (total_read 6 (deeds h)) (drop (offset_of (Some (uni_verdict_of bytes Running))) bytes)) (t.bytes 6)
+    ∙ ap (λ (v : Verdict). drop (total_read 6 (deeds h)) (drop (offset_of (Some v)) (contents h 6))) (f.calls.handed_session here)

@@ -1,0 +1,33 @@
+use Rattle.std.proofs.Common.{arith, ◌≡◌, ◌<◌, ◌+◌, ◌∷◌, ◌++◌, [], List, drop, drop-cons, get_or, sym, ◌∙◌, length, length-append, suc, ap, add-one, true, subst}
+use Rattle.wt_proto.specs.declared.side.Side.{Side}
+use Rattle.wt_trace.specs.declared.answer.Answer.{Answer}
+use Rattle.wt_trace.specs.declared.turn.Turn.{Turn}
+use Rattle.wt_trace.specs.Built.{is_built}
+use Rattle.wt_trace.specs.Next.{Run, is_lawful, next, run, run_from, then_turn}
+use Rattle.wt_trace.proofs.RunLaws.{behind, goes-on, both}
+use Rattle.wt_trace.proofs.trace.run_turns.Goals as goal
+
+pub turn-requires : goal.turn-requires
+turn-requires c = both _ _ (sym c.is_lawful.ensures.state ∙ c.if-not-is_lawful.false) (sym c.is_built.ensures.state ∙ c.if-not-is_built.false)
+
+pub loop-at-preserved : goal.loop-at-preserved
+loop-at-preserved c =
+    let (h, stands, side, goes, count) = c.loop-at.invariant in
+    let t = c.index-turns-at.result in
+    let within : c.loop-at.at < length c.args.turns.now = omega arith in
+    let rest : drop c.loop-at.at c.args.turns.now ≡ t ∷ drop (c.loop-at.at + 1) c.args.turns.now =
+    drop-cons c.args.turns.now c.loop-at.at t within ∙ ap (λ (u : Turn). u ∷ drop (suc c.loop-at.at) c.args.turns.now) (sym c.index-turns-at.is) ∙ ap (λ n. t ∷ drop n c.args.turns.now) (sym (add-one c.loop-at.at)) in
+    let lawful : is_lawful c.loop-at.core.side h t ≡ true = sym (c.is_lawful.ensures.history h stands) ∙ c.if-not-is_lawful.false in
+    let built : is_built c.loop-at.core.side h t ≡ true = sym (c.is_built.ensures.history h stands) ∙ c.if-not-is_built.false in
+    let here : behind c.loop-at.answers (run_from c.loop-at.core.side h (drop c.loop-at.at c.args.turns.now)) ≡ run c.args.side c.args.turns.now =
+    subst (λ (s : Side). behind c.loop-at.answers (run_from s h (drop c.loop-at.at c.args.turns.now)) ≡ run c.args.side c.args.turns.now) (sym side) goes in
+    let more = goes-on c.loop-at.core.side h t (drop c.loop-at.at c.args.turns.now) (drop (c.loop-at.at + 1) c.args.turns.now) c.loop-at.answers c.in-Ok-turn.answer (run c.args.side c.args.turns.now)
+    rest lawful built (c.in-Ok-turn.ensures.answer h stands) here in
+    let at_side : behind (c.loop-at.answers ++ c.in-Ok-turn.answer ∷ []) (run_from c.args.side (then_turn c.loop-at.core.side h t) (drop (c.loop-at.at + 1) c.args.turns.now)) ≡ run c.args.side c.args.turns.now =
+    subst (λ (s : Side). behind (c.loop-at.answers ++ c.in-Ok-turn.answer ∷ []) (run_from s (then_turn c.loop-at.core.side h t) (drop (c.loop-at.at + 1) c.args.turns.now)) ≡ run c.args.side c.args.turns.now) side more in (
+      then_turn c.loop-at.core.side h t,
+      c.in-Ok-turn.ensures.state h stands,
+      c.in-Ok-turn.ensures.side ∙ side,
+      subst (λ (answers : List Answer). behind answers (run_from c.args.side (then_turn c.loop-at.core.side h t) (drop (c.loop-at.at + 1) c.args.turns.now)) ≡ run c.args.side c.args.turns.now) (sym c.in-Ok-push.ensures.ok) at_side,
+      ap length c.in-Ok-push.ensures.ok ∙ length-append c.loop-at.answers (c.in-Ok-turn.answer ∷ []) ∙ omega (arith, count),
+    )

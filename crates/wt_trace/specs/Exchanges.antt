@@ -1,0 +1,128 @@
+-- What turns and their answers tell by themselves: an exchange is a turn with its answer, and those so far stand
+-- newest first.
+use Rattle.std.specs.Prelude.{ℕ, suc, ◌+◌, List, [], ◌∷◌, ◌++◌, length, take, drop, Option, Some, None, Bool, true, false, ◌==◌, ◌||◌, ◌&&◌, not, if◌then◌else◌}
+use Rattle.std.specs.List.{list_any}
+use Rattle.wt_proto.specs.declared.side.Side.{Side}
+use Rattle.wt_proto.specs.declared.side.StreamEnd.TheVariants.{Running}
+use Rattle.wt_proto.specs.declared.verdict.Verdict.{Verdict}
+use Rattle.wt_proto.specs.declared.verdict.Verdict.TheVariants as verdicts
+use Rattle.wt_proto.specs.Bi.{bi_verdict_of}
+use Rattle.wt_proto.specs.ControlWalk.{control_walk_of}
+use Rattle.wt_proto.specs.Uni.{uni_verdict_of}
+use Rattle.wt_trace.specs.declared.answer.Answer.{Answer}
+use Rattle.wt_trace.specs.declared.answer.Reply.{Reply}
+use Rattle.wt_trace.specs.declared.answer.Reply.TheVariants as replies
+use Rattle.wt_trace.specs.declared.turn.Call.TheVariants as calls
+use Rattle.wt_trace.specs.declared.turn.Turn.{Turn}
+use Rattle.wt_trace.specs.declared.turn.Turn.TheVariants as turns
+use Rattle.wt_trace.specs.Calls.{names, offset_of}
+use Rattle.wt_trace.specs.Driver.{ids}
+use Rattle.wt_trace.specs.Seam.{is_some, peer_uni, peer_bi}
+use Rattle.wt_trace.specs.Session.{is_request}
+
+pub record Exchange : Type 0 where
+  pub turn : Turn
+  pub answer : Answer
+
+-- the turns with their answers, the first first
+abbrev pub exchanges : List Turn → List Answer → List Exchange
+exchanges [] answers = []
+exchanges (t ∷ ts) [] = []
+exchanges (t ∷ ts) (a ∷ answers) = record { turn = t; answer = a } ∷ exchanges ts answers
+
+-- ---- the transport's turns
+
+abbrev pub with_piece : ℕ → Turn → List ℕ → List ℕ
+with_piece k (turns.Bytes id piece) bytes = if id == k then bytes ++ piece else bytes
+with_piece k _ bytes = bytes
+
+-- the bytes that came for a stream
+abbrev pub brought : ℕ → List Exchange → List ℕ
+brought k [] = []
+brought k (x ∷ before) = with_piece k x.turn (brought k before)
+
+abbrev pub with_uni_opened : Turn → ℕ → ℕ
+with_uni_opened turns.PeerUni n = suc n
+with_uni_opened _ n = n
+
+abbrev pub with_bi_opened : Turn → ℕ → ℕ
+with_bi_opened turns.PeerBi n = suc n
+with_bi_opened _ n = n
+
+-- how many streams of each kind the peer opened
+abbrev pub opened_unis : List Exchange → ℕ
+opened_unis [] = 0
+opened_unis (x ∷ before) = with_uni_opened x.turn (opened_unis before)
+
+abbrev pub opened_bis : List Exchange → ℕ
+opened_bis [] = 0
+opened_bis (x ∷ before) = with_bi_opened x.turn (opened_bis before)
+
+-- ---- the replies
+
+abbrev pub tells_request : ℕ → Reply → Bool
+tells_request k (replies.Request id headers) = id == k
+tells_request k _ = false
+
+-- the request of this stream was given
+abbrev pub was_given : ℕ → List Exchange → Bool
+was_given k [] = false
+was_given k (x ∷ before) = tells_request k x.answer.reply || was_given k before
+
+abbrev pub with_session : Reply → Option ℕ → Option ℕ
+with_session (replies.Session s) o = Some s
+with_session _ o = o
+
+-- the session that stands
+abbrev pub session_of : List Exchange → Option ℕ
+session_of [] = None
+session_of (x ∷ before) = with_session x.answer.reply (session_of before)
+
+abbrev pub tells_uni : ℕ → Reply → Bool
+tells_uni k (replies.Uni id) = id == k
+tells_uni k _ = false
+
+-- an accept gave this stream
+abbrev pub was_accepted : ℕ → List Exchange → Bool
+was_accepted k [] = false
+was_accepted k (x ∷ before) = tells_uni k x.answer.reply || was_accepted k before
+
+abbrev pub with_read : ℕ → Turn → Reply → List ℕ → List ℕ
+with_read k (turns.Call (calls.Read id size)) (replies.Read (Some piece)) bytes = if id == k then bytes ++ piece else bytes
+with_read k _ _ bytes = bytes
+
+-- what reads of a stream gave, joined
+abbrev pub read_from : ℕ → List Exchange → List ℕ
+read_from k [] = []
+read_from k (x ∷ before) = with_read k x.turn x.answer.reply (read_from k before)
+
+-- ---- what that comes to
+
+-- the bytes are those of a control stream on which SETTINGS came
+abbrev pub control_came : Verdict → List ℕ → Bool
+control_came (verdicts.Control at) bytes = is_some (control_walk_of (drop at bytes) Running).settings
+control_came _ bytes = false
+
+abbrev pub shows_settings : List ℕ → Bool
+shows_settings bytes = control_came (uni_verdict_of bytes Running) bytes
+
+-- the peer's SETTINGS came on one of its streams
+abbrev pub settings_came : Side → List Exchange → Bool
+settings_came side before = list_any (λ k. shows_settings (brought k before)) (ids (peer_uni side) 0 (opened_unis before))
+
+-- a request came whole and wasn't given
+abbrev pub request_waits : Side → List Exchange → Bool
+request_waits side before =
+    list_any (λ k. is_request (bi_verdict_of (brought k before) Running) && not (was_given k before)) (ids (peer_bi side) 0 (opened_bis before))
+
+-- a stream with the session's header came and wasn't accepted
+abbrev pub stream_waits : Side → ℕ → List Exchange → Bool
+stream_waits side s before =
+    list_any (λ k. names s (uni_verdict_of (brought k before) Running) && not (was_accepted k before)) (ids (peer_uni side) 0 (opened_unis before))
+
+-- what follows a stream's header
+abbrev pub behind_header : ℕ → List Exchange → List ℕ
+behind_header k before = drop (offset_of (Some (uni_verdict_of (brought k before) Running))) (brought k before)
+
+abbrev pub unread_of : ℕ → List Exchange → List ℕ
+unread_of k before = drop (length (read_from k before)) (behind_header k before)
