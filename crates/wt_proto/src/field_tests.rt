@@ -115,6 +115,7 @@ fn lists_are_copied(rt: HostRuntime) -> Result<(), Fail> {
     assert_eq!(rt; copy.get("b"), Some("2"));
     list.set("", "")?;
     assert!(rt; copy != list);
+    assert_eq!(rt; list.into_vec().len(), 2);
     Ok(())
 }
 
@@ -237,6 +238,8 @@ fn texts_are_utf8(rt: HostRuntime) -> Result<(), Fail> {
     let text = from_utf8(b"a\xc3\xa4\xe2\x82\xac\xf0\x9f\x98\x80".as_slice()).ok_or("no text")?;
     let text = Text::from_text(rt.alloc(), text)?;
     assert_eq!(rt; text.copy(rt.alloc())?.as_str(), "a\u{e4}\u{20ac}\u{1f600}");
+    let text = Text::from_string(text.into_string());
+    assert_eq!(rt; text.as_str().len(), 10);
     Ok(())
 }
 

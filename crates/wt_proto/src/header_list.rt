@@ -153,6 +153,13 @@ impl HeaderList {
         Ok(())
     }
 
+    /// Gives its fields back, in their order.
+    pub fn into_vec(self) -> Vec<(Text, Text)>
+        ensures { result.items ≡ self }
+    {
+        self.fields
+    }
+
     /// Whether the other list has the same fields, as `==` answers it.
     #[tactic(auto, using(crate::proofs::EqualityLaws::fields_same))]
     pub fn has_same_fields(&self, other: &HeaderList) -> bool

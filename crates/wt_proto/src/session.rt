@@ -1,4 +1,4 @@
-ghost use Rattle.std.specs.Prelude.{IfOk, OnOk, OnErr, is_err, if◌then◌else◌, ◌≡◌, nat_eq, codes, is_some, Some, None, Ok};
+ghost use Rattle.std.specs.Prelude.{IfOk, OnOk, OnErr, is_err, if◌then◌else◌, ◌≡◌, nat_eq, codes, is_some, is_none, false, Some, None, Ok, Err};
 ghost use Rattle.std.specs.Option.{option_copied};
 ghost use Rattle.std.specs.Str.{bytes_eq};
 ghost use Rattle.wt_proto.specs.Requests.{is_for_session, is_reserved, is_value, request_fields, request_of, request_with};
@@ -6,6 +6,7 @@ ghost use Rattle.wt_proto.specs.Responses.{response_of, status_fields, status_of
 ghost use Rattle.wt_proto.specs.FieldSection.{AreShort, headers_of, section_bytes};
 ghost use Rattle.wt_proto.specs.HeaderList.{value_of, with_field};
 ghost use Rattle.wt_proto.specs.declared.frame.FrameKind.TheVariants as kinds;
+ghost use Rattle.wt_proto.specs.declared.session.HeadersParseError.TheVariants as errors;
 
 use crate::error::OutOfMemory;
 use crate::frame::Frame;
@@ -117,7 +118,9 @@ impl SessionRequest {
     /// webtransport, and any `:authority` and `:path`.
     #[tactic(auto, unfolding(crate::specs::Requests::request_of))]
     pub fn try_from(headers: Headers) -> Result<SessionRequest, HeadersParseError>
-        ensures { result ≡ request_of headers }
+        ensures judged { result ≡ request_of headers }
+        ensures given { IfOk result (λ r. r ≡ headers) }
+        ensures other_method { result ≡ Err errors.MethodNotConnect → is_value (codes "CONNECT") (value_of (codes ":method") headers) ≡ false }
     {
         if !has(&headers, ":method") {
             return Err(HeadersParseError::Other);
@@ -263,7 +266,9 @@ impl SessionResponse {
     /// The fields as a response, which needs a `:status` of three decimal digits from 100 to 599.
     #[tactic(auto, unfolding(crate::specs::Responses::response_of))]
     pub fn try_from(headers: Headers) -> Result<SessionResponse, BadStatus>
-        ensures { result ≡ response_of headers }
+        ensures judged { result ≡ response_of headers }
+        ensures given { IfOk result (λ r. r ≡ headers) }
+        ensures no_status { is_err result ≡ is_none (status_of headers) }
     {
         match status_in(&headers) {
             Some(_) => Ok(SessionResponse { headers }),

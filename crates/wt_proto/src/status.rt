@@ -1,4 +1,4 @@
-ghost use Rattle.std.specs.Prelude.{◌≡◌, ◌<◌, ◌≤◌};
+ghost use Rattle.std.specs.Prelude.{◌≡◌, ◌<◌, ◌≤◌, IfSome};
 ghost use Rattle.wt_proto.specs.Responses.{is_digit, is_successful, status_code};
 
 use std::marker::Model;
@@ -29,7 +29,8 @@ impl StatusCode {
     /// The code that the text spells; `None` exactly where it isn't three decimal digits from 100
     /// to 599.
     pub fn try_from_text(text: &str) -> Option<StatusCode>
-        ensures { result ≡ status_code text.now }
+        ensures code { result ≡ status_code text.now }
+        ensures range { IfSome result (λ c. (100 ≤ c) × (c < 600)) }
     {
         let [a, b, c] = text.as_bytes() else {
             return None;

@@ -20,3 +20,4 @@ pub mod EachTurn
 pub mod AllTurns
 pub mod Cutting
 pub mod LawsHold
+pub mod Recorded

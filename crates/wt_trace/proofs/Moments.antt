@@ -74,8 +74,8 @@ pub record AtReady (h : Past) : Type 0 where
 streams-leave : (g h : Past) (w : Walk) → AtReady h → AreBuilt (verdicts_of g) → AllStay (verdicts_of g) (verdicts_of h) → AreRipe (verdicts_of g) w
     → AreRipe (verdicts_of h) (over_bis Server h (over_unis Server h w)) × ((over_bis Server h (over_unis Server h w)).settings ≡ w.settings)
 streams-leave g h w at was stays ripe =
-    let unis : Kind = record { slots = 4; verdict = λ k. uni_verdict_of (contents h k) (end_of (came h) k); settled = is_settled h } in
-    let bis : Kind = record { slots = 1; verdict = λ k. bi_verdict_of (contents h k) (end_of (came h) k); settled = is_settled h } in
+    let unis : Kind = record { most = 4; verdict = λ k. uni_verdict_of (contents h k) (end_of (came h) k); settled = is_settled h } in
+    let bis : Kind = record { most = 1; verdict = λ k. bi_verdict_of (contents h k) (end_of (came h) k); settled = is_settled h } in
     let looked = over-unis unis (verdicts_of g) (verdicts_of h) was at.built stays refl
     (ap (uni_verdict_of (contents h 2)) (running (came h) 2)) (ap (uni_verdict_of (contents h 6)) (running (came h) 6)) (peer_unis (came h)) at.unis
     (λ z. ap (λ (c : List ℕ). uni_verdict_of c Running) (at.no_control z) ∙ uni-empty) (λ l. ap (λ (c : List ℕ). uni_verdict_of c Running) (at.no_session l) ∙ uni-empty) w ripe in

@@ -101,7 +101,7 @@ or-true false = refl
 
 -- at a ready moment with a free slot
 pub meets-looks : (kind : Kind) (k : ℕ) (full old v : Verdict) (p : Pass) → Full k full → IsOrWaits full old → IsOrWaits full v → Stays old v
-    → kind.verdict k ≡ v → nat_lt p.earlier kind.slots ≡ true → ripe_of k p.walk.ripe ≡ shown old → LookedPass k v p (meets true kind k (ripe_of k p.walk.ripe) p)
+    → kind.verdict k ≡ v → nat_lt p.earlier kind.most ≡ true → ripe_of k p.walk.ripe ≡ shown old → LookedPass k v p (meets true kind k (ripe_of k p.walk.ripe) p)
 meets-looks kind k full old v p f Waits now stays is free e =
     rw (e, free, or-true (has k p.walk.taken), is)
     (taken-looks kind k v p (with_taken k p.walk).taken
@@ -163,18 +163,18 @@ pub record UnisLooked (v w : Verdicts) (before after : Walk) : Type 0 where
   pub known : AllKnown after.ripe
 
 module _ (kind : Kind) (v w : Verdicts) (was : AreBuilt v) (now : AreBuilt w) (stays : AllStay v w) where
-  pub over-unis : (slots : kind.slots ≡ 4) (control : kind.verdict 2 ≡ w.control) (session : kind.verdict 6 ≡ w.session) (count : ℕ) → count ≤ 2
+  pub over-unis : (most : kind.most ≡ 4) (control : kind.verdict 2 ≡ w.control) (session : kind.verdict 6 ≡ w.session) (count : ℕ) → count ≤ 2
       → (count ≡ 0 → w.control ≡ Incomplete) → (count ≤ 1 → w.session ≡ Incomplete) → (walk : Walk) → AreRipe v walk
       → UnisLooked v w walk (over true kind (ids 2 0 count) (record { earlier = 0; walk = walk })).walk
-  over-unis slots control session zero l none less walk r = record {
+  over-unis most control session zero l none less walk r = record {
     control = r.control ∙ ap shown (stays-waiting v.control w.control stays.control (none refl) ∙ sym (none refl));
     session = r.session ∙ ap shown (stays-waiting v.session w.session stays.session (less (omega arith)) ∙ sym (less (omega arith)));
     request = r.request;
     settings = refl;
     known = r.known;
   }
-  over-unis slots control session (suc zero) l none less walk r =
-      let first = meets-looks kind 2 (Control 1) v.control w.control (record { earlier = 0; walk = walk }) control-full was.control now.control stays.control control (rw slots refl) r.control in
+  over-unis most control session (suc zero) l none less walk r =
+      let first = meets-looks kind 2 (Control 1) v.control w.control (record { earlier = 0; walk = walk }) control-full was.control now.control stays.control control (rw most refl) r.control in
       record {
         control = first.walk.here;
         session = first.walk.others 6 refl ∙ r.session ∙ ap shown (stays-waiting v.session w.session stays.session (less (omega arith)) ∙ sym (less (omega arith)));
@@ -182,11 +182,11 @@ module _ (kind : Kind) (v w : Verdicts) (was : AreBuilt v) (now : AreBuilt w) (s
         settings = first.walk.settings;
         known = first.walk.known r.known;
       }
-  over-unis slots control session (suc (suc zero)) l none less walk r =
+  over-unis most control session (suc (suc zero)) l none less walk r =
       let p : Pass = record { earlier = 0; walk = walk } in
-      let first = meets-looks kind 2 (Control 1) v.control w.control p control-full was.control now.control stays.control control (rw slots refl) r.control in
+      let first = meets-looks kind 2 (Control 1) v.control w.control p control-full was.control now.control stays.control control (rw most refl) r.control in
       let q : Pass = meets true kind 2 (ripe_of 2 walk.ripe) p in
-      let free : nat_lt q.earlier kind.slots ≡ true = ap (λ (n : ℕ). nat_lt q.earlier n) slots ∙ below-four q.earlier first.earlier in
+      let free : nat_lt q.earlier kind.most ≡ true = ap (λ (n : ℕ). nat_lt q.earlier n) most ∙ below-four q.earlier first.earlier in
       let second = meets-looks kind 6 (WebTransport 0 3) v.session w.session q session-full was.session now.session stays.session session free (first.walk.others 6 refl ∙ r.session) in
       record {
         control = second.walk.others 2 refl ∙ first.walk.here;
@@ -195,13 +195,13 @@ module _ (kind : Kind) (v w : Verdicts) (was : AreBuilt v) (now : AreBuilt w) (s
         settings = second.walk.settings ∙ first.walk.settings;
         known = second.walk.known (first.walk.known r.known);
       }
-  over-unis slots control session (suc (suc (suc count))) l none less walk r = absurd (omega arith)
+  over-unis most control session (suc (suc (suc count))) l none less walk r = absurd (omega arith)
 
-  pub over-bis : (slots : kind.slots ≡ 1) (request : kind.verdict 0 ≡ w.request) (count : ℕ) → count ≤ 1 → (count ≡ 0 → w.request ≡ Incomplete)
+  pub over-bis : (most : kind.most ≡ 1) (request : kind.verdict 0 ≡ w.request) (count : ℕ) → count ≤ 1 → (count ≡ 0 → w.request ≡ Incomplete)
       → (before walk : Walk) → UnisLooked v w before walk
       → AreRipe w (over true kind (ids 0 0 count) (record { earlier = 0; walk = walk })).walk
       × ((over true kind (ids 0 0 count) (record { earlier = 0; walk = walk })).walk.settings ≡ before.settings)
-  over-bis slots request zero l none before walk u = (
+  over-bis most request zero l none before walk u = (
     record {
       control = u.control;
       session = u.session;
@@ -210,9 +210,9 @@ module _ (kind : Kind) (v w : Verdicts) (was : AreBuilt v) (now : AreBuilt w) (s
     },
     u.settings,
   )
-  over-bis slots request (suc zero) l none before walk u =
+  over-bis most request (suc zero) l none before walk u =
       let p : Pass = record { earlier = 0; walk = walk } in
-      let one = meets-looks kind 0 (Request one_fields 83) v.request w.request p request-full was.request now.request stays.request request (rw slots refl) u.request in (
+      let one = meets-looks kind 0 (Request one_fields 83) v.request w.request p request-full was.request now.request stays.request request (rw most refl) u.request in (
         record {
           control = one.walk.others 2 refl ∙ u.control;
           session = one.walk.others 6 refl ∙ u.session;
@@ -221,7 +221,7 @@ module _ (kind : Kind) (v w : Verdicts) (was : AreBuilt v) (now : AreBuilt w) (s
         },
         one.walk.settings ∙ u.settings,
       )
-  over-bis slots request (suc (suc count)) l none before walk u = absurd (omega arith)
+  over-bis most request (suc (suc count)) l none before walk u = absurd (omega arith)
 
 -- ---- the control stream
 

@@ -1,4 +1,5 @@
--- The calls on a session and on its streams.
+-- The calls on a session and on its streams (the stream header is that of the draft's unidirectional streams; which
+-- call gives what, and when, is this repository's own, after the Rust crate).
 use Rattle.std.specs.Prelude.{ℕ, ◌+◌, List, [], ◌∷◌, length, take, drop, Option, Some, None, Bool, true, false, ◌%◌, ◌==◌, ◌&&◌, not, if◌then◌else◌}
 use Rattle.std.specs.List.{list_any}
 use Rattle.wt_proto.specs.declared.side.Side.{Side}

@@ -1,5 +1,6 @@
 -- Which of the peer's streams are taken and ripe, and what this end's own control stream sends: one recursion over
--- the moments of a history.
+-- the moments of a history. That a control stream is opened first, with SETTINGS as its first frame, is RFC 9114,
+-- sections 3.2 and 6.2.1; how many streams are taken at once is this repository's own, after the Rust crate.
 use Rattle.std.specs.Prelude.{ℕ, zero, suc, ◌+◌, ◌*◌, List, [], ◌∷◌, ◌++◌, length, take, drop, Option, Some, None, Bool, true, false, nat_lt, ◌==◌, ◌||◌, ◌&&◌, not, if◌then◌else◌}
 use Rattle.std.specs.List.{list_any}
 use Rattle.wt_proto.specs.declared.side.Side.{Side}
@@ -23,7 +24,7 @@ pub record Ripe : Type 0 where
 
 pub record Walk : Type 0 where
   pub taken : List ℕ  -- the streams that are taken
-  pub ripe : List Ripe  -- the ripe ones, in ripe order: by moment, then by id
+  pub ripe : List Ripe  -- the ripe ones, in ripe order: by moment, then unidirectional ones first, then by id
   pub settings : Bool  -- the peer's SETTINGS came
 
 abbrev pub start : Walk
@@ -57,15 +58,22 @@ hands_out k (Stands session) = false
 hands_out k (ReadOut id count) = false
 hands_out k Asked = false
 
--- a stream of a session is settled where it was handed out, another one as it is ripe
+-- a stream of a session is settled where it was handed out, another one as it is ripe; a fault ends the connection
+-- before its stream is settled
 abbrev pub is_settled : Past → ℕ → Verdict → Bool
 is_settled h k verdicts.Incomplete = false
 is_settled h k (verdicts.WebTransport session at) = list_any (hands_out k) (deeds h)
-is_settled h k _ = true
+is_settled h k (verdicts.Control at) = true
+is_settled h k (verdicts.Encoder at) = true
+is_settled h k (verdicts.Decoder at) = true
+is_settled h k (verdicts.Request headers at) = true
+is_settled h k (verdicts.Refused code) = true
+is_settled h k verdicts.Dropped = true
+is_settled h k (verdicts.Fault code) = false
 
--- a kind of the peer's streams: so many of it may be unsettled and taken at once
+-- a kind of the peer's streams
 pub record Kind : Type 0 where
-  pub slots : ℕ
+  pub most : ℕ  -- a stream is taken where fewer than this many earlier ones are unsettled
   pub verdict : ℕ → Verdict
   pub settled : ℕ → Verdict → Bool
 
@@ -93,10 +101,11 @@ abbrev pub taking : Bool → Kind → ℕ → Pass → Pass
 taking false kind k p = record p { earlier = suc p.earlier }
 taking true kind k p = judged kind k (kind.verdict k) (record p { walk = with_taken k p.walk })
 
--- what is ripe stays so, what was taken stays so; else a stream is taken where a slot is free
+-- what is ripe stays so, what was taken stays so; else a stream is taken where few enough earlier ones are
+-- unsettled
 abbrev pub meets : Bool → Kind → ℕ → Option Verdict → Pass → Pass
 meets ready kind k (Some v) p = record p { earlier = counted (kind.settled k v) p.earlier }
-meets ready kind k None p = taking (has k p.walk.taken || (ready && nat_lt p.earlier kind.slots)) kind k p
+meets ready kind k None p = taking (has k p.walk.taken || (ready && nat_lt p.earlier kind.most)) kind k p
 
 abbrev pub over : Bool → Kind → List ℕ → Pass → Pass
 over ready kind [] p = p
@@ -110,13 +119,13 @@ ids kind n (suc count) = (4 * n + kind) ∷ ids kind (suc n) count
 abbrev pub over_unis : Side → Past → Walk → Walk
 over_unis side h w =
     (over (is_ready side h)
-    (record { slots = 4; verdict = λ k. uni_verdict_of (contents h k) (end_of (came h) k); settled = is_settled h })
+    (record { most = 4; verdict = λ k. uni_verdict_of (contents h k) (end_of (came h) k); settled = is_settled h })
     (ids (peer_uni side) 0 (peer_unis (came h))) (record { earlier = 0; walk = w })).walk
 
 abbrev pub over_bis : Side → Past → Walk → Walk
 over_bis side h w =
     (over (is_ready side h)
-    (record { slots = 1; verdict = λ k. bi_verdict_of (contents h k) (end_of (came h) k); settled = is_settled h })
+    (record { most = 1; verdict = λ k. bi_verdict_of (contents h k) (end_of (came h) k); settled = is_settled h })
     (ids (peer_bi side) 0 (peer_bis (came h))) (record { earlier = 0; walk = w })).walk
 
 -- ---- the peer's SETTINGS

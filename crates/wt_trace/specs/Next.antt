@@ -1,4 +1,5 @@
--- Which turn may come next, its one answer, and what a list of turns means.
+-- Which turn may come next, its one answer, and what a list of turns means (this repository's own; what a transport may
+-- bring is RFC 9000, sections 2 to 4).
 use Rattle.std.specs.Prelude.{ℕ, suc, ◌+◌, List, [], ◌∷◌, ◌++◌, length, take, drop, Option, Some, None, Bool, true, false, nat_lt, ◌==◌, ◌||◌, ◌&&◌, not, if◌then◌else◌}
 use Rattle.std.specs.List.{list_any}
 use Rattle.wt_proto.specs.declared.side.Side.{Side}

@@ -1,4 +1,4 @@
--- The printed lines of answers.
+-- The printed lines of answers (this repository's own grammar).
 use Rattle.std.specs.Prelude.{ℕ, List, [], ◌∷◌, ◌++◌, codes, Option, Some, None}
 use Rattle.std.specs.List.{flat_map}
 use Rattle.std.specs.Fmt.{decimal}

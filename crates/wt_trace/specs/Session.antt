@@ -1,4 +1,5 @@
--- The server's handshake: the request, the response, and the session that stands.
+-- The server's handshake: the request, the response, and the session that stands (RFC 9220, section 3; RFC 9114,
+-- section 4.4).
 use Rattle.std.specs.Prelude.{ℕ, ◌-◌, List, [], ◌∷◌, ◌++◌, length, take, drop, Option, Some, None, Bool, true, false, ◌==◌, ◌||◌, ◌&&◌, not, codes, if◌then◌else◌, IsTrue, ◌≡◌}
 use Rattle.std.specs.List.{list_any}
 use Rattle.wt_proto.specs.declared.side.Side.{Side}

@@ -1,7 +1,10 @@
 //! The types that a connection keeps may cross threads.
 use crate::action::{Action, Actions};
 use crate::answer::{Answer, Answers, Reply};
+use crate::machine::Core;
 use crate::piece::Piece;
+use crate::seam::Stream;
+use crate::session::Progress;
 use crate::turn::{Call, DatagramFact, Turn, Turns};
 
 fn is_send<T: Send>() {}
@@ -18,4 +21,7 @@ pub fn all_are_send() {
     is_send::<Reply>();
     is_send::<Answer>();
     is_send::<Answers>();
+    is_send::<Stream>();
+    is_send::<Progress>();
+    is_send::<Core>();
 }
