@@ -30,10 +30,5 @@ fn main(rt: HostRuntime) -> ExitCode {
     };
     let mut source = StdSource::new(rt.stdin());
     let mut sink = StdSink::new(rt.stdout());
-    ExitCode::from(run_program(
-        rt.alloc(),
-        words.as_slice(),
-        &mut source,
-        &mut sink,
-    ))
+    ExitCode::from(run_program(rt.alloc(), words.as_slice(), &mut source, &mut sink))
 }
