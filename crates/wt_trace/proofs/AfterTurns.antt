@@ -1,25 +1,15 @@
 -- The history that each turn leads to.
-use Rattle.std.proofs.Common.{arith, ◌≡◌, ◌≢◌, ◌+◌, ◌*◌, ◌/◌, ◌%◌, ◌≤◌, ◌<◌, ℕ, zero, suc, Bool, true, false, cond, List, [], ◌∷◌, ◌++◌, length, take, drop, refl, sym, subst, ap, ◌∙◌, append-nil, append_assoc}
-use Rattle.std.specs.Prelude.{Option, Some, None, ◌==◌, ◌&&◌, ◌||◌, not, nat_lt, IsTrue}
-use Rattle.std.specs.List.{list_any}
+use Rattle.std.proofs.Common.{arith, ◌≡◌, ℕ, Bool, true, false, cond, List, [], ◌∷◌, ◌++◌, length, refl, sym, ◌∙◌, append-nil, append_assoc}
+use Rattle.std.specs.Prelude.{◌==◌, ◌||◌}
 use Rattle.std.proofs.lemmas.List.{drop_all}
-use Rattle.std.proofs.lemmas.Bool.Decides.{nat_tests}
-use Rattle.std.proofs.lemmas.Bool.{eqb-true, eq-eqb}
-use Rattle.wt_proto.specs.declared.side.Side.TheVariants.{Client, Server}
-use Rattle.wt_proto.specs.declared.side.StreamEnd.TheVariants.{Running}
-use Rattle.wt_trace.specs.declared.action.Action.{Action}
-use Rattle.wt_trace.specs.declared.action.Action.TheVariants as actions
-use Rattle.wt_proto.specs.declared.verdict.Verdict.{Verdict}
-use Rattle.wt_proto.specs.declared.verdict.Verdict.TheVariants.{Incomplete, WebTransport, Control, Request}
-use Rattle.wt_proto.specs.Bi.{bi_verdict_of}
-use Rattle.wt_proto.specs.Uni.{uni_verdict_of, is_final}
-use Rattle.wt_trace.specs.History.{Event, Deed, Fact, Byte, Came, Out, Did, Past, came, outs, deeds}
+use Rattle.std.proofs.lemmas.Bool.{eq-eqb}
+use Rattle.wt_proto.specs.declared.side.Side.TheVariants.{Server}
+use Rattle.wt_trace.specs.History.{Byte, Past, came, outs, deeds}
 use Rattle.wt_trace.specs.Seam.{contents, peer_unis, peer_bis, is_among}
-use Rattle.wt_trace.specs.Driver.{moment}
 use Rattle.wt_trace.specs.Next.{bytes_come, went, between}
 use Rattle.wt_trace.specs.Built.{is_prefix, are_along, is_readable, empty_control, session_header, one_request}
 use Rattle.wt_trace.proofs.Readable.{prefix-of-append, along-of-append}
-use Rattle.wt_trace.proofs.Facts.{Connection, Facts, moment-is, facts-byte}
+use Rattle.wt_trace.proofs.Facts.{Facts, moment-is, facts-byte}
 
 -- ---- bytes
 

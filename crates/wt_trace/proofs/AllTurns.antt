@@ -1,6 +1,6 @@
 -- The laws hold along every run.
-use Rattle.std.proofs.Common.{arith, ◌≡◌, ◌≤◌, ℕ, zero, suc, Bool, true, false, cond, List, [], ◌∷◌, length, take, refl, sym, subst, ap, ◌∙◌}
-use Rattle.std.specs.Prelude.{Option, Some, None, not, Result, Ok, Err}
+use Rattle.std.proofs.Common.{arith, ◌≡◌, ◌≤◌, ℕ, zero, suc, true, false, cond, List, [], ◌∷◌, length, take, refl, sym, subst, ap, ◌∙◌}
+use Rattle.std.specs.Prelude.{Some, None, not, Result, Ok, Err}
 use Rattle.std.specs.List.{list_any}
 use Rattle.wt_proto.specs.declared.side.Side.{Side}
 use Rattle.wt_proto.specs.declared.side.Side.TheVariants.{Client, Server}
@@ -12,11 +12,11 @@ use Rattle.wt_trace.specs.declared.trace.TraceError.TheVariants as errors
 use Rattle.wt_trace.specs.declared.turn.Turn.{Turn}
 use Rattle.wt_trace.specs.Built.{is_built}
 use Rattle.wt_trace.specs.Exchanges.{Exchange, exchanges}
-use Rattle.wt_trace.specs.History.{Fact, Byte, Came, Out, Did, Past, deeds, ends, is_open}
+use Rattle.wt_trace.specs.History.{Byte, Came, Out, Did, Past, deeds, ends}
 use Rattle.wt_trace.specs.Laws.{AllAlong, HoldsOf, IfAnswered, KeepsLaws, ScriptKeepsLaws, StandsWhereItMay}
 use Rattle.wt_trace.specs.Next.{Run, is_given, run, run_from, is_lawful, next, then_turn, past_from}
 use Rattle.wt_trace.specs.Seam.{is_some}
-use Rattle.wt_trace.specs.Session.{MayStand, standing, accepting_response, gives}
+use Rattle.wt_trace.specs.Session.{MayStand, standing, accepting_response}
 use Rattle.wt_trace.specs.Trace.{IsTrace}
 use Rattle.wt_trace.proofs.EachTurn.{facts-later, turn-keeps}
 use Rattle.wt_trace.proofs.Facts.{Facts}

@@ -1,30 +1,28 @@
 -- What each call does after a history of lawful and built turns, in closed form.
-use Rattle.std.proofs.Common.{arith, ◌≡◌, ◌≢◌, ◌+◌, ◌*◌, ◌/◌, ◌%◌, ◌≤◌, ◌<◌, ℕ, zero, suc, Bool, true, false, cond, List, [], ◌∷◌, ◌++◌, length, take, drop, refl, sym, subst, ap, ◌∙◌}
-use Rattle.std.specs.Prelude.{Option, Some, None, ◌==◌, ◌&&◌, ◌||◌, not, nat_lt, IsTrue}
+use Rattle.std.proofs.Common.{arith, ◌≡◌, ℕ, Bool, true, false, cond, List, [], ◌∷◌, length, take, drop, refl, ap, ◌∙◌}
+use Rattle.std.specs.Prelude.{Option, Some, None, ◌==◌, ◌||◌, not, nat_lt}
 use Rattle.std.specs.List.{list_any}
-use Rattle.std.proofs.lemmas.Bool.Decides.{nat_tests}
-use Rattle.std.proofs.lemmas.Bool.{eqb-true, eq-eqb}
+use Rattle.std.proofs.lemmas.Bool.{eq-eqb}
 use Rattle.wt_proto.specs.declared.side.Side.TheVariants.{Server}
 use Rattle.wt_proto.specs.declared.side.StreamEnd.TheVariants.{Running}
 use Rattle.wt_trace.specs.declared.action.Action.TheVariants as actions
 use Rattle.wt_trace.specs.declared.answer.Reply.{Reply}
 use Rattle.wt_trace.specs.declared.answer.Reply.TheVariants as replies
 use Rattle.wt_proto.specs.declared.verdict.Verdict.{Verdict}
-use Rattle.wt_proto.specs.declared.verdict.Verdict.TheVariants.{Incomplete, WebTransport, Control, Request}
+use Rattle.wt_proto.specs.declared.verdict.Verdict.TheVariants.{WebTransport}
 use Rattle.wt_proto.specs.Bi.{bi_verdict_of}
 use Rattle.wt_proto.specs.FixedBytes.{own_control_bytes}
-use Rattle.wt_proto.specs.HeaderList.{Fields}
-use Rattle.wt_proto.specs.Uni.{uni_verdict_of, is_final}
-use Rattle.wt_trace.specs.History.{Deed, HandedOut, Given, Stands, ReadOut, Asked, Fact, Out, Did, Past, came, outs, deeds}
+use Rattle.wt_proto.specs.Uni.{uni_verdict_of}
+use Rattle.wt_trace.specs.History.{HandedOut, Stands, ReadOut, Asked, Out, Did, Past, came, outs, deeds}
 use Rattle.wt_trace.specs.Seam.{contents, credit, sent, is_some}
-use Rattle.wt_trace.specs.Driver.{Ripe, walk, moment, ripe_of, hands_out, sending, rest_of}
-use Rattle.wt_trace.specs.Session.{Told, does, tells, asks, standing, given, gives, is_queued, first_queued, gives_request, incoming, is_whole, responds, accept, accepting_response}
-use Rattle.wt_trace.specs.Calls.{in_session, accept_uni, is_left, first_left, hands, offset_of, body, unread, can_read, gives_bytes, reads, read, total_read}
-use Rattle.wt_trace.specs.Next.{is_given, responds_to}
-use Rattle.wt_trace.proofs.Readable.{one_fields, IsOrWaits, Waits, Is, own_length, response-length, response-cons}
+use Rattle.wt_trace.specs.Driver.{Ripe, walk, ripe_of, hands_out, sending, rest_of}
+use Rattle.wt_trace.specs.Session.{does, tells, asks, standing, gives, first_queued, gives_request, incoming, is_whole, responds, accept, accepting_response}
+use Rattle.wt_trace.specs.Calls.{accept_uni, first_left, hands, offset_of, unread, total_read}
+use Rattle.wt_trace.specs.Next.{is_given}
+use Rattle.wt_trace.proofs.Readable.{own_length, response-length, response-cons}
 use Rattle.wt_trace.proofs.WalkFacts.{shown, IsKnown, IsControl, IsOfSession, IsRequest, AllKnown}
 use Rattle.wt_trace.proofs.Moments.{settings_in}
-use Rattle.wt_trace.proofs.Facts.{Connection, Calls, Facts, built-streams, moment-is, facts-did, calls-asked, calls-given, calls-handed, calls-read, accepted, facts-accepted, enough-takes, sending-cons}
+use Rattle.wt_trace.proofs.Facts.{Facts, moment-is, facts-did, calls-asked, calls-handed, calls-read, accepted, facts-accepted, enough-takes, sending-cons}
 
 -- the history after a call that only asks
 pub asked-is : (h : Past) (r : Reply) → Facts h → asks Server h r ≡ tells (Did Asked ∷ h) r

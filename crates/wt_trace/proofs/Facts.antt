@@ -1,28 +1,27 @@
 -- What holds of every history of lawful and built turns.
-use Rattle.std.proofs.Common.{arith, ◌≡◌, ◌≢◌, ◌+◌, ◌*◌, ◌/◌, ◌%◌, ◌≤◌, ◌<◌, ℕ, zero, suc, Bool, true, false, cond, List, [], ◌∷◌, ◌++◌, length, take, drop, refl, sym, subst, ap, ◌∙◌, length-take, append-nil, append_assoc}
-use Rattle.std.specs.Prelude.{Option, Some, None, ◌==◌, ◌&&◌, ◌||◌, not, nat_lt, IsTrue}
+use Rattle.std.proofs.Common.{arith, ◌≡◌, ◌+◌, ◌≤◌, ℕ, suc, Bool, true, false, cond, List, [], ◌∷◌, ◌++◌, length, take, drop, refl, sym, subst, ap, ◌∙◌, length-take, append-nil}
+use Rattle.std.specs.Prelude.{Option, Some, None, ◌==◌, ◌||◌, nat_lt}
 use Rattle.std.specs.List.{list_any}
 use Rattle.std.proofs.lemmas.List.{take_all, drop_all}
 use Rattle.std.proofs.lemmas.Bool.Decides.{nat_tests}
-use Rattle.std.proofs.lemmas.Bool.{eqb-true, eq-eqb}
-use Rattle.wt_proto.specs.declared.side.Side.TheVariants.{Client, Server}
+use Rattle.std.proofs.lemmas.Bool.{eqb-true}
+use Rattle.wt_proto.specs.declared.side.Side.TheVariants.{Server}
 use Rattle.wt_proto.specs.declared.side.StreamEnd.TheVariants.{Running}
-use Rattle.wt_trace.specs.declared.action.Action.{Action}
 use Rattle.wt_trace.specs.declared.action.Action.TheVariants as actions
 use Rattle.wt_trace.specs.declared.turn.DatagramFact.{DatagramFact}
 use Rattle.wt_proto.specs.declared.verdict.Verdict.{Verdict}
-use Rattle.wt_proto.specs.declared.verdict.Verdict.TheVariants.{Incomplete, WebTransport, Control, Request}
+use Rattle.wt_proto.specs.declared.verdict.Verdict.TheVariants.{WebTransport, Request}
 use Rattle.wt_proto.specs.Bi.{bi_verdict_of}
 use Rattle.wt_proto.specs.FixedBytes.{own_control_bytes}
-use Rattle.wt_proto.specs.Uni.{uni_verdict_of, is_final}
-use Rattle.wt_trace.specs.History.{Event, Connected, PeerUni, PeerBi, Deed, HandedOut, Given, Begun, Stands, ReadOut, Asked, Fact, Byte, Came, Out, Did, Past, came, outs, deeds, put}
-use Rattle.wt_trace.specs.Seam.{contents, is_connected, unis_allowed, credit, end_of, peer_unis, peer_bis, sent, opened, is_some, is_among}
-use Rattle.wt_trace.specs.Driver.{walk, work, moment, is_ready, hands_out, own_part, at_moment, sending}
+use Rattle.wt_proto.specs.Uni.{uni_verdict_of}
+use Rattle.wt_trace.specs.History.{Connected, PeerUni, PeerBi, Deed, HandedOut, Given, Stands, ReadOut, Asked, Fact, Byte, Came, Out, Did, Past, came, outs, deeds}
+use Rattle.wt_trace.specs.Seam.{contents, is_connected, unis_allowed, credit, peer_unis, peer_bis, sent, opened, is_some, is_among}
+use Rattle.wt_trace.specs.Driver.{walk, work, moment, is_ready, hands_out, sending}
 use Rattle.wt_trace.specs.Session.{standing, given, gives, accepting_response}
 use Rattle.wt_trace.specs.Calls.{total_read}
 use Rattle.wt_trace.specs.Built.{is_prefix, are_along, is_readable, empty_control, session_header, one_request}
 use Rattle.wt_trace.specs.Next.{is_first, is_given, responds_to}
-use Rattle.wt_trace.proofs.Readable.{IsOrWaits, Stays, IsCons, Cons, one_fields, settings_came, own_length, own-cons, response-length, response-cons, control-verdict, session-verdict, request-verdict, uni-stays, bi-stays, settings-stay, settings-waits, uni-empty, bi-empty, none-came}
+use Rattle.wt_trace.proofs.Readable.{Stays, IsCons, Cons, one_fields, settings_came, own-cons, control-verdict, session-verdict, request-verdict, uni-stays, bi-stays, settings-stay, settings-waits, uni-empty, bi-empty, none-came}
 use Rattle.wt_trace.proofs.WalkFacts.{shown, AreBuilt, AllStay}
 use Rattle.wt_trace.proofs.Moments.{verdicts_of, settings_in, Knows, AtReady, moment-knows}
 

@@ -1,39 +1,28 @@
 -- Each exchange keeps the laws.
-use Rattle.std.proofs.Common.{arith, ◌≡◌, ◌+◌, ◌*◌, ◌≤◌, ◌<◌, ℕ, zero, suc, Bool, true, false, cond, List, [], ◌∷◌, ◌++◌, length, take, drop, refl, sym, subst, ap, ◌∙◌}
-use Rattle.std.specs.Prelude.{Option, Some, None, ◌==◌, ◌&&◌, ◌||◌, not, IsTrue}
+use Rattle.std.proofs.Common.{arith, ◌≡◌, ◌≤◌, ℕ, zero, suc, Bool, true, false, List, [], ◌++◌, drop, refl, sym, subst, ap, ◌∙◌}
+use Rattle.std.specs.Prelude.{Some, ◌&&◌, ◌||◌, not}
 use Rattle.std.specs.List.{list_any}
-use Rattle.std.proofs.lemmas.Bool.{eqb-true, eq-eqb}
 use Rattle.std.proofs.lemmas.Bool.Decides.{nat_tests}
-use Rattle.wt_proto.specs.declared.side.Side.{Side}
-use Rattle.wt_proto.specs.declared.side.Side.TheVariants.{Client, Server}
+use Rattle.wt_proto.specs.declared.side.Side.TheVariants.{Server}
 use Rattle.wt_proto.specs.declared.side.StreamEnd.TheVariants.{Running}
 use Rattle.wt_proto.specs.declared.verdict.Verdict.{Verdict}
-use Rattle.wt_proto.specs.declared.verdict.Verdict.TheVariants.{Incomplete, WebTransport, Control, Request}
+use Rattle.wt_proto.specs.declared.verdict.Verdict.TheVariants.{Control}
 use Rattle.wt_proto.specs.Bi.{bi_verdict_of}
 use Rattle.wt_proto.specs.Uni.{uni_verdict_of}
-use Rattle.wt_trace.specs.declared.action.Action.{Action}
-use Rattle.wt_trace.specs.declared.answer.Answer.{Answer}
-use Rattle.wt_trace.specs.declared.answer.Reply.{Reply}
-use Rattle.wt_trace.specs.declared.answer.Reply.TheVariants as replies
-use Rattle.wt_trace.specs.declared.turn.Call.TheVariants as calls
-use Rattle.wt_trace.specs.declared.turn.Turn.{Turn}
-use Rattle.wt_trace.specs.declared.turn.Turn.TheVariants as turns
 use Rattle.wt_trace.specs.Calls.{names, offset_of, total_read}
 use Rattle.wt_trace.specs.Driver.{hands_out, ids}
-use Rattle.wt_trace.specs.Exchanges.{Exchange, brought, opened_unis, opened_bis, was_given, session_of, was_accepted, read_from, settings_came, request_waits, stream_waits, shows_settings, behind_header, unread_of, control_came}
+use Rattle.wt_trace.specs.Exchanges.{Exchange, brought, was_given, was_accepted, read_from, settings_came, request_waits, stream_waits, shows_settings, behind_header, unread_of}
 use Rattle.wt_trace.specs.History.{Past, came, deeds}
-use Rattle.wt_trace.specs.Laws.{KeepsLaws, ReadsFollow, ReadsInOrder, PendingWhereNothingIsLeft, RepliesHaveCauses, ActionsHaveCauses, StandsRightly, GivenRightly, AskedRightly, is_pending, is_done, is_no_session, is_no_stream, is_call, is_none, is_empty, wants_session, wants_stream, nothing_left, none_waits, goes_out}
+use Rattle.wt_trace.specs.Laws.{ReadsFollow}
 use Rattle.wt_trace.specs.Next.{is_given}
 use Rattle.wt_trace.specs.Seam.{contents, peer_unis, peer_bis, is_among}
-use Rattle.wt_trace.specs.Session.{standing, given, gives, is_request}
-use Rattle.wt_trace.proofs.CallTurns.{left_of, handed_over, session_begun, unread_in, asked_for, placed}
-use Rattle.wt_trace.proofs.Facts.{Facts, built-streams, started}
+use Rattle.wt_trace.specs.Session.{is_request}
+use Rattle.wt_trace.proofs.CallTurns.{unread_in}
+use Rattle.wt_trace.proofs.Facts.{Facts, built-streams}
 use Rattle.wt_trace.proofs.Moments.{settings_in}
-use Rattle.wt_trace.proofs.Readable.{IsOrWaits, Waits, Is, one_fields, uni-empty, bi-empty, settings-waits}
-use Rattle.wt_trace.proofs.ReplayCalls.{control-came, session-came, or-false, shows-opened}
-use Rattle.wt_trace.proofs.Tells.{Tells, tells-turned}
-use Rattle.wt_trace.proofs.Turned.{Turned, Connects, OpensUni, OpensBi, Brings, NoRequest, GivesRequest, Accepts, NoSession, NoneLeft, HandsOut, NoStream, ReadsNone, NoBytes, Reads, done, telling}
-use Rattle.wt_trace.proofs.WalkFacts.{shown}
+use Rattle.wt_trace.proofs.Readable.{IsOrWaits, Waits, Is, uni-empty, bi-empty, settings-waits}
+use Rattle.wt_trace.proofs.ReplayCalls.{control-came, session-came, or-false}
+use Rattle.wt_trace.proofs.Tells.{Tells}
 
 -- ---- reads
 

@@ -1,19 +1,19 @@
 -- What a moment leaves of a walk, where all that came is built.
-use Rattle.std.proofs.Common.{arith, ◌≡◌, ◌≢◌, ◌+◌, ◌≤◌, ◌<◌, ℕ, zero, suc, Bool, true, false, cond, List, [], ◌∷◌, ◌++◌, drop, refl, sym, subst, ap, ◌∙◌}
-use Rattle.std.specs.Prelude.{Option, Some, None, ◌==◌, ◌&&◌, ◌||◌, not, nat_lt}
+use Rattle.std.proofs.Common.{◌≡◌, ◌≤◌, ℕ, Bool, true, false, List, [], ◌∷◌, drop, refl, sym, subst, ap, ◌∙◌}
+use Rattle.std.specs.Prelude.{Option, Some, None, ◌||◌}
 use Rattle.wt_proto.specs.declared.side.Side.TheVariants.{Server}
 use Rattle.wt_proto.specs.declared.side.StreamEnd.{StreamEnd}
 use Rattle.wt_proto.specs.declared.side.StreamEnd.TheVariants.{Running}
 use Rattle.wt_proto.specs.declared.verdict.Verdict.{Verdict}
-use Rattle.wt_proto.specs.declared.verdict.Verdict.TheVariants.{Incomplete, WebTransport, Control, Request}
+use Rattle.wt_proto.specs.declared.verdict.Verdict.TheVariants.{Incomplete, Control}
 use Rattle.wt_proto.specs.Bi.{bi_verdict_of}
 use Rattle.wt_proto.specs.ControlWalk.{control_walk_of}
-use Rattle.wt_proto.specs.Uni.{uni_verdict_of, is_final}
+use Rattle.wt_proto.specs.Uni.{uni_verdict_of}
 use Rattle.wt_trace.specs.History.{Event, Past, came}
 use Rattle.wt_trace.specs.Seam.{contents, is_some, end_of, end_told, newest, peer_unis, peer_bis}
-use Rattle.wt_trace.specs.Driver.{Ripe, Walk, Pass, Kind, ripe_of, over, ids, is_ready, is_settled, over_unis, over_bis, over_control, first_at, control_at, at_moment}
-use Rattle.wt_trace.proofs.Readable.{one_fields, settings_came, Stays, IsOrWaits, Waits, Is, settings-stay, settings-waits, uni-empty, bi-empty}
-use Rattle.wt_trace.proofs.WalkFacts.{shown, Verdicts, AreBuilt, AllStay, AreRipe, UnisLooked, over-unis, over-bis, first-control, control_place}
+use Rattle.wt_trace.specs.Driver.{Walk, Kind, over, ids, is_ready, is_settled, over_unis, over_bis, over_control, first_at, control_at, at_moment}
+use Rattle.wt_trace.proofs.Readable.{settings_came, IsOrWaits, Waits, Is, uni-empty, bi-empty}
+use Rattle.wt_trace.proofs.WalkFacts.{shown, Verdicts, AreBuilt, AllStay, AreRipe, over-unis, over-bis, first-control, control_place}
 
 none-told : (k : ℕ) (es : List Event) → newest (end_told k) es ≡ None
 none-told k [] = refl

@@ -1,5 +1,5 @@
 -- Lists that a function makes of the numbers of a range.
-use Rattle.std.proofs.Common.{arith, ◌≡◌, ◌≢◌, ◌<◌, ◌≤◌, ◌+◌, zero, suc, ℕ, List, [], ◌∷◌, refl, ap, sym, ◌∙◌, add-zero}
+use Rattle.std.proofs.Common.{arith, ◌≡◌, ◌≢◌, ◌<◌, ◌≤◌, ◌+◌, zero, suc, ℕ, ◌∷◌, refl, ap, add-zero}
 use Rattle.std.specs.Prelude.{map, slice_set}
 use Rattle.std.specs.List.{range_with_len}
 

@@ -1,21 +1,20 @@
 -- What the verdicts say of the bytes that are built so far.
-use Rattle.std.proofs.Common.{arith, ◌≡◌, ◌≤◌, ◌<◌, ◌+◌, ℕ, zero, suc, Bool, true, false, cond, List, [], ◌∷◌, ◌++◌, length, take, drop, drop-cons, refl, sym, subst, ap, ◌∙◌, append-nil, add-one}
-use Rattle.std.specs.Prelude.{Option, Some, None, ◌==◌, ◌&&◌, ◌||◌, codes, nat_lt}
+use Rattle.std.proofs.Common.{arith, ◌≡◌, ◌≤◌, ◌<◌, ℕ, zero, suc, Bool, true, false, List, [], ◌∷◌, ◌++◌, length, take, drop, drop-cons, refl, sym, subst, ap, ◌∙◌, append-nil}
+use Rattle.std.specs.Prelude.{◌==◌, ◌&&◌, codes, nat_lt}
 use Rattle.std.proofs.lemmas.Bool.Decides.{nat_tests}
 use Rattle.std.proofs.lemmas.Bool.{eqb-true}
 use Rattle.std.proofs.lemmas.List.{drop_all}
 use Rattle.wt_proto.specs.declared.side.StreamEnd.TheVariants.{Running}
 use Rattle.wt_proto.specs.declared.verdict.Verdict.{Verdict}
-use Rattle.wt_proto.specs.declared.verdict.Verdict.TheVariants.{Incomplete, WebTransport, Control, Request, Encoder, Decoder, Refused, Dropped, Fault}
+use Rattle.wt_proto.specs.declared.verdict.Verdict.TheVariants.{Incomplete, WebTransport, Control, Request}
 use Rattle.wt_proto.specs.Bi.{bi_decides, bi_verdict_of}
 use Rattle.wt_proto.specs.ControlWalk.{control_decides, control_walk_of}
 use Rattle.wt_proto.specs.FieldSection.{string_at, line_at, lines_from}
-use Rattle.wt_proto.specs.FixedBytes.{own_control_bytes, headers_frame_bytes}
+use Rattle.wt_proto.specs.FixedBytes.{own_control_bytes}
 use Rattle.wt_proto.specs.Frames.{frame_at}
 use Rattle.wt_proto.specs.HeaderList.{Fields}
 use Rattle.wt_proto.specs.PrefixedInteger.{continuation_at, prefixed_at, prefixed_bytes}
 use Rattle.wt_proto.specs.Requests.{request_fields, request_of}
-use Rattle.wt_proto.specs.Settings.{with_pair, pair_at, pairs_from}
 use Rattle.wt_proto.specs.Uni.{uni_verdict_of, is_final}
 use Rattle.wt_proto.specs.Utf8.{is_text_from}
 use Rattle.wt_proto.specs.Varint.{varint_at, varint_bytes}

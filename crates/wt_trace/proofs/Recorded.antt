@@ -1,6 +1,6 @@
 -- Recorded sessions: what the definitions give is what was recorded. Made by tools/equations.
-use Rattle.std.proofs.Common.{◌≡◌, ℕ, List, [], ◌∷◌, refl, Option, Some, None}
-use Rattle.wt_proto.specs.declared.side.Side.TheVariants.{Client, Server}
+use Rattle.std.proofs.Common.{◌≡◌, List, [], ◌∷◌, refl, Some}
+use Rattle.wt_proto.specs.declared.side.Side.TheVariants.{Server}
 use Rattle.wt_trace.specs.declared.turn.DatagramFact.TheVariants as facts
 use Rattle.wt_trace.specs.declared.turn.Call.TheVariants as calls
 use Rattle.wt_trace.specs.declared.turn.Turn.{Turn}

@@ -1,11 +1,11 @@
 -- What a core keeps of a history answers as the history does, and leads to what is kept of the longer one.
-use Rattle.std.proofs.Common.{arith, ◌≡◌, ◌≢◌, ◌+◌, ◌*◌, ◌/◌, ◌%◌, ◌≤◌, ◌<◌, ◌^◌, ℕ, zero, suc, Bool, true, false, cond, List, [], ◌∷◌, ◌++◌, length, take, drop, get_or, refl, sym, subst, ap, ◌∙◌, append-nil, add-one}
-use Rattle.std.specs.Prelude.{Option, Some, None, ◌==◌, ◌&&◌, ◌||◌, not, nat_lt, IsTrue, map, slice_set}
-use Rattle.std.specs.List.{list_any, range_with_len}
+use Rattle.std.proofs.Common.{arith, ◌≡◌, ◌≢◌, ◌+◌, ◌*◌, ◌/◌, ◌%◌, ◌<◌, ℕ, suc, Bool, true, false, cond, List, [], ◌∷◌, ◌++◌, refl, sym, subst, ap, ◌∙◌, add-one}
+use Rattle.std.specs.Prelude.{Option, Some, None, ◌==◌, ◌&&◌, ◌||◌, not, slice_set}
+use Rattle.std.specs.List.{list_any}
 use Rattle.std.proofs.lemmas.List.FromFn.{length-map-range_with_len, get_or-map-range_with_len, map-range_with_len_more}
 use Rattle.std.proofs.lemmas.Bool.Decides.{nat_tests}
-use Rattle.std.proofs.lemmas.Bool.{eqb-true, eqb-false, eq-eqb}
-use Rattle.wt_proto.specs.declared.side.Side.TheVariants.{Client, Server}
+use Rattle.std.proofs.lemmas.Bool.{eq-eqb}
+use Rattle.wt_proto.specs.declared.side.Side.TheVariants.{Server}
 use Rattle.wt_proto.specs.declared.side.StreamEnd.TheVariants.{Running}
 use Rattle.wt_trace.specs.declared.turn.Call.{Call}
 use Rattle.wt_trace.specs.declared.turn.Call.TheVariants as calls
@@ -14,20 +14,18 @@ use Rattle.wt_trace.specs.declared.turn.Turn.TheVariants as turns
 use Rattle.wt_trace.specs.declared.seam.Stream.{Stream}
 use Rattle.wt_trace.specs.declared.session.Progress.{Progress}
 use Rattle.wt_trace.specs.declared.session.Progress.TheVariants as progresses
-use Rattle.wt_proto.specs.declared.verdict.Verdict.{Verdict}
-use Rattle.wt_proto.specs.declared.verdict.Verdict.TheVariants.{Incomplete, WebTransport, Control, Request}
-use Rattle.wt_proto.specs.Bi.{bi_verdict_of}
-use Rattle.wt_proto.specs.Uni.{uni_verdict_of, is_final}
-use Rattle.wt_trace.specs.History.{Event, PeerUni, PeerBi, Deed, Fact, Byte, Came, Out, Did, Past, came, outs, deeds}
-use Rattle.wt_trace.specs.Seam.{contents, is_connected, end_of, peer_unis, peer_bis, is_among, is_some, is_running, opened}
+use Rattle.wt_proto.specs.declared.verdict.Verdict.TheVariants.{Incomplete, WebTransport}
+use Rattle.wt_proto.specs.Uni.{uni_verdict_of}
+use Rattle.wt_trace.specs.History.{PeerUni, PeerBi, Came, Past, came, deeds}
+use Rattle.wt_trace.specs.Seam.{contents, is_connected, peer_unis, peer_bis, is_among, is_some}
 use Rattle.wt_trace.specs.Driver.{hands_out}
 use Rattle.wt_trace.specs.Session.{standing, given}
 use Rattle.wt_trace.specs.Calls.{total_read}
-use Rattle.wt_trace.specs.Next.{is_lawful, is_given, responds_to, is_first}
+use Rattle.wt_trace.specs.Next.{is_lawful, is_given, responds_to}
 use Rattle.wt_trace.specs.Built.{is_built, is_readable}
 use Rattle.wt_trace.specs.Kept.{Kept, kept_of, stream_of, unis_of, bis_of, progress_of, unless_standing}
-use Rattle.wt_trace.specs.Step.{lawful, built, has_uni, has_bi, uni_at, bi_at, contents_at, fresh, is_waiting, was_given, grown, after, answer_of}
-use Rattle.wt_trace.proofs.Facts.{Connection, Streams, Calls, Facts}
+use Rattle.wt_trace.specs.Step.{lawful, built, has_uni, has_bi, uni_at, bi_at, contents_at, fresh, is_waiting, was_given, grown, after}
+use Rattle.wt_trace.proofs.Facts.{Facts}
 use Rattle.wt_trace.proofs.Moments.{running}
 use Rattle.wt_trace.proofs.Readable.{uni-empty}
 use Rattle.wt_trace.proofs.Ranges.{map-same, map-set}

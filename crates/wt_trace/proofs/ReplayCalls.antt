@@ -1,10 +1,10 @@
 -- The calls on what is kept: their answers, and what is kept after them.
-use Rattle.std.proofs.Common.{arith, ◌≡◌, ◌≢◌, ◌+◌, ◌*◌, ◌/◌, ◌%◌, ◌≤◌, ◌<◌, ℕ, zero, suc, Bool, true, false, cond, List, [], ◌∷◌, ◌++◌, length, take, drop, refl, sym, subst, ap, ◌∙◌}
-use Rattle.std.specs.Prelude.{Option, Some, None, ◌==◌, ◌&&◌, ◌||◌, not, nat_lt, IsTrue, slice_set}
-use Rattle.std.specs.List.{list_any, range_with_len}
+use Rattle.std.proofs.Common.{arith, ◌≡◌, ◌+◌, ◌*◌, ◌≤◌, ◌<◌, ℕ, zero, suc, Bool, true, false, cond, List, [], ◌∷◌, length, take, drop, refl, sym, subst, ap, ◌∙◌}
+use Rattle.std.specs.Prelude.{Option, Some, None, ◌==◌, ◌&&◌, ◌||◌, not, slice_set}
+use Rattle.std.specs.List.{list_any}
 use Rattle.std.proofs.lemmas.Bool.Decides.{nat_tests}
-use Rattle.std.proofs.lemmas.Bool.{eqb-true, eq-eqb}
-use Rattle.std.proofs.lemmas.List.FromFn.{length-map-range_with_len, get_or-map-range_with_len}
+use Rattle.std.proofs.lemmas.Bool.{eqb-true}
+use Rattle.std.proofs.lemmas.List.FromFn.{get_or-map-range_with_len}
 use Rattle.wt_proto.specs.declared.side.Side.TheVariants.{Server}
 use Rattle.wt_proto.specs.declared.side.StreamEnd.TheVariants.{Running}
 use Rattle.wt_trace.specs.declared.turn.Call.{Call}
@@ -22,25 +22,25 @@ use Rattle.wt_proto.specs.declared.verdict.Verdict.{Verdict}
 use Rattle.wt_proto.specs.declared.verdict.Verdict.TheVariants.{Incomplete, WebTransport, Control, Request}
 use Rattle.wt_proto.specs.Bi.{bi_verdict_of}
 use Rattle.wt_proto.specs.HeaderList.{Fields}
-use Rattle.wt_proto.specs.Uni.{uni_verdict_of, is_final}
-use Rattle.wt_trace.specs.History.{Deed, HandedOut, Given, Stands, ReadOut, Asked, Fact, Out, Did, Past, came, outs, deeds}
+use Rattle.wt_proto.specs.Uni.{uni_verdict_of}
+use Rattle.wt_trace.specs.History.{Given, ReadOut, Asked, Did, Past, came, deeds}
 use Rattle.wt_trace.specs.Seam.{contents, peer_unis, peer_bis, is_some, is_among}
 use Rattle.wt_trace.specs.Driver.{hands_out}
 use Rattle.wt_trace.specs.Session.{Told, tells, asks, standing, given, gives_request, accept, accepting_response}
-use Rattle.wt_trace.specs.Calls.{in_session, accept_uni, names, can_read, offset_of, hands, reads, read, gives_bytes, total_read, unread}
+use Rattle.wt_trace.specs.Calls.{in_session, accept_uni, names, can_read, offset_of, hands, reads, read, gives_bytes, total_read}
 use Rattle.wt_trace.specs.Next.{went, between, joined, next, then_turn, called, is_lawful, is_given, responds_to}
 use Rattle.wt_trace.specs.Built.{is_built_call}
-use Rattle.wt_trace.specs.Kept.{Kept, kept_of, stream_of, unis_of, bis_of, progress_of}
+use Rattle.wt_trace.specs.Kept.{stream_of, unis_of, bis_of}
 use Rattle.wt_trace.specs.Step.{answer_of, after, settings_came, request_on, incoming_reply, left_in, uni_reply, with_handed, with_uni, handed, read_reply, read_on, unread_of, uni_at, has_uni, bytes_reply, given_after, session_named, uni_in, fresh}
 use Rattle.wt_trace.specs.Step as step
 use Rattle.wt_trace.specs.Exchanges.{control_came}
 use Rattle.wt_trace.proofs.Readable.{one_fields, uni-empty, bi-empty, IsOrWaits, Waits, Is, settings-waits}
 use Rattle.wt_trace.proofs.WalkFacts.{shown}
-use Rattle.wt_trace.proofs.Moments.{settings_in, verdicts_of}
+use Rattle.wt_trace.proofs.Moments.{settings_in}
 use Rattle.std.proofs.Math.Seq.{drop-append_seam}
-use Rattle.wt_trace.proofs.Facts.{Facts, Calls, built-streams, accepted, facts-did, calls-given, moment-is}
+use Rattle.wt_trace.proofs.Facts.{Facts, built-streams, facts-did, calls-given, moment-is}
 use Rattle.wt_trace.proofs.AfterTurns.{between-none}
-use Rattle.wt_trace.proofs.CallTurns.{asked-is, placed, asked_for, incoming-is, left_of, accept_uni-is, handed_over, hands-is, session_begun, accept-is, unread_in, unread-is, facts-read, facts-asked, facts-handed, facts-begun}
+use Rattle.wt_trace.proofs.CallTurns.{asked-is, asked_for, incoming-is, left_of, accept_uni-is, handed_over, hands-is, session_begun, accept-is, unread_in, unread-is, facts-read, facts-asked, facts-handed, facts-begun}
 use Rattle.wt_trace.proofs.Ranges.{map-set}
 use Rattle.wt_trace.proofs.Turned.{Turned, NoRequest, GivesRequest, Accepts, NoSession, NoneLeft, HandsOut, NoStream, ReadsNone, NoBytes, Reads, telling}
 use Rattle.wt_trace.proofs.Replay.{kept, uni_at-is, has_uni-is, same-kept, apart}

@@ -1,5 +1,5 @@
 -- A run goes on from the answers so far.
-use Rattle.std.proofs.Common.{arith, ◌≡◌, ◌+◌, ◌<◌, ℕ, Bool, true, false, List, [], ◌∷◌, ◌++◌, length, drop, drop-cons, take, get_or, suc, refl, sym, subst, ap, ◌∙◌, append-nil, append_assoc}
+use Rattle.std.proofs.Common.{◌≡◌, Bool, true, false, List, [], ◌∷◌, ◌++◌, length, take, refl, sym, subst, ap, ◌∙◌, append-nil, append_assoc}
 use Rattle.std.specs.Prelude.{IsTrue, ◌&&◌}
 use Rattle.wt_proto.specs.declared.side.Side.{Side}
 use Rattle.wt_trace.specs.declared.turn.Turn.{Turn}
@@ -7,7 +7,7 @@ use Rattle.wt_trace.specs.declared.answer.Answer.{Answer}
 use Rattle.wt_trace.specs.History.{Past}
 use Rattle.wt_trace.specs.Built.{is_built}
 use Rattle.wt_trace.specs.Kept.{all_good}
-use Rattle.wt_trace.specs.Next.{Run, Stop, Finished, AtUnlawful, AtUnbuilt, run, run_from, stops_at, with_answer, is_lawful, next, then_turn, meaning_from}
+use Rattle.wt_trace.specs.Next.{Run, Stop, Finished, AtUnlawful, AtUnbuilt, run_from, stops_at, with_answer, is_lawful, next, then_turn, meaning_from}
 
 pub both : (a b : Bool) → a ≡ true → b ≡ true → IsTrue (a && b)
 both a b p q = rw (p, q) refl

@@ -1,27 +1,23 @@
 -- A core that stands for a history tells what is lawful, answers and goes on as the history says.
-use Rattle.std.proofs.Common.{arith, ◌≡◌, ◌/◌, ℕ, Bool, true, false, cond, List, [], ◌∷◌, ◌++◌, length, refl, sym, subst, ap, ◌∙◌, ◌⊎◌, inl, inr}
-use Rattle.std.specs.Prelude.{Option, Some, None, ◌&&◌, ◌||◌, not, nat_lt, IsTrue, slice_set}
+use Rattle.std.proofs.Common.{arith, ◌≡◌, ◌/◌, ℕ, Bool, true, false, cond, List, [], ◌∷◌, ◌++◌, length, refl, sym, subst, ap, ◌∙◌}
+use Rattle.std.specs.Prelude.{◌&&◌, ◌||◌, not, nat_lt, IsTrue, slice_set}
 use Rattle.std.proofs.lemmas.Bool.Decides.{nat_tests}
 use Rattle.wt_proto.specs.declared.side.Side.{Side}
 use Rattle.wt_proto.specs.declared.side.Side.TheVariants.{Client, Server}
-use Rattle.wt_trace.specs.declared.turn.DatagramFact.{DatagramFact}
-use Rattle.wt_trace.specs.declared.turn.Call.{Call}
 use Rattle.wt_trace.specs.declared.turn.Call.TheVariants as calls
 use Rattle.wt_trace.specs.declared.turn.Turn.{Turn}
 use Rattle.wt_trace.specs.declared.turn.Turn.TheVariants as turns
 use Rattle.wt_trace.specs.declared.action.Action.{Action}
 use Rattle.wt_trace.specs.declared.answer.Reply.{Reply}
 use Rattle.wt_trace.specs.declared.answer.Reply.TheVariants as replies
-use Rattle.wt_trace.specs.declared.answer.Answer.{Answer}
 use Rattle.wt_proto.specs.FixedBytes.{own_control_bytes}
-use Rattle.wt_trace.specs.History.{Event, Connected, PeerUni, PeerBi, Fact, Byte, Came, Past, came, outs}
-use Rattle.wt_trace.specs.Seam.{contents, is_connected, peer_unis, peer_bis, is_among, may_bring}
-use Rattle.wt_trace.specs.Driver.{moment}
+use Rattle.wt_trace.specs.History.{PeerUni, PeerBi, Came, Past, came}
+use Rattle.wt_trace.specs.Seam.{peer_unis, peer_bis, is_among, may_bring}
 use Rattle.wt_trace.specs.Next.{is_lawful, next, then_turn, between, joined, takes}
 use Rattle.wt_trace.specs.Built.{is_built, is_readable}
 use Rattle.wt_trace.specs.Kept.{Kept, kept_of, Stands, IsHistory, Start, More}
 use Rattle.wt_trace.specs.Step.{lawful, built, may_turn, answer_of, after, has_uni, uni_at, bi_at, grown}
-use Rattle.wt_trace.proofs.Facts.{Facts, facts-uni, facts-bi, facts-started, moment-starts, moment-is, started}
+use Rattle.wt_trace.proofs.Facts.{Facts, facts-uni, facts-bi, facts-started, moment-starts, moment-is}
 use Rattle.wt_trace.proofs.AfterTurns.{bytes_on, is_opened, bytes-bring, between-none, went-bytes}
 use Rattle.wt_trace.proofs.Replay.{kept, lawful-is, built-is, after-uni, after-bi, after-bytes, no-own, contents_at-is}
 use Rattle.wt_trace.proofs.Moments.{running}

@@ -1,12 +1,10 @@
 -- What exchanges tell is what the history holds.
-use Rattle.std.proofs.Common.{arith, ◌≡◌, ◌+◌, ◌*◌, ◌≤◌, ℕ, zero, suc, Bool, true, false, cond, List, [], ◌∷◌, ◌++◌, length, length-append, take, drop, refl, sym, subst, ap, ◌∙◌, append-nil, append_assoc}
-use Rattle.std.specs.Prelude.{Option, Some, None, ◌==◌, ◌&&◌, ◌||◌, not}
+use Rattle.std.proofs.Common.{◌≡◌, ◌+◌, ℕ, suc, Bool, true, false, cond, List, [], ◌∷◌, ◌++◌, length, length-append, take, drop, refl, sym, subst, ap, ◌∙◌, append-nil, append_assoc}
+use Rattle.std.specs.Prelude.{Some, ◌==◌, ◌||◌}
 use Rattle.std.specs.List.{list_any}
-use Rattle.std.proofs.lemmas.Bool.{eqb-true, eq-eqb}
-use Rattle.std.proofs.lemmas.Bool.Decides.{nat_tests}
+use Rattle.std.proofs.lemmas.Bool.{eqb-true}
 use Rattle.std.proofs.lemmas.List.{take-append-drop}
 use Rattle.std.proofs.Math.Seq.{drop-append_seam}
-use Rattle.wt_proto.specs.declared.side.Side.TheVariants.{Server}
 use Rattle.wt_trace.specs.declared.answer.Answer.{Answer}
 use Rattle.wt_trace.specs.declared.answer.Reply.TheVariants as replies
 use Rattle.wt_trace.specs.declared.turn.Call.TheVariants as calls
@@ -17,12 +15,12 @@ use Rattle.wt_proto.specs.HeaderList.{Fields}
 use Rattle.wt_trace.specs.Calls.{total_read}
 use Rattle.wt_trace.specs.Driver.{hands_out}
 use Rattle.wt_trace.specs.Exchanges.{Exchange, brought, opened_unis, opened_bis, was_given, session_of, was_accepted, read_from, with_piece, with_uni_opened, with_bi_opened, tells_request, with_session, tells_uni, with_read}
-use Rattle.wt_trace.specs.History.{Deed, Given, ReadOut, Asked, Fact, Came, Did, PeerUni, PeerBi, Past, came, deeds}
+use Rattle.wt_trace.specs.History.{Given, ReadOut, Asked, Came, Did, PeerUni, PeerBi, Past, came, deeds}
 use Rattle.wt_trace.specs.Seam.{contents, peer_unis, peer_bis}
 use Rattle.wt_trace.specs.Session.{standing, gives}
 use Rattle.wt_trace.proofs.AfterTurns.{bytes_on, came-bytes, deeds-bytes, contents-bytes}
 use Rattle.wt_trace.proofs.CallTurns.{unread_in, handed_over, session_begun}
-use Rattle.wt_trace.proofs.Facts.{Facts, started}
+use Rattle.wt_trace.proofs.Facts.{started}
 use Rattle.wt_trace.proofs.Turned.{Turned, Connects, OpensUni, OpensBi, Brings, NoRequest, GivesRequest, Accepts, NoSession, NoneLeft, HandsOut, NoStream, ReadsNone, NoBytes, Reads, done, telling}
 
 pub record Tells (before : List Exchange) (h : Past) : Type 0 where

@@ -1,16 +1,13 @@
 -- What a lawful and built turn can do, each with its cause: the answer, and the history that it leads to.
-use Rattle.std.proofs.Common.{◌≡◌, ℕ, Bool, true, false, cond, List, [], ◌∷◌, length, take, refl, sym, subst, ap, ◌∙◌}
-use Rattle.std.specs.Prelude.{Option, Some, None, ◌==◌, nat_lt}
+use Rattle.std.proofs.Common.{◌≡◌, ℕ, true, false, List, [], ◌∷◌, length, take}
+use Rattle.std.specs.Prelude.{Some, None, ◌==◌}
 use Rattle.std.specs.List.{list_any}
-use Rattle.wt_proto.specs.declared.side.Side.TheVariants.{Server}
 use Rattle.wt_proto.specs.declared.side.StreamEnd.TheVariants.{Running}
-use Rattle.wt_proto.specs.declared.verdict.Verdict.{Verdict}
 use Rattle.wt_proto.specs.declared.verdict.Verdict.TheVariants.{WebTransport, Request}
 use Rattle.wt_proto.specs.FixedBytes.{own_control_bytes}
 use Rattle.wt_trace.specs.declared.turn.DatagramFact.{DatagramFact}
 use Rattle.wt_proto.specs.Bi.{bi_verdict_of}
 use Rattle.wt_proto.specs.Uni.{uni_verdict_of}
-use Rattle.wt_trace.specs.declared.action.Action.{Action}
 use Rattle.wt_trace.specs.declared.action.Action.TheVariants as actions
 use Rattle.wt_trace.specs.declared.answer.Answer.{Answer}
 use Rattle.wt_trace.specs.declared.answer.Reply.{Reply}
@@ -18,14 +15,14 @@ use Rattle.wt_trace.specs.declared.answer.Reply.TheVariants as replies
 use Rattle.wt_trace.specs.declared.turn.Call.TheVariants as calls
 use Rattle.wt_trace.specs.declared.turn.Turn.{Turn}
 use Rattle.wt_trace.specs.declared.turn.Turn.TheVariants as turns
-use Rattle.wt_trace.specs.History.{Deed, Given, ReadOut, Asked, Fact, Came, Did, PeerUni, PeerBi, Past, deeds}
+use Rattle.wt_trace.specs.History.{Given, ReadOut, Asked, Came, Did, PeerUni, PeerBi, Past, deeds}
 use Rattle.wt_trace.specs.Driver.{hands_out}
-use Rattle.wt_trace.specs.Next.{is_given, next, then_turn}
+use Rattle.wt_trace.specs.Next.{is_given}
 use Rattle.wt_trace.specs.Seam.{contents}
 use Rattle.wt_trace.specs.Session.{standing, accepting_response}
 use Rattle.wt_trace.proofs.AfterTurns.{bytes_on, is_opened}
 use Rattle.wt_trace.proofs.CallTurns.{left_of, handed_over, session_begun, unread_in, asked_for}
-use Rattle.wt_trace.proofs.Facts.{Facts, started}
+use Rattle.wt_trace.proofs.Facts.{started}
 use Rattle.wt_trace.proofs.Moments.{settings_in}
 use Rattle.wt_trace.proofs.Readable.{one_fields}
 use Rattle.wt_trace.proofs.WalkFacts.{shown}

@@ -1,14 +1,12 @@
 -- Which streams are ripe, where all that came is built: each at the moment at which its verdict is there.
-use Rattle.std.proofs.Common.{arith, ◌≡◌, ◌≢◌, ◌+◌, ◌≤◌, ◌<◌, ℕ, zero, suc, Bool, true, false, cond, List, [], ◌∷◌, ◌++◌, drop, refl, sym, ap, ◌∙◌}
-use Rattle.std.specs.Prelude.{Option, Some, None, ◌==◌, ◌&&◌, ◌||◌, nat_lt, All}
+use Rattle.std.proofs.Common.{arith, ◌≡◌, ◌≤◌, ℕ, zero, suc, Bool, true, false, cond, List, [], ◌∷◌, ◌++◌, refl, sym, ap, ◌∙◌}
+use Rattle.std.specs.Prelude.{Option, Some, None, ◌==◌, ◌||◌, nat_lt}
 use Rattle.std.proofs.lemmas.Bool.Decides.{nat_tests}
 use Rattle.std.proofs.lemmas.Bool.{eq-eqb}
-use Rattle.wt_proto.specs.declared.side.StreamEnd.TheVariants.{Running}
 use Rattle.wt_proto.specs.declared.verdict.Verdict.{Verdict}
 use Rattle.wt_proto.specs.declared.verdict.Verdict.TheVariants.{Incomplete, WebTransport, Control, Request}
-use Rattle.wt_proto.specs.Bi.{bi_verdict_of}
-use Rattle.wt_proto.specs.Uni.{uni_verdict_of, is_final}
-use Rattle.wt_trace.specs.Driver.{Ripe, Walk, Pass, Kind, ripe_of, meets, taking, judged, with_taken, with_ripe, counted, over, ids, has, first_at, control_at}
+use Rattle.wt_proto.specs.Uni.{is_final}
+use Rattle.wt_trace.specs.Driver.{Ripe, Walk, Pass, Kind, ripe_of, meets, judged, with_taken, with_ripe, counted, over, ids, has, first_at, control_at}
 use Rattle.wt_trace.proofs.Readable.{one_fields, Stays, IsOrWaits, Waits, Is}
 
 -- what is shown of a verdict

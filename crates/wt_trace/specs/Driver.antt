@@ -12,7 +12,7 @@ use Rattle.wt_proto.specs.Bi.{bi_verdict_of}
 use Rattle.wt_proto.specs.ControlWalk.{control_walk_of}
 use Rattle.wt_proto.specs.FixedBytes.{own_control_bytes}
 use Rattle.wt_proto.specs.Uni.{uni_verdict_of}
-use Rattle.wt_trace.specs.History.{Deed, HandedOut, Given, Begun, Stands, ReadOut, Asked, Fact, Byte, Came, Out, Did, Past, came, outs, deeds, put, is_open}
+use Rattle.wt_trace.specs.History.{Deed, HandedOut, Given, Begun, Stands, ReadOut, Asked, Fact, Byte, Came, Out, Did, Past, came, outs, deeds, put}
 use Rattle.wt_trace.specs.Seam.{contents, is_connected, is_some, unis_allowed, credit, end_of, peer_unis, peer_bis, sent, opened, own_uni, peer_uni, peer_bi}
 
 -- ---- what a moment leaves

@@ -1,5 +1,5 @@
 -- When two actions are the same: one variant, and equal fields.
-use Rattle.std.specs.Prelude.{ℕ, ◌≡◌, Bool, true, false, ◌&&◌, List, nat_eq}
+use Rattle.std.specs.Prelude.{◌≡◌, Bool, true, false, ◌&&◌, List, nat_eq}
 use Rattle.std.specs.Cmp.{IsEquivalence, first_so, second_so, unsigned_Decides, decided}
 use Rattle.std.specs.Cmp.Lexicographic.{pointwise, pointwise_decides, bytes_decides}
 use Rattle.std.proofs.Common.{refl, sym, subst, ap}

@@ -1,6 +1,6 @@
 -- What happened to one connection: a flat list of facts, the newest first (this repository's own; the events are what
 -- RFC 9000, section 2, lets a transport tell).
-use Rattle.std.specs.Prelude.{ℕ, List, [], ◌∷◌, ◌++◌, Bool, false, not}
+use Rattle.std.specs.Prelude.{ℕ, List, [], ◌∷◌, Bool, false, not}
 use Rattle.std.specs.List.{list_any}
 use Rattle.wt_trace.specs.declared.turn.DatagramFact.{DatagramFact}
 use Rattle.wt_trace.specs.declared.action.Action.{Action}

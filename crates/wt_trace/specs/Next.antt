@@ -1,6 +1,6 @@
 -- Which turn may come next, its one answer, and what a list of turns means (this repository's own; what a transport may
 -- bring is RFC 9000, sections 2 to 4).
-use Rattle.std.specs.Prelude.{ℕ, suc, ◌+◌, List, [], ◌∷◌, ◌++◌, length, take, drop, Option, Some, None, Bool, true, false, nat_lt, ◌==◌, ◌||◌, ◌&&◌, not, if◌then◌else◌}
+use Rattle.std.specs.Prelude.{ℕ, List, [], ◌∷◌, ◌++◌, length, drop, Bool, true, false, ◌==◌, ◌&&◌, not, if◌then◌else◌}
 use Rattle.std.specs.List.{list_any}
 use Rattle.wt_proto.specs.declared.side.Side.{Side}
 use Rattle.wt_proto.specs.declared.side.Side.TheVariants.{Client, Server}
@@ -10,11 +10,10 @@ use Rattle.wt_trace.specs.declared.turn.Turn.{Turn}
 use Rattle.wt_trace.specs.declared.turn.Turn.TheVariants as turns
 use Rattle.wt_trace.specs.declared.action.Action.{Action}
 use Rattle.wt_trace.specs.declared.action.Action.TheVariants as actions
-use Rattle.wt_trace.specs.declared.answer.Reply.{Reply}
 use Rattle.wt_trace.specs.declared.answer.Reply.TheVariants as replies
 use Rattle.wt_trace.specs.declared.answer.Answer.{Answer}
-use Rattle.wt_trace.specs.History.{Event, Connected, PeerUni, PeerBi, Deed, HandedOut, Given, Begun, Stands, ReadOut, Asked, Fact, Byte, Came, Out, Did, Past, came, outs, deeds}
-use Rattle.wt_trace.specs.Seam.{peer_uni, peer_bi, may_bring, may_come}
+use Rattle.wt_trace.specs.History.{Connected, PeerUni, PeerBi, Deed, HandedOut, Given, Begun, Stands, ReadOut, Asked, Byte, Came, Out, Did, Past, deeds}
+use Rattle.wt_trace.specs.Seam.{may_bring, may_come}
 use Rattle.wt_trace.specs.Driver.{moment}
 use Rattle.wt_trace.specs.Session.{Told, tells, incoming, accept, standing}
 use Rattle.wt_trace.specs.Calls.{in_session, accept_uni, read, can_read}

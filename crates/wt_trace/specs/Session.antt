@@ -1,6 +1,6 @@
 -- The server's handshake: the request, the response, and the session that stands (RFC 9220, section 3; RFC 9114,
 -- section 4.4).
-use Rattle.std.specs.Prelude.{ℕ, ◌-◌, List, [], ◌∷◌, ◌++◌, length, take, drop, Option, Some, None, Bool, true, false, ◌==◌, ◌||◌, ◌&&◌, not, codes, if◌then◌else◌, IsTrue, ◌≡◌}
+use Rattle.std.specs.Prelude.{ℕ, List, [], ◌∷◌, length, take, Option, Some, None, Bool, true, false, ◌==◌, ◌||◌, ◌&&◌, not, codes, if◌then◌else◌, IsTrue, ◌≡◌}
 use Rattle.std.specs.List.{list_any}
 use Rattle.wt_proto.specs.declared.side.Side.{Side}
 use Rattle.wt_trace.specs.declared.action.Action.{Action}
@@ -10,9 +10,9 @@ use Rattle.wt_proto.specs.declared.verdict.Verdict.{Verdict}
 use Rattle.wt_proto.specs.declared.verdict.Verdict.TheVariants as verdicts
 use Rattle.wt_proto.specs.FixedBytes.{headers_frame_bytes}
 use Rattle.wt_proto.specs.HeaderList.{Fields, with_field}
-use Rattle.wt_trace.specs.History.{Deed, HandedOut, Given, Begun, Stands, ReadOut, Asked, Fact, Did, Past, came, outs, deeds, put, is_open}
+use Rattle.wt_trace.specs.History.{Deed, HandedOut, Given, Begun, Stands, ReadOut, Asked, Did, Past, came, outs, deeds, put, is_open}
 use Rattle.wt_trace.specs.Seam.{credit, sent}
-use Rattle.wt_trace.specs.Driver.{Ripe, Walk, walk, moment, sending, rest_of}
+use Rattle.wt_trace.specs.Driver.{Ripe, walk, moment, sending, rest_of}
 
 -- what a turn gives: the history with all that it did, and the reply
 pub record Told : Type 0 where

@@ -5,7 +5,7 @@ use Rattle.wt_trace.specs.declared.turn.Turn.{Turn}
 use Rattle.wt_trace.specs.declared.answer.Answer.{Answer}
 use Rattle.wt_trace.specs.declared.trace.TraceError.{TraceError}
 use Rattle.wt_trace.specs.declared.trace.TraceError.TheVariants as errors
-use Rattle.wt_trace.specs.Next.{Run, run, Finished, AtUnlawful, AtUnbuilt}
+use Rattle.wt_trace.specs.Next.{run, Finished, AtUnlawful, AtUnbuilt}
 
 abbrev pub IsTrace : Side → List Turn → Result (List Answer) TraceError → Type 0
 IsTrace side ts (Ok answers) = run side ts ≡ record { answers = answers; stop = Finished }

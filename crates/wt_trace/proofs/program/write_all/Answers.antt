@@ -1,4 +1,4 @@
-use Rattle.std.proofs.Common.{arith, ◌≡◌, ◌≤◌, ◌+◌, length, length-drop, ◌∙◌}
+use Rattle.std.proofs.Common.{arith, length-drop, ◌∙◌}
 use Rattle.wt_trace.proofs.OutsideLaws.{appends_more, rest_of, part_up_to}
 use Rattle.wt_trace.proofs.program.write_all.Goals as goal
 

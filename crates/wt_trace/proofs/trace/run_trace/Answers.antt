@@ -1,6 +1,5 @@
 use Rattle.std.proofs.Common.{◌≡◌, ◌≤◌, ℕ, List, [], length, take}
 use Rattle.wt_proto.specs.declared.side.Side.{Side}
-use Rattle.wt_trace.specs.declared.answer.Answer.{Answer}
 use Rattle.wt_trace.specs.declared.turn.Turn.{Turn}
 use Rattle.wt_trace.specs.Exchanges.{Exchange, exchanges}
 use Rattle.std.specs.Prelude.{IsTrue}

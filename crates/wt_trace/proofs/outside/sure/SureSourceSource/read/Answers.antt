@@ -1,4 +1,4 @@
-use Rattle.std.proofs.Common.{◌≡◌, ◌+◌, ◌-◌, take, drop, sym, ap, ◌∙◌, min, length, rules}
+use Rattle.std.proofs.Common.{◌≡◌, ◌+◌, ◌-◌, take, drop, sym, ◌∙◌, min, length, rules}
 use Rattle.wt_trace.proofs.OutsideLaws.{read_part, read_none}
 use Rattle.wt_trace.proofs.outside.sure.SureSourceSource.read.Goals as goal
 
