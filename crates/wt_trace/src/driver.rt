@@ -16,7 +16,7 @@ use wt_proto::side::StreamEnd;
 use wt_proto::verdict::{Verdict, uni_verdict};
 
 /// Whether these are the bytes of a control stream on which SETTINGS came.
-fn is_settled_control(alloc: Global, contents: &[u8]) -> Result<bool, OutOfMemory>
+fn brings_settings(alloc: Global, contents: &[u8]) -> Result<bool, OutOfMemory>
     ensures { IfOk result (λ came. came ≡ control_came (uni_verdict_of contents.now Running) contents.now) }
 {
     match uni_verdict(contents, StreamEnd::Running) {
@@ -33,7 +33,7 @@ pub(crate) fn have_settings_come(alloc: Global, unis: &[Stream]) -> Result<bool,
     ensures { IfOk result (λ came. came ≡ settings_came unis.now) }
 {
     for stream in unis {
-        if is_settled_control(alloc, stream.contents.as_slice())? {
+        if brings_settings(alloc, stream.contents.as_slice())? {
             return Ok(true);
         }
     }
