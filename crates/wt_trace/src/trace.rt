@@ -25,6 +25,10 @@ pub enum TraceError {
 }
 
 impl From<OutOfMemory> for TraceError {
+    ghost use Rattle.wt_trace.specs.declared.trace.TraceError.TheVariants as errors;
+
+    ghost from_gives = { λ _ error. error ≡ errors.OutOfMemory };
+
     fn from(_error: OutOfMemory) -> TraceError {
         TraceError::OutOfMemory
     }
