@@ -59,9 +59,7 @@ pub fn run_trace(alloc: Global, side: Side, turns: &[Turn]) -> Result<Answers, T
 fn run_turns(alloc: Global, side: Side, turns: &[Turn]) -> Result<Answers, TraceError>
     ensures trace { IsTrace side turns.now result }
 {
-    let Ok(mut core) = Core::new(alloc, side) else {
-        return Err(TraceError::OutOfMemory);
-    };
+    let mut core = Core::new(alloc, side)?;
     let mut answers = Answers::new(alloc);
     for (at, turn) in turns.iter().enumerate() {
         let at = at as u64;
@@ -71,12 +69,8 @@ fn run_turns(alloc: Global, side: Side, turns: &[Turn]) -> Result<Answers, Trace
         if !core.is_built(turn) {
             return Err(TraceError::Unbuilt { at, answers });
         }
-        let Ok(answer) = core.turn(turn) else {
-            return Err(TraceError::OutOfMemory);
-        };
-        let Ok(()) = answers.push(answer) else {
-            return Err(TraceError::OutOfMemory);
-        };
+        let answer = core.turn(turn)?;
+        answers.push(answer)?;
     }
     Ok(answers)
 }

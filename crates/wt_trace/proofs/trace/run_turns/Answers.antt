@@ -21,13 +21,13 @@ loop-at-preserved c =
     let built : is_built c.loop-at.core.side h t ≡ true = sym (c.is_built.ensures.history h stands) ∙ c.if-not-is_built.false in
     let here : behind c.loop-at.answers (run_from c.loop-at.core.side h (drop c.loop-at.at c.args.turns.now)) ≡ run c.args.side c.args.turns.now =
     subst (λ (s : Side). behind c.loop-at.answers (run_from s h (drop c.loop-at.at c.args.turns.now)) ≡ run c.args.side c.args.turns.now) (sym side) goes in
-    let more = goes-on c.loop-at.core.side h t (drop c.loop-at.at c.args.turns.now) (drop (c.loop-at.at + 1) c.args.turns.now) c.loop-at.answers c.in-Ok-turn.answer (run c.args.side c.args.turns.now)
-    rest lawful built (c.in-Ok-turn.ensures.answer h stands) here in
-    let at_side : behind (c.loop-at.answers ++ c.in-Ok-turn.answer ∷ []) (run_from c.args.side (then_turn c.loop-at.core.side h t) (drop (c.loop-at.at + 1) c.args.turns.now)) ≡ run c.args.side c.args.turns.now =
-    subst (λ (s : Side). behind (c.loop-at.answers ++ c.in-Ok-turn.answer ∷ []) (run_from s (then_turn c.loop-at.core.side h t) (drop (c.loop-at.at + 1) c.args.turns.now)) ≡ run c.args.side c.args.turns.now) side more in (
+    let more = goes-on c.loop-at.core.side h t (drop c.loop-at.at c.args.turns.now) (drop (c.loop-at.at + 1) c.args.turns.now) c.loop-at.answers c.in_ok-answer.answer (run c.args.side c.args.turns.now)
+    rest lawful built (c.in_ok-answer.ensures.answer h stands) here in
+    let at_side : behind (c.loop-at.answers ++ c.in_ok-answer.answer ∷ []) (run_from c.args.side (then_turn c.loop-at.core.side h t) (drop (c.loop-at.at + 1) c.args.turns.now)) ≡ run c.args.side c.args.turns.now =
+    subst (λ (s : Side). behind (c.loop-at.answers ++ c.in_ok-answer.answer ∷ []) (run_from s (then_turn c.loop-at.core.side h t) (drop (c.loop-at.at + 1) c.args.turns.now)) ≡ run c.args.side c.args.turns.now) side more in (
       then_turn c.loop-at.core.side h t,
-      c.in-Ok-turn.ensures.state h stands,
-      c.in-Ok-turn.ensures.side ∙ side,
-      subst (λ (answers : List Answer). behind answers (run_from c.args.side (then_turn c.loop-at.core.side h t) (drop (c.loop-at.at + 1) c.args.turns.now)) ≡ run c.args.side c.args.turns.now) (sym c.in-Ok-push.ensures.ok) at_side,
-      ap length c.in-Ok-push.ensures.ok ∙ length-append c.loop-at.answers (c.in-Ok-turn.answer ∷ []) ∙ omega (arith, count),
+      c.in_ok-answer.ensures.state h stands,
+      c.in_ok-answer.ensures.side ∙ side,
+      subst (λ (answers : List Answer). behind answers (run_from c.args.side (then_turn c.loop-at.core.side h t) (drop (c.loop-at.at + 1) c.args.turns.now)) ≡ run c.args.side c.args.turns.now) (sym c.in_ok-push.ensures.ok) at_side,
+      ap length c.in_ok-push.ensures.ok ∙ length-append c.loop-at.answers (c.in_ok-answer.answer ∷ []) ∙ omega (arith, count),
     )
