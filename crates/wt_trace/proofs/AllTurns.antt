@@ -4,25 +4,25 @@ use Rattle.std.specs.Prelude.{Some, None, not, Result, Ok, Err}
 use Rattle.std.specs.List.{list_any}
 use Rattle.wt_proto.specs.declared.side.Side.{Side}
 use Rattle.wt_proto.specs.declared.side.Side.TheVariants.{Client, Server}
-use Rattle.wt_trace.specs.declared.answer.Answer.{Answer}
+use Rattle.wt_core.specs.declared.answer.Answer.{Answer}
 use Rattle.wt_trace.specs.declared.script.Script.{Script}
 use Rattle.wt_trace.specs.declared.script.ScriptRefused.{ScriptRefused}
 use Rattle.wt_trace.specs.declared.trace.TraceError.{TraceError}
 use Rattle.wt_trace.specs.declared.trace.TraceError.TheVariants as errors
-use Rattle.wt_trace.specs.declared.turn.Turn.{Turn}
-use Rattle.wt_trace.specs.Built.{is_built}
+use Rattle.wt_seam.specs.declared.turn.Turn.{Turn}
+use Rattle.wt_core.specs.Built.{is_built}
 use Rattle.wt_trace.specs.Exchanges.{Exchange, exchanges}
-use Rattle.wt_trace.specs.History.{Byte, Came, Out, Did, Past, deeds, ends}
+use Rattle.wt_seam.specs.History.{Byte, Came, Out, Did, Past, deeds, ends}
 use Rattle.wt_trace.specs.Laws.{AllAlong, HoldsOf, IfAnswered, KeepsLaws, ScriptKeepsLaws, StandsWhereItMay}
-use Rattle.wt_trace.specs.Next.{Run, is_given, run, run_from, is_lawful, next, then_turn, past_from}
-use Rattle.wt_trace.specs.Seam.{is_some}
-use Rattle.wt_trace.specs.Session.{MayStand, standing, accepting_response}
+use Rattle.wt_core.specs.Next.{Run, is_given, run, run_from, is_lawful, next, then_turn, past_from}
+use Rattle.wt_seam.specs.Seam.{is_some}
+use Rattle.wt_core.specs.Session.{MayStand, standing, accepting_response}
 use Rattle.wt_trace.specs.Trace.{IsTrace}
 use Rattle.wt_trace.proofs.EachTurn.{facts-later, turn-keeps}
-use Rattle.wt_trace.proofs.Facts.{Facts}
+use Rattle.wt_core.proofs.Facts.{Facts}
 use Rattle.wt_trace.proofs.LawsHold.{reads-follow}
 use Rattle.wt_trace.proofs.RunLaws.{along, run-unlawful}
-use Rattle.wt_trace.proofs.Standing.{Reached, AtStart, Later, replays, client-none}
+use Rattle.wt_core.proofs.Standing.{Reached, AtStart, Later, replays, client-none}
 use Rattle.wt_trace.proofs.Tells.{Tells, tells-turned, tells-start}
 
 -- ---- each exchange keeps the laws

@@ -4,12 +4,12 @@ use Rattle.std.specs.Prelude.{◌==◌}
 use Rattle.std.proofs.Math.Seq.{drop-append_seam}
 use Rattle.std.proofs.lemmas.Bool.{eqb-true, eq-eqb}
 use Rattle.wt_proto.specs.declared.side.Side.{Side}
-use Rattle.wt_trace.specs.declared.action.Action.{Action}
-use Rattle.wt_trace.specs.declared.action.Action.TheVariants as actions
-use Rattle.wt_trace.specs.Driver.{moment, work}
-use Rattle.wt_trace.specs.History.{Byte, Out, Past, put}
+use Rattle.wt_seam.specs.declared.action.Action.{Action}
+use Rattle.wt_seam.specs.declared.action.Action.TheVariants as actions
+use Rattle.wt_core.specs.Driver.{moment, work}
+use Rattle.wt_seam.specs.History.{Byte, Out, Past, put}
 use Rattle.wt_trace.specs.Laws.{CutsWell}
-use Rattle.wt_trace.specs.Next.{bytes_come, went, between, join_one, joined, run_from}
+use Rattle.wt_core.specs.Next.{bytes_come, went, between, join_one, joined, run_from}
 
 cut-bytes : (side : Side) (h : Past) (id : ℕ) (first second : List ℕ) → bytes_come side h id (first ++ second) ≡ bytes_come side (bytes_come side h id first) id second
 cut-bytes side h id [] second = refl

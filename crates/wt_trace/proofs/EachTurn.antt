@@ -10,30 +10,30 @@ use Rattle.wt_proto.specs.declared.verdict.Verdict.TheVariants.{Incomplete, WebT
 use Rattle.wt_proto.specs.Bi.{bi_verdict_of}
 use Rattle.wt_proto.specs.HeaderList.{Fields}
 use Rattle.wt_proto.specs.Uni.{uni_verdict_of}
-use Rattle.wt_trace.specs.declared.action.Action.TheVariants as actions
-use Rattle.wt_trace.specs.declared.answer.Answer.{Answer}
-use Rattle.wt_trace.specs.declared.answer.Reply.{Reply}
-use Rattle.wt_trace.specs.declared.answer.Reply.TheVariants as replies
-use Rattle.wt_trace.specs.declared.turn.Call.TheVariants as calls
-use Rattle.wt_trace.specs.declared.turn.Turn.{Turn}
-use Rattle.wt_trace.specs.declared.turn.Turn.TheVariants as turns
-use Rattle.wt_trace.specs.Calls.{names}
-use Rattle.wt_trace.specs.Driver.{hands_out}
+use Rattle.wt_seam.specs.declared.action.Action.TheVariants as actions
+use Rattle.wt_core.specs.declared.answer.Answer.{Answer}
+use Rattle.wt_core.specs.declared.answer.Reply.{Reply}
+use Rattle.wt_core.specs.declared.answer.Reply.TheVariants as replies
+use Rattle.wt_seam.specs.declared.turn.Call.TheVariants as calls
+use Rattle.wt_seam.specs.declared.turn.Turn.{Turn}
+use Rattle.wt_seam.specs.declared.turn.Turn.TheVariants as turns
+use Rattle.wt_core.specs.Calls.{names}
+use Rattle.wt_core.specs.Driver.{hands_out}
 use Rattle.wt_trace.specs.Exchanges.{Exchange, opened_unis, opened_bis, session_of, settings_came, request_waits, stream_waits, unread_of}
-use Rattle.wt_trace.specs.History.{Past, came, deeds}
+use Rattle.wt_seam.specs.History.{Past, came, deeds}
 use Rattle.wt_trace.specs.Laws.{KeepsLaws, StandsRightly, GivenRightly, AskedRightly, ReadsRightly, ReadsInOrder, PendingWhereNothingIsLeft, ActionsHaveCauses, is_pending, is_done, is_no_session, is_no_stream, is_call, is_none, is_empty, wants_session, wants_stream, nothing_left, none_waits, goes_out}
-use Rattle.wt_trace.specs.Next.{is_given, is_lawful}
-use Rattle.wt_trace.specs.Seam.{contents, peer_unis, peer_bis, is_among}
-use Rattle.wt_trace.specs.Session.{standing, is_request, accepting_response}
-use Rattle.wt_trace.proofs.CallTurns.{unread_in, asked_for, placed}
-use Rattle.wt_trace.proofs.Facts.{Facts, built-streams}
+use Rattle.wt_core.specs.Next.{is_given, is_lawful}
+use Rattle.wt_seam.specs.Seam.{contents, peer_unis, peer_bis, is_among}
+use Rattle.wt_core.specs.Session.{standing, is_request, accepting_response}
+use Rattle.wt_core.proofs.CallTurns.{unread_in, asked_for, placed}
+use Rattle.wt_core.proofs.Facts.{Facts, built-streams}
 use Rattle.wt_trace.proofs.LawsHold.{settings-tells, request-tells, stream-tells, unread-tells}
-use Rattle.wt_trace.proofs.Moments.{settings_in}
-use Rattle.wt_trace.proofs.Readable.{IsOrWaits, Waits, Is, one_fields, uni-empty, bi-empty}
-use Rattle.wt_trace.proofs.Standing.{Reached, AtStart, Later}
+use Rattle.wt_core.proofs.Moments.{settings_in}
+use Rattle.wt_core.proofs.Readable.{IsOrWaits, Waits, Is, one_fields, uni-empty, bi-empty}
+use Rattle.wt_core.proofs.Standing.{Reached, AtStart, Later}
 use Rattle.wt_trace.proofs.Tells.{Tells}
-use Rattle.wt_trace.proofs.Turned.{Turned, Connects, OpensUni, OpensBi, Brings, NoRequest, GivesRequest, Accepts, NoSession, NoneLeft, HandsOut, NoStream, ReadsNone, NoBytes, Reads, telling}
-use Rattle.wt_trace.proofs.WalkFacts.{shown}
+use Rattle.wt_core.proofs.Turned.{Turned, Connects, OpensUni, OpensBi, Brings, NoRequest, GivesRequest, Accepts, NoSession, NoneLeft, HandsOut, NoStream, ReadsNone, NoBytes, Reads, telling}
+use Rattle.wt_core.proofs.WalkFacts.{shown}
 
 -- ---- replies that give nothing
 

@@ -9,19 +9,19 @@ use Rattle.wt_proto.specs.declared.verdict.Verdict.{Verdict}
 use Rattle.wt_proto.specs.declared.verdict.Verdict.TheVariants.{Control}
 use Rattle.wt_proto.specs.Bi.{bi_verdict_of}
 use Rattle.wt_proto.specs.Uni.{uni_verdict_of}
-use Rattle.wt_trace.specs.Calls.{names, offset_of, total_read}
-use Rattle.wt_trace.specs.Driver.{hands_out, ids}
+use Rattle.wt_core.specs.Calls.{names, offset_of, total_read}
+use Rattle.wt_core.specs.Driver.{hands_out, ids}
 use Rattle.wt_trace.specs.Exchanges.{Exchange, brought, was_given, was_accepted, read_from, settings_came, request_waits, stream_waits, shows_settings, behind_header, unread_of}
-use Rattle.wt_trace.specs.History.{Past, came, deeds}
+use Rattle.wt_seam.specs.History.{Past, came, deeds}
 use Rattle.wt_trace.specs.Laws.{ReadsFollow}
-use Rattle.wt_trace.specs.Next.{is_given}
-use Rattle.wt_trace.specs.Seam.{contents, peer_unis, peer_bis, is_among}
-use Rattle.wt_trace.specs.Session.{is_request}
-use Rattle.wt_trace.proofs.CallTurns.{unread_in}
-use Rattle.wt_trace.proofs.Facts.{Facts, built-streams}
-use Rattle.wt_trace.proofs.Moments.{settings_in}
-use Rattle.wt_trace.proofs.Readable.{IsOrWaits, Waits, Is, uni-empty, bi-empty, settings-waits}
-use Rattle.wt_trace.proofs.ReplayCalls.{control-came, session-came, or-false}
+use Rattle.wt_core.specs.Next.{is_given}
+use Rattle.wt_seam.specs.Seam.{contents, peer_unis, peer_bis, is_among}
+use Rattle.wt_core.specs.Session.{is_request}
+use Rattle.wt_core.proofs.CallTurns.{unread_in}
+use Rattle.wt_core.proofs.Facts.{Facts, built-streams}
+use Rattle.wt_core.proofs.Moments.{settings_in}
+use Rattle.wt_core.proofs.Readable.{IsOrWaits, Waits, Is, uni-empty, bi-empty, settings-waits}
+use Rattle.wt_core.proofs.ReplayCalls.{control-came, session-came, or-false}
 use Rattle.wt_trace.proofs.Tells.{Tells}
 
 -- ---- reads

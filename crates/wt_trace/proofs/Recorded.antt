@@ -1,15 +1,15 @@
 -- Recorded sessions: what the definitions give is what was recorded. Made by tools/equations.
 use Rattle.std.proofs.Common.{◌≡◌, List, [], ◌∷◌, refl, Some}
 use Rattle.wt_proto.specs.declared.side.Side.TheVariants.{Server}
-use Rattle.wt_trace.specs.declared.turn.DatagramFact.TheVariants as facts
-use Rattle.wt_trace.specs.declared.turn.Call.TheVariants as calls
-use Rattle.wt_trace.specs.declared.turn.Turn.{Turn}
-use Rattle.wt_trace.specs.declared.turn.Turn.TheVariants as turns
-use Rattle.wt_trace.specs.declared.action.Action.{Action}
-use Rattle.wt_trace.specs.declared.action.Action.TheVariants as actions
-use Rattle.wt_trace.specs.declared.answer.Reply.{Reply}
-use Rattle.wt_trace.specs.declared.answer.Reply.TheVariants as replies
-use Rattle.wt_trace.specs.declared.answer.Answer.{Answer}
+use Rattle.wt_seam.specs.declared.turn.DatagramFact.TheVariants as facts
+use Rattle.wt_seam.specs.declared.turn.Call.TheVariants as calls
+use Rattle.wt_seam.specs.declared.turn.Turn.{Turn}
+use Rattle.wt_seam.specs.declared.turn.Turn.TheVariants as turns
+use Rattle.wt_seam.specs.declared.action.Action.{Action}
+use Rattle.wt_seam.specs.declared.action.Action.TheVariants as actions
+use Rattle.wt_core.specs.declared.answer.Reply.{Reply}
+use Rattle.wt_core.specs.declared.answer.Reply.TheVariants as replies
+use Rattle.wt_core.specs.declared.answer.Answer.{Answer}
 use Rattle.wt_proto.specs.Bi.{bi_decides, bi_verdict_of}
 use Rattle.wt_proto.specs.ControlWalk.{control_decides, control_walk_of}
 use Rattle.wt_proto.specs.FieldSection.{string_at, line_at, lines_from}
@@ -20,10 +20,10 @@ use Rattle.wt_proto.specs.Settings.{with_pair, pair_at, pairs_from}
 use Rattle.wt_proto.specs.Uni.{uni_verdict_of}
 use Rattle.wt_proto.specs.Utf8.{is_text_from}
 use Rattle.wt_proto.specs.Varint.{varint_at, varint_bytes}
-use Rattle.wt_trace.specs.Built.{one_request}
-use Rattle.wt_trace.specs.Driver.{walk, moment}
-use Rattle.wt_trace.specs.Next.{called, run, Run, Stop, Finished, AtUnlawful, AtUnbuilt}
-use Rattle.wt_trace.specs.Session.{accepting_response}
+use Rattle.wt_core.specs.Built.{one_request}
+use Rattle.wt_core.specs.Driver.{walk, moment}
+use Rattle.wt_core.specs.Next.{called, run, Run, Stop, Finished, AtUnlawful, AtUnbuilt}
+use Rattle.wt_core.specs.Session.{accepting_response}
 
 abbrev answer : Reply → List Action → Answer
 answer r out = record { reply = r; actions = out }

@@ -2,12 +2,12 @@
 use Rattle.std.proofs.Common.{◌≡◌, Bool, true, false, List, [], ◌∷◌, ◌++◌, length, take, refl, sym, subst, ap, ◌∙◌, append-nil, append_assoc}
 use Rattle.std.specs.Prelude.{IsTrue, ◌&&◌}
 use Rattle.wt_proto.specs.declared.side.Side.{Side}
-use Rattle.wt_trace.specs.declared.turn.Turn.{Turn}
-use Rattle.wt_trace.specs.declared.answer.Answer.{Answer}
-use Rattle.wt_trace.specs.History.{Past}
-use Rattle.wt_trace.specs.Built.{is_built}
-use Rattle.wt_trace.specs.Kept.{all_good}
-use Rattle.wt_trace.specs.Next.{Run, Stop, Finished, AtUnlawful, AtUnbuilt, run_from, stops_at, with_answer, is_lawful, next, then_turn, meaning_from}
+use Rattle.wt_seam.specs.declared.turn.Turn.{Turn}
+use Rattle.wt_core.specs.declared.answer.Answer.{Answer}
+use Rattle.wt_seam.specs.History.{Past}
+use Rattle.wt_core.specs.Built.{is_built}
+use Rattle.wt_core.specs.Kept.{all_good}
+use Rattle.wt_core.specs.Next.{Run, Stop, Finished, AtUnlawful, AtUnbuilt, run_from, stops_at, with_answer, is_lawful, next, then_turn, meaning_from}
 
 pub both : (a b : Bool) → a ≡ true → b ≡ true → IsTrue (a && b)
 both a b p q = rw (p, q) refl

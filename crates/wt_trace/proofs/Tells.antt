@@ -5,23 +5,23 @@ use Rattle.std.specs.List.{list_any}
 use Rattle.std.proofs.lemmas.Bool.{eqb-true}
 use Rattle.std.proofs.lemmas.List.{take-append-drop}
 use Rattle.std.proofs.Math.Seq.{drop-append_seam}
-use Rattle.wt_trace.specs.declared.answer.Answer.{Answer}
-use Rattle.wt_trace.specs.declared.answer.Reply.TheVariants as replies
-use Rattle.wt_trace.specs.declared.turn.Call.TheVariants as calls
-use Rattle.wt_trace.specs.declared.turn.DatagramFact.{DatagramFact}
-use Rattle.wt_trace.specs.declared.turn.Turn.{Turn}
-use Rattle.wt_trace.specs.declared.turn.Turn.TheVariants as turns
+use Rattle.wt_core.specs.declared.answer.Answer.{Answer}
+use Rattle.wt_core.specs.declared.answer.Reply.TheVariants as replies
+use Rattle.wt_seam.specs.declared.turn.Call.TheVariants as calls
+use Rattle.wt_seam.specs.declared.turn.DatagramFact.{DatagramFact}
+use Rattle.wt_seam.specs.declared.turn.Turn.{Turn}
+use Rattle.wt_seam.specs.declared.turn.Turn.TheVariants as turns
 use Rattle.wt_proto.specs.HeaderList.{Fields}
-use Rattle.wt_trace.specs.Calls.{total_read}
-use Rattle.wt_trace.specs.Driver.{hands_out}
+use Rattle.wt_core.specs.Calls.{total_read}
+use Rattle.wt_core.specs.Driver.{hands_out}
 use Rattle.wt_trace.specs.Exchanges.{Exchange, brought, opened_unis, opened_bis, was_given, session_of, was_accepted, read_from, with_piece, with_uni_opened, with_bi_opened, tells_request, with_session, tells_uni, with_read}
-use Rattle.wt_trace.specs.History.{Given, ReadOut, Asked, Came, Did, PeerUni, PeerBi, Past, came, deeds}
-use Rattle.wt_trace.specs.Seam.{contents, peer_unis, peer_bis}
-use Rattle.wt_trace.specs.Session.{standing, gives}
-use Rattle.wt_trace.proofs.AfterTurns.{bytes_on, came-bytes, deeds-bytes, contents-bytes}
-use Rattle.wt_trace.proofs.CallTurns.{unread_in, handed_over, session_begun}
-use Rattle.wt_trace.proofs.Facts.{started}
-use Rattle.wt_trace.proofs.Turned.{Turned, Connects, OpensUni, OpensBi, Brings, NoRequest, GivesRequest, Accepts, NoSession, NoneLeft, HandsOut, NoStream, ReadsNone, NoBytes, Reads, done, telling}
+use Rattle.wt_seam.specs.History.{Given, ReadOut, Asked, Came, Did, PeerUni, PeerBi, Past, came, deeds}
+use Rattle.wt_seam.specs.Seam.{contents, peer_unis, peer_bis}
+use Rattle.wt_core.specs.Session.{standing, gives}
+use Rattle.wt_core.proofs.AfterTurns.{bytes_on, came-bytes, deeds-bytes, contents-bytes}
+use Rattle.wt_core.proofs.CallTurns.{unread_in, handed_over, session_begun}
+use Rattle.wt_core.proofs.Facts.{started}
+use Rattle.wt_core.proofs.Turned.{Turned, Connects, OpensUni, OpensBi, Brings, NoRequest, GivesRequest, Accepts, NoSession, NoneLeft, HandsOut, NoStream, ReadsNone, NoBytes, Reads, done, telling}
 
 pub record Tells (before : List Exchange) (h : Past) : Type 0 where
   pub bytes : (k : ℕ) → brought k before ≡ contents h k

@@ -9,16 +9,16 @@ use Rattle.wt_proto.specs.declared.verdict.Verdict.TheVariants as verdicts
 use Rattle.wt_proto.specs.Bi.{bi_verdict_of}
 use Rattle.wt_proto.specs.ControlWalk.{control_walk_of}
 use Rattle.wt_proto.specs.Uni.{uni_verdict_of}
-use Rattle.wt_trace.specs.declared.answer.Answer.{Answer}
-use Rattle.wt_trace.specs.declared.answer.Reply.{Reply}
-use Rattle.wt_trace.specs.declared.answer.Reply.TheVariants as replies
-use Rattle.wt_trace.specs.declared.turn.Call.TheVariants as calls
-use Rattle.wt_trace.specs.declared.turn.Turn.{Turn}
-use Rattle.wt_trace.specs.declared.turn.Turn.TheVariants as turns
-use Rattle.wt_trace.specs.Calls.{names, offset_of}
-use Rattle.wt_trace.specs.Driver.{ids}
-use Rattle.wt_trace.specs.Seam.{is_some, peer_uni, peer_bi}
-use Rattle.wt_trace.specs.Session.{is_request}
+use Rattle.wt_core.specs.declared.answer.Answer.{Answer}
+use Rattle.wt_core.specs.declared.answer.Reply.{Reply}
+use Rattle.wt_core.specs.declared.answer.Reply.TheVariants as replies
+use Rattle.wt_seam.specs.declared.turn.Call.TheVariants as calls
+use Rattle.wt_seam.specs.declared.turn.Turn.{Turn}
+use Rattle.wt_seam.specs.declared.turn.Turn.TheVariants as turns
+use Rattle.wt_core.specs.Calls.{names, offset_of}
+use Rattle.wt_core.specs.Driver.{control_came, ids}
+use Rattle.wt_seam.specs.Seam.{is_some, peer_uni, peer_bi}
+use Rattle.wt_core.specs.Session.{is_request}
 
 pub record Exchange : Type 0 where
   pub turn : Turn
@@ -97,11 +97,6 @@ read_from k [] = []
 read_from k (x ∷ before) = with_read k x.turn x.answer.reply (read_from k before)
 
 -- ---- what that comes to
-
--- the bytes are those of a control stream on which SETTINGS came
-abbrev pub control_came : Verdict → List ℕ → Bool
-control_came (verdicts.Control at) bytes = is_some (control_walk_of (drop at bytes) Running).settings
-control_came _ bytes = false
 
 abbrev pub shows_settings : List ℕ → Bool
 shows_settings bytes = control_came (uni_verdict_of bytes Running) bytes

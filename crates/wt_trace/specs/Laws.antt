@@ -7,23 +7,23 @@ use Rattle.wt_proto.specs.Bi.{bi_verdict_of}
 use Rattle.wt_proto.specs.FixedBytes.{own_control_bytes}
 use Rattle.wt_proto.specs.HeaderList.{Fields}
 use Rattle.wt_proto.specs.Uni.{uni_verdict_of}
-use Rattle.wt_trace.specs.declared.action.Action.{Action}
-use Rattle.wt_trace.specs.declared.action.Action.TheVariants as actions
-use Rattle.wt_trace.specs.declared.answer.Answer.{Answer}
-use Rattle.wt_trace.specs.declared.answer.Reply.{Reply}
-use Rattle.wt_trace.specs.declared.answer.Reply.TheVariants as replies
-use Rattle.wt_trace.specs.declared.turn.Call.TheVariants as calls
-use Rattle.wt_trace.specs.declared.turn.Turn.{Turn}
-use Rattle.wt_trace.specs.declared.turn.Turn.TheVariants as turns
+use Rattle.wt_seam.specs.declared.action.Action.{Action}
+use Rattle.wt_seam.specs.declared.action.Action.TheVariants as actions
+use Rattle.wt_core.specs.declared.answer.Answer.{Answer}
+use Rattle.wt_core.specs.declared.answer.Reply.{Reply}
+use Rattle.wt_core.specs.declared.answer.Reply.TheVariants as replies
+use Rattle.wt_seam.specs.declared.turn.Call.TheVariants as calls
+use Rattle.wt_seam.specs.declared.turn.Turn.{Turn}
+use Rattle.wt_seam.specs.declared.turn.Turn.TheVariants as turns
 use Rattle.wt_trace.specs.declared.trace.TraceError.{TraceError}
 use Rattle.wt_trace.specs.declared.trace.TraceError.TheVariants as errors
 use Rattle.wt_trace.specs.Exchanges.{Exchange, exchanges, brought, opened_unis, opened_bis, was_given, session_of, was_accepted, read_from, settings_came, request_waits, stream_waits, behind_header, unread_of}
 use Rattle.wt_trace.specs.declared.script.Script.{Script}
 use Rattle.wt_trace.specs.declared.script.ScriptRefused.{ScriptRefused}
-use Rattle.wt_trace.specs.History.{Past, deeds}
-use Rattle.wt_trace.specs.Next.{run, run_from, next, then_turn, joined, past_of}
-use Rattle.wt_trace.specs.Seam.{is_among, own_uni, peer_bi, peer_uni}
-use Rattle.wt_trace.specs.Session.{accepting_response, MayStand, standing}
+use Rattle.wt_seam.specs.History.{Past, deeds}
+use Rattle.wt_core.specs.Next.{run, run_from, next, then_turn, joined, past_of}
+use Rattle.wt_seam.specs.Seam.{is_among, own_uni, peer_bi, peer_uni}
+use Rattle.wt_core.specs.Session.{accepting_response, MayStand, standing}
 
 -- a fact of each exchange and those before it
 abbrev pub AllAlong : (List Exchange → Exchange → Type 0) → List Exchange → List Exchange → Type 0

@@ -3,11 +3,11 @@ use Rattle.std.specs.Prelude.{ℕ, List, [], ◌∷◌, ◌++◌, codes, Option,
 use Rattle.std.specs.List.{flat_map}
 use Rattle.std.specs.Fmt.{decimal}
 use Rattle.hex.specs.Hex.{encode_lower}
-use Rattle.wt_trace.specs.declared.answer.Reply.{Reply}
-use Rattle.wt_trace.specs.declared.answer.Reply.TheVariants as replies
-use Rattle.wt_trace.specs.declared.action.Action.{Action}
-use Rattle.wt_trace.specs.declared.action.Action.TheVariants as actions
-use Rattle.wt_trace.specs.declared.answer.Answer.{Answer}
+use Rattle.wt_core.specs.declared.answer.Reply.{Reply}
+use Rattle.wt_core.specs.declared.answer.Reply.TheVariants as replies
+use Rattle.wt_seam.specs.declared.action.Action.{Action}
+use Rattle.wt_seam.specs.declared.action.Action.TheVariants as actions
+use Rattle.wt_core.specs.declared.answer.Answer.{Answer}
 
 -- bytes in lower-case hexadecimal, '-' for none
 abbrev pub hex_text : List ℕ → List ℕ

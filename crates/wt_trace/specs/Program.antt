@@ -2,12 +2,12 @@
 use Rattle.std.specs.Prelude.{◌≡◌, ℕ, ◌+◌, ◌≤◌, Bool, false, ◌==◌, ◌||◌, nat_lt, List, [], ◌∷◌, ◌++◌, length, codes, Option, Result, Ok, Err, if◌then◌else◌}
 use Rattle.std.specs.Fmt.{decimal}
 use Rattle.std.specs.Io.KnownBytes.{Appends, Consumes}
-use Rattle.wt_trace.specs.declared.answer.Answer.{Answer}
+use Rattle.wt_core.specs.declared.answer.Answer.{Answer}
 use Rattle.wt_trace.specs.declared.program.CutShort.{CutShort}
 use Rattle.wt_trace.specs.declared.program.CutShort.TheVariants.{SourceFailed, SinkFailed, OutOfMemory}
 use Rattle.wt_trace.specs.declared.script.Script.{Script}
 use Rattle.wt_trace.specs.declared.script.ScriptRefused.{ScriptRefused}
-use Rattle.wt_trace.specs.Next.{Run, run, Stop, Finished, AtUnlawful, AtUnbuilt}
+use Rattle.wt_core.specs.Next.{Run, run, Stop, Finished, AtUnlawful, AtUnbuilt}
 use Rattle.wt_trace.specs.Outside.{Rose}
 use Rattle.wt_trace.specs.Print.{print}
 use Rattle.wt_trace.specs.Script.{script_of}

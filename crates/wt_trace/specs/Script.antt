@@ -3,12 +3,12 @@ use Rattle.std.specs.Prelude.{ℕ, ◌+◌, ◌^◌, ◌==◌, Bool, true, List,
 use Rattle.std.specs.Option.{option_map}
 use Rattle.wt_proto.specs.declared.side.Side.{Side}
 use Rattle.wt_proto.specs.declared.side.Side.TheVariants.{Server}
-use Rattle.wt_trace.specs.declared.turn.Call.{Call}
-use Rattle.wt_trace.specs.declared.turn.Call.TheVariants as calls
-use Rattle.wt_trace.specs.declared.turn.DatagramFact.{DatagramFact}
-use Rattle.wt_trace.specs.declared.turn.DatagramFact.TheVariants as facts
-use Rattle.wt_trace.specs.declared.turn.Turn.{Turn}
-use Rattle.wt_trace.specs.declared.turn.Turn.TheVariants as turns
+use Rattle.wt_seam.specs.declared.turn.Call.{Call}
+use Rattle.wt_seam.specs.declared.turn.Call.TheVariants as calls
+use Rattle.wt_seam.specs.declared.turn.DatagramFact.{DatagramFact}
+use Rattle.wt_seam.specs.declared.turn.DatagramFact.TheVariants as facts
+use Rattle.wt_seam.specs.declared.turn.Turn.{Turn}
+use Rattle.wt_seam.specs.declared.turn.Turn.TheVariants as turns
 use Rattle.wt_trace.specs.declared.script.Draft.{Draft}
 use Rattle.wt_trace.specs.declared.script.Script.{Script}
 use Rattle.wt_trace.specs.declared.script.ScriptRefused.{ScriptRefused}

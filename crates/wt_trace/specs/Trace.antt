@@ -1,11 +1,11 @@
 -- What a run of turns answers.
 use Rattle.std.specs.Prelude.{◌≡◌, List, length, Result, Ok, Err}
 use Rattle.wt_proto.specs.declared.side.Side.{Side}
-use Rattle.wt_trace.specs.declared.turn.Turn.{Turn}
-use Rattle.wt_trace.specs.declared.answer.Answer.{Answer}
+use Rattle.wt_seam.specs.declared.turn.Turn.{Turn}
+use Rattle.wt_core.specs.declared.answer.Answer.{Answer}
 use Rattle.wt_trace.specs.declared.trace.TraceError.{TraceError}
 use Rattle.wt_trace.specs.declared.trace.TraceError.TheVariants as errors
-use Rattle.wt_trace.specs.Next.{run, Finished, AtUnlawful, AtUnbuilt}
+use Rattle.wt_core.specs.Next.{run, Finished, AtUnlawful, AtUnbuilt}
 
 abbrev pub IsTrace : Side → List Turn → Result (List Answer) TraceError → Type 0
 IsTrace side ts (Ok answers) = run side ts ≡ record { answers = answers; stop = Finished }

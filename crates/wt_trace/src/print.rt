@@ -8,14 +8,14 @@ ghost use Rattle.std.specs.List.{flat_map};
 ghost use Rattle.hex.specs.Hex.{encode_lower};
 ghost use Rattle.wt_trace.specs.Print.{hex_text, field_text, read_text, reply_text, action_text, next_action_text, answer_text};
 
-use crate::action::Action;
-use crate::answer::{Answer, Reply};
-use crate::piece::Piece;
 use std::alloc::Global;
+use wt_core::answer::{Answer, Reply};
 use wt_proto::error::OutOfMemory;
 use wt_proto::header_list::HeaderList;
 use wt_proto::ids::{SessionId, StreamId};
 use wt_proto::text::Text;
+use wt_seam::action::Action;
+use wt_seam::piece::Piece;
 
 /// The line of an answer, without its line feed.
 pub fn print_answer(alloc: Global, answer: &Answer) -> Result<Text, OutOfMemory>

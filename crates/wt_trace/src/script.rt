@@ -9,10 +9,10 @@ mod words;
 
 use crate::script::lines::read_turn;
 use crate::script::words::is_name;
-use crate::turn::Turns;
 use std::alloc::Global;
 use wt_proto::error::OutOfMemory;
 use wt_proto::side::Side;
+use wt_seam::turn::Turns;
 
 /// What a script says.
 #[derive(Debug, Drop)]

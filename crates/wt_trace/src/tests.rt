@@ -1,7 +1,7 @@
 //! What the contracts leave open: that memory suffices where there is enough, and whole sessions.
-mod machine;
 mod outside;
 mod print;
 mod program;
 mod script;
+mod trace;
 mod vocabulary;

@@ -1,16 +1,16 @@
 //! A whole list of turns.
 ghost use Rattle.std.specs.Prelude.{◌≡◌, ◌≤◌, ℕ, IsTrue, List, [], length, take};
-ghost use Rattle.wt_trace.specs.Kept.{all_good};
+ghost use Rattle.wt_core.specs.Kept.{all_good};
 ghost use Rattle.wt_trace.specs.Laws.{ActionsHaveCauses, CutsWell, HoldsOf, IfAnswered, PendingWhereNothingIsLeft, ReadsInOrder, RepliesHaveCauses, SessionsStandRightly, StandsWhereItMay, StreamsGivenRightly};
-ghost use Rattle.wt_trace.specs.Next.{meaning, past_of};
+ghost use Rattle.wt_core.specs.Next.{meaning, past_of};
 ghost use Rattle.wt_trace.specs.Trace.{IsTrace};
 
-use crate::answer::Answers;
-use crate::machine::Core;
-use crate::turn::Turn;
 use std::alloc::Global;
+use wt_core::answer::Answers;
+use wt_core::machine::Core;
 use wt_proto::error::OutOfMemory;
 use wt_proto::side::Side;
+use wt_seam::turn::Turn;
 
 /// Why a list of turns has no answer to each.
 #[derive(Debug, Drop)]

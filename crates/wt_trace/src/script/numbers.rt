@@ -6,14 +6,14 @@ ghost use Rattle.std.specs.Result.{result_ok};
 ghost use Rattle.hex.specs.Hex.{decode_of};
 ghost use Rattle.wt_trace.specs.Script.{count_of, id_of, fact_of};
 
-use crate::piece::Piece;
 use crate::script::words::is_name;
-use crate::turn::DatagramFact;
 use hex::FromHexError;
 use std::alloc::Global;
 use wt_proto::error::OutOfMemory;
 use wt_proto::ids::StreamId;
 use wt_proto::varint::VarInt;
+use wt_seam::piece::Piece;
+use wt_seam::turn::DatagramFact;
 
 fn is_digit_byte(byte: u8) -> bool
     ensures { result ≡ is_digit byte }

@@ -1,9 +1,9 @@
-use crate::action::{Action, Actions};
-use crate::answer::{Answer, Reply};
 use crate::print::print_answer;
 use crate::tests::vocabulary::{add_send, header, piece, session, stream};
 use std::alloc::Global;
 use std::process::Abort;
+use wt_core::answer::{Answer, Reply};
+use wt_seam::action::{Action, Actions};
 
 fn prints(rt: &impl Abort, alloc: Global, answer: &Answer, text: &str) {
     let line = print_answer(alloc, answer).expect(rt, "no memory");

@@ -1,11 +1,11 @@
 use crate::script::lines::read_turn;
 use crate::script::read_script;
 use crate::tests::vocabulary::{piece, stream};
-use crate::turn::{Call, DatagramFact, Turn};
 use std::alloc::Global;
 use std::process::Abort;
 use wt_proto::header_list::HeaderList;
 use wt_proto::side::Side;
+use wt_seam::turn::{Call, DatagramFact, Turn};
 
 fn spells(rt: &impl Abort, alloc: Global, line: &str, turn: Turn) {
     let read = read_turn(alloc, line.as_bytes()).expect(rt, "no memory");

@@ -1,11 +1,11 @@
 use Rattle.std.proofs.Common.{◌≡◌, ◌≤◌, ℕ, List, [], length, take}
 use Rattle.wt_proto.specs.declared.side.Side.{Side}
-use Rattle.wt_trace.specs.declared.turn.Turn.{Turn}
+use Rattle.wt_seam.specs.declared.turn.Turn.{Turn}
 use Rattle.wt_trace.specs.Exchanges.{Exchange, exchanges}
 use Rattle.std.specs.Prelude.{IsTrue}
-use Rattle.wt_trace.specs.Kept.{all_good}
+use Rattle.wt_core.specs.Kept.{all_good}
 use Rattle.wt_trace.specs.Laws.{KeepsLaws, HoldsOf, SessionsStandRightly, StreamsGivenRightly, ReadsInOrder, PendingWhereNothingIsLeft, RepliesHaveCauses, ActionsHaveCauses, StandsWhereItMay}
-use Rattle.wt_trace.specs.Next.{run, meaning, past_of}
+use Rattle.wt_core.specs.Next.{run, meaning, past_of}
 use Rattle.wt_trace.proofs.AllTurns.{answered, each, laws, stands-where}
 use Rattle.wt_trace.proofs.Cutting.{cuts-well}
 use Rattle.wt_trace.proofs.RunLaws.{run-good, run-means}

@@ -1,9 +1,9 @@
 use Rattle.std.proofs.Common.{arith, ◌≡◌, ◌<◌, ◌+◌, ◌∷◌, ◌++◌, [], List, drop, drop-cons, sym, ◌∙◌, length, length-append, suc, ap, add-one, true, subst}
 use Rattle.wt_proto.specs.declared.side.Side.{Side}
-use Rattle.wt_trace.specs.declared.answer.Answer.{Answer}
-use Rattle.wt_trace.specs.declared.turn.Turn.{Turn}
-use Rattle.wt_trace.specs.Built.{is_built}
-use Rattle.wt_trace.specs.Next.{is_lawful, run, run_from, then_turn}
+use Rattle.wt_core.specs.declared.answer.Answer.{Answer}
+use Rattle.wt_seam.specs.declared.turn.Turn.{Turn}
+use Rattle.wt_core.specs.Built.{is_built}
+use Rattle.wt_core.specs.Next.{is_lawful, run, run_from, then_turn}
 use Rattle.wt_trace.proofs.RunLaws.{behind, goes-on, both}
 use Rattle.wt_trace.proofs.trace.run_turns.Goals as goal
 

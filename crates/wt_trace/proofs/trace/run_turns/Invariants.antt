@@ -1,7 +1,7 @@
 use Rattle.std.proofs.Common.{◌≡◌, length, drop}
-use Rattle.wt_trace.specs.History.{Past}
-use Rattle.wt_trace.specs.Kept.{Stands}
-use Rattle.wt_trace.specs.Next.{run, run_from}
+use Rattle.wt_seam.specs.History.{Past}
+use Rattle.wt_core.specs.Kept.{Stands}
+use Rattle.wt_core.specs.Next.{run, run_from}
 use Rattle.wt_trace.proofs.RunLaws.{behind}
 use Rattle.wt_trace.proofs.trace.run_turns.Given as goal
 

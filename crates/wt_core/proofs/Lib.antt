@@ -1,0 +1,12 @@
+pub mod Readable
+pub mod WalkFacts
+pub mod Moments
+pub mod Facts
+pub mod Ranges
+pub mod AfterTurns
+pub mod Replay
+pub mod CallTurns
+pub mod Start
+pub mod ReplayCalls
+pub mod Standing
+pub mod Turned

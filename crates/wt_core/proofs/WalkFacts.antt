@@ -1,0 +1,237 @@
+-- Which streams are ripe, where all that came is built: each at the moment at which its verdict is there.
+use Rattle.std.proofs.Common.{arith, ◌≡◌, ◌≤◌, ℕ, zero, suc, Bool, true, false, cond, List, [], ◌∷◌, ◌++◌, refl, sym, ap, ◌∙◌}
+use Rattle.std.specs.Prelude.{Option, Some, None, ◌==◌, ◌||◌, nat_lt}
+use Rattle.std.proofs.lemmas.Bool.Decides.{nat_tests}
+use Rattle.std.proofs.lemmas.Bool.{eq-eqb}
+use Rattle.wt_proto.specs.declared.verdict.Verdict.{Verdict}
+use Rattle.wt_proto.specs.declared.verdict.Verdict.TheVariants.{Incomplete, WebTransport, Control, Request}
+use Rattle.wt_proto.specs.Uni.{is_final}
+use Rattle.wt_core.specs.Driver.{Ripe, Walk, Pass, Kind, ripe_of, meets, judged, with_taken, with_ripe, counted, over, ids, has, first_at, control_at}
+use Rattle.wt_core.proofs.Readable.{one_fields, Stays, IsOrWaits, Waits, Is}
+
+-- what is shown of a verdict
+abbrev pub shown : Verdict → Option Verdict
+shown Incomplete = None
+shown v = Some v
+
+-- the three streams that can be ripe
+pub data IsKnown : Ripe → Type 0 where
+  IsControl : IsKnown (record { id = 2; verdict = Control 1 })
+  IsOfSession : IsKnown (record { id = 6; verdict = WebTransport 0 3 })
+  IsRequest : IsKnown (record { id = 0; verdict = Request one_fields 83 })
+
+abbrev pub AllKnown : List Ripe → Type 0
+AllKnown [] = Unit {0}
+AllKnown (r ∷ rs) = IsKnown r × AllKnown rs
+
+known-append : (xs : List Ripe) (r : Ripe) → AllKnown xs → IsKnown r → AllKnown (xs ++ r ∷ [])
+known-append [] r a k = (k, tt)
+known-append (x ∷ xs) r a k = (a.0, known-append xs r a.1 k)
+
+-- ---- the verdict of a stream after one more
+
+pub ripe_of-append : (k : ℕ) (v : Verdict) (xs : List Ripe) → ripe_of k xs ≡ None → ripe_of k (xs ++ record { id = k; verdict = v } ∷ []) ≡ Some v
+ripe_of-append k v [] e = rw (eq-eqb k k refl) refl
+ripe_of-append k v (x ∷ xs) e = one (x.id == k) e (ripe_of-append k v xs)
+  where
+    one : (b : Bool) → cond b (Some x.verdict) (ripe_of k xs) ≡ None → (ripe_of k xs ≡ None → ripe_of k (xs ++ record { id = k; verdict = v } ∷ []) ≡ Some v)
+        → cond b (Some x.verdict) (ripe_of k (xs ++ record { id = k; verdict = v } ∷ [])) ≡ Some v
+    one true e rest = absurd (cc)
+    one false e rest = rest e
+
+pub ripe_of-other : (k j : ℕ) (v : Verdict) (xs : List Ripe) → (k == j) ≡ false → ripe_of j (xs ++ record { id = k; verdict = v } ∷ []) ≡ ripe_of j xs
+ripe_of-other k j v [] e = rw e refl
+ripe_of-other k j v (x ∷ xs) e = ap (cond (x.id == j) (Some x.verdict)) (ripe_of-other k j v xs e)
+
+-- ---- one stream is looked at
+
+-- what a look at the stream k leaves of a walk
+pub record Looked (k : ℕ) (v : Verdict) (before after : Walk) : Type 0 where
+  pub here : ripe_of k after.ripe ≡ shown v
+  pub others : (j : ℕ) → (k == j) ≡ false → ripe_of j after.ripe ≡ ripe_of j before.ripe
+  pub settings : after.settings ≡ before.settings
+  pub known : AllKnown before.ripe → AllKnown after.ripe
+
+pub record LookedPass (k : ℕ) (v : Verdict) (before after : Pass) : Type 0 where
+  pub walk : Looked k v before.walk after.walk
+  pub earlier : after.earlier ≤ suc before.earlier
+
+counted-at-most : (b : Bool) (n : ℕ) → counted b n ≤ suc n
+counted-at-most true n = omega arith
+counted-at-most false n = omega arith
+
+-- a stream whose verdict is there becomes ripe
+ripens : (kind : Kind) (k : ℕ) (v : Verdict) (p : Pass) → ripe_of k p.walk.ripe ≡ None → IsKnown (record { id = k; verdict = v }) → shown v ≡ Some v
+    → LookedPass k v p (record { earlier = counted (kind.settled k v) p.earlier; walk = with_ripe p.walk k v })
+ripens kind k v p e known s = record {
+  walk = record {
+    here = ripe_of-append k v p.walk.ripe e ∙ sym s;
+    others = λ j n. ripe_of-other k j v p.walk.ripe n;
+    settings = refl;
+    known = λ a. known-append p.walk.ripe (record { id = k; verdict = v }) a known;
+  };
+  earlier = counted-at-most (kind.settled k v) p.earlier;
+}
+
+judged-looks : (kind : Kind) (k : ℕ) (full v : Verdict) (p : Pass) → IsKnown (record { id = k; verdict = full }) → IsOrWaits full v → shown full ≡ Some full
+    → judged kind k full p ≡ record { earlier = counted (kind.settled k full) p.earlier; walk = with_ripe p.walk k full }
+    → ripe_of k p.walk.ripe ≡ None → LookedPass k v p (judged kind k v p)
+judged-looks kind k full v p known Waits s j e = record {
+  walk = record { here = e; others = λ i n. refl; settings = refl; known = λ a. a };
+  earlier = omega arith;
+}
+judged-looks kind k full v p known Is s j e = rw j (ripens kind k full p e known s)
+
+taken-looks : (kind : Kind) (k : ℕ) (v : Verdict) (p : Pass) (taken : List ℕ) → LookedPass k v (record { earlier = p.earlier; walk = record p.walk { taken = taken } }) (judged kind k v (record { earlier = p.earlier; walk = record p.walk { taken = taken } }))
+    → LookedPass k v p (judged kind k v (record { earlier = p.earlier; walk = record p.walk { taken = taken } }))
+taken-looks kind k v p taken l = record { walk = record { here = l.walk.here; others = l.walk.others; settings = l.walk.settings; known = l.walk.known }; earlier = l.earlier }
+
+-- the verdict that a known stream can have
+pub record Full (k : ℕ) (full : Verdict) : Type 0 where
+  pub known : IsKnown (record { id = k; verdict = full })
+  pub shows : shown full ≡ Some full
+  pub complete : is_final full ≡ true
+  pub judges : (kind : Kind) (p : Pass) → judged kind k full p ≡ record { earlier = counted (kind.settled k full) p.earlier; walk = with_ripe p.walk k full }
+
+or-true : (a : Bool) → (a || true) ≡ true
+or-true true = refl
+or-true false = refl
+
+-- at a ready moment with a free slot
+pub meets-looks : (kind : Kind) (k : ℕ) (full old v : Verdict) (p : Pass) → Full k full → IsOrWaits full old → IsOrWaits full v → Stays old v
+    → kind.verdict k ≡ v → nat_lt p.earlier kind.most ≡ true → ripe_of k p.walk.ripe ≡ shown old → LookedPass k v p (meets true kind k (ripe_of k p.walk.ripe) p)
+meets-looks kind k full old v p f Waits now stays is free e =
+    rw (e, free, or-true (has k p.walk.taken), is)
+    (taken-looks kind k v p (with_taken k p.walk).taken
+    (judged-looks kind k full v (record p { walk = with_taken k p.walk }) f.known now f.shows (f.judges kind (record p { walk = with_taken k p.walk })) e))
+meets-looks kind k full old v p f Is now stays is free e =
+    rw (e, f.shows)
+    (record {
+      walk = record { here = e ∙ ap shown (sym (stays f.complete)); others = λ j n. refl; settings = refl; known = λ a. a };
+      earlier = counted-at-most (kind.settled k full) p.earlier;
+    })
+
+-- ---- all streams are looked at
+
+control-full : Full 2 (Control 1)
+control-full = record { known = IsControl; shows = refl; complete = refl; judges = λ kind p. refl }
+
+session-full : Full 6 (WebTransport 0 3)
+session-full = record { known = IsOfSession; shows = refl; complete = refl; judges = λ kind p. refl }
+
+request-full : Full 0 (Request one_fields 83)
+request-full = record { known = IsRequest; shows = refl; complete = refl; judges = λ kind p. refl }
+
+-- the verdicts of the three streams before a moment and at it
+pub record Verdicts : Type 0 where
+  pub control : Verdict
+  pub session : Verdict
+  pub request : Verdict
+
+pub record AreBuilt (v : Verdicts) : Type 0 where
+  pub control : IsOrWaits (Control 1) v.control
+  pub session : IsOrWaits (WebTransport 0 3) v.session
+  pub request : IsOrWaits (Request one_fields 83) v.request
+
+pub record AllStay (v w : Verdicts) : Type 0 where
+  pub control : Stays v.control w.control
+  pub session : Stays v.session w.session
+  pub request : Stays v.request w.request
+
+-- each of the three is ripe exactly where its verdict is there
+pub record AreRipe (v : Verdicts) (w : Walk) : Type 0 where
+  pub control : ripe_of 2 w.ripe ≡ shown v.control
+  pub session : ripe_of 6 w.ripe ≡ shown v.session
+  pub request : ripe_of 0 w.ripe ≡ shown v.request
+  pub known : AllKnown w.ripe
+
+below-four : (n : ℕ) → n ≤ 1 → nat_lt n 4 ≡ true
+below-four n l = grind (arith, nat_tests)
+
+stays-waiting : (v w : Verdict) → Stays v w → w ≡ Incomplete → v ≡ Incomplete
+stays-waiting Incomplete w s e = refl
+stays-waiting v w s e = sym (s refl) ∙ e
+
+-- what the unidirectional streams leave, and what the bidirectional one leaves after them
+pub record UnisLooked (v w : Verdicts) (before after : Walk) : Type 0 where
+  pub control : ripe_of 2 after.ripe ≡ shown w.control
+  pub session : ripe_of 6 after.ripe ≡ shown w.session
+  pub request : ripe_of 0 after.ripe ≡ shown v.request
+  pub settings : after.settings ≡ before.settings
+  pub known : AllKnown after.ripe
+
+module _ (kind : Kind) (v w : Verdicts) (was : AreBuilt v) (now : AreBuilt w) (stays : AllStay v w) where
+  pub over-unis : (most : kind.most ≡ 4) (control : kind.verdict 2 ≡ w.control) (session : kind.verdict 6 ≡ w.session) (count : ℕ) → count ≤ 2
+      → (count ≡ 0 → w.control ≡ Incomplete) → (count ≤ 1 → w.session ≡ Incomplete) → (walk : Walk) → AreRipe v walk
+      → UnisLooked v w walk (over true kind (ids 2 0 count) (record { earlier = 0; walk = walk })).walk
+  over-unis most control session zero l none less walk r = record {
+    control = r.control ∙ ap shown (stays-waiting v.control w.control stays.control (none refl) ∙ sym (none refl));
+    session = r.session ∙ ap shown (stays-waiting v.session w.session stays.session (less (omega arith)) ∙ sym (less (omega arith)));
+    request = r.request;
+    settings = refl;
+    known = r.known;
+  }
+  over-unis most control session (suc zero) l none less walk r =
+      let first = meets-looks kind 2 (Control 1) v.control w.control (record { earlier = 0; walk = walk }) control-full was.control now.control stays.control control (rw most refl) r.control in
+      record {
+        control = first.walk.here;
+        session = first.walk.others 6 refl ∙ r.session ∙ ap shown (stays-waiting v.session w.session stays.session (less (omega arith)) ∙ sym (less (omega arith)));
+        request = first.walk.others 0 refl ∙ r.request;
+        settings = first.walk.settings;
+        known = first.walk.known r.known;
+      }
+  over-unis most control session (suc (suc zero)) l none less walk r =
+      let p : Pass = record { earlier = 0; walk = walk } in
+      let first = meets-looks kind 2 (Control 1) v.control w.control p control-full was.control now.control stays.control control (rw most refl) r.control in
+      let q : Pass = meets true kind 2 (ripe_of 2 walk.ripe) p in
+      let free : nat_lt q.earlier kind.most ≡ true = ap (λ (n : ℕ). nat_lt q.earlier n) most ∙ below-four q.earlier first.earlier in
+      let second = meets-looks kind 6 (WebTransport 0 3) v.session w.session q session-full was.session now.session stays.session session free (first.walk.others 6 refl ∙ r.session) in
+      record {
+        control = second.walk.others 2 refl ∙ first.walk.here;
+        session = second.walk.here;
+        request = second.walk.others 0 refl ∙ first.walk.others 0 refl ∙ r.request;
+        settings = second.walk.settings ∙ first.walk.settings;
+        known = second.walk.known (first.walk.known r.known);
+      }
+  over-unis most control session (suc (suc (suc count))) l none less walk r = absurd (omega arith)
+
+  pub over-bis : (most : kind.most ≡ 1) (request : kind.verdict 0 ≡ w.request) (count : ℕ) → count ≤ 1 → (count ≡ 0 → w.request ≡ Incomplete)
+      → (before walk : Walk) → UnisLooked v w before walk
+      → AreRipe w (over true kind (ids 0 0 count) (record { earlier = 0; walk = walk })).walk
+      × ((over true kind (ids 0 0 count) (record { earlier = 0; walk = walk })).walk.settings ≡ before.settings)
+  over-bis most request zero l none before walk u = (
+    record {
+      control = u.control;
+      session = u.session;
+      request = u.request ∙ ap shown (stays-waiting v.request w.request stays.request (none refl) ∙ sym (none refl));
+      known = u.known;
+    },
+    u.settings,
+  )
+  over-bis most request (suc zero) l none before walk u =
+      let p : Pass = record { earlier = 0; walk = walk } in
+      let one = meets-looks kind 0 (Request one_fields 83) v.request w.request p request-full was.request now.request stays.request request (rw most refl) u.request in (
+        record {
+          control = one.walk.others 2 refl ∙ u.control;
+          session = one.walk.others 6 refl ∙ u.session;
+          request = one.walk.here;
+          known = one.walk.known u.known;
+        },
+        one.walk.settings ∙ u.settings,
+      )
+  over-bis most request (suc (suc count)) l none before walk u = absurd (omega arith)
+
+-- ---- the control stream
+
+abbrev pub control_place : Option Verdict → Option (ℕ × ℕ)
+control_place None = None
+control_place (Some v) = Some (2, 1)
+
+pub first-control : (rs : List Ripe) → AllKnown rs → first_at control_at rs ≡ control_place (ripe_of 2 rs)
+first-control [] a = refl
+first-control (r ∷ rs) a = one r a.0 (first-control rs a.1)
+  where
+    one : (r : Ripe) → IsKnown r → first_at control_at rs ≡ control_place (ripe_of 2 rs) → first_at control_at (r ∷ rs) ≡ control_place (ripe_of 2 (r ∷ rs))
+    one r IsControl e = refl
+    one r IsOfSession e = e
+    one r IsRequest e = e

@@ -1,0 +1,7 @@
+pub mod Driver
+pub mod Session
+pub mod Calls
+pub mod Built
+pub mod Next
+pub mod Kept
+pub mod Step

@@ -1,0 +1,69 @@
+//! A trace by its own call, with ample memory: a body that answers want of memory fails here.
+use crate::trace::{TraceError, run_trace};
+use std::alloc::Global;
+use std::process::Abort;
+use wt_core::answer::{Answers, Reply};
+use wt_proto::side::Side;
+use wt_seam::turn::{DatagramFact, Turn, Turns};
+
+fn connected(credit: u64) -> Turn {
+    Turn::Connected {
+        uni: 9,
+        bi: 9,
+        credit,
+        datagrams: DatagramFact::Limit(1200),
+    }
+}
+
+/// The connection stands, the peer opens a stream, and one more turn comes.
+fn turns(rt: &impl Abort, alloc: Global, last: Turn) -> Turns {
+    let mut turns = Turns::new(alloc);
+    turns.push(connected(1000)).expect(rt, "no memory");
+    turns.push(Turn::PeerUni).expect(rt, "no memory");
+    turns.push(last).expect(rt, "no memory");
+    turns
+}
+
+/// So many answers, the first with the stream that opens and what goes out on it.
+fn are_answers(rt: &impl Abort, answers: &Answers, count: usize) {
+    let answers = answers.as_slice();
+    assert_eq!(rt; answers.len(), count);
+    assert_eq!(rt; answers[0].actions.as_slice().len(), 2);
+    for answer in answers {
+        assert!(rt; answer.reply.is_equal(&Reply::Done));
+    }
+}
+
+#[test]
+fn a_trace_answers_each_turn(rt: HostRuntime) {
+    let turns = turns(&rt, rt.alloc(), Turn::PeerBi);
+    match run_trace(rt.alloc(), Side::Server, turns.as_slice()) {
+        Ok(answers) => are_answers(&rt, &answers, 3),
+        Err(_) => assert!(rt; false),
+    }
+}
+
+#[test]
+fn a_trace_stops_at_an_unlawful_turn(rt: HostRuntime) {
+    let turns = turns(&rt, rt.alloc(), connected(1000));
+    match run_trace(rt.alloc(), Side::Server, turns.as_slice()) {
+        Err(TraceError::Unlawful { at, answers }) => {
+            assert_eq!(rt; at, 2);
+            are_answers(&rt, &answers, 2);
+        }
+        _ => assert!(rt; false),
+    }
+}
+
+#[test]
+fn a_trace_stops_at_a_turn_that_is_not_built(rt: HostRuntime) {
+    let mut turns = Turns::new(rt.alloc());
+    turns.push(connected(24)).expect(&rt, "no memory");
+    match run_trace(rt.alloc(), Side::Server, turns.as_slice()) {
+        Err(TraceError::Unbuilt { at, answers }) => {
+            assert_eq!(rt; at, 0);
+            assert!(rt; answers.as_slice().is_empty());
+        }
+        _ => assert!(rt; false),
+    }
+}
