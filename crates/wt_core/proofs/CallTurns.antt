@@ -15,12 +15,12 @@ use Rattle.wt_proto.specs.FixedBytes.{own_control_bytes}
 use Rattle.wt_proto.specs.Uni.{uni_verdict_of}
 use Rattle.wt_seam.specs.History.{HandedOut, Stands, ReadOut, Asked, Out, Did, Past, came, outs, deeds}
 use Rattle.wt_seam.specs.Seam.{contents, credit, sent, is_some}
-use Rattle.wt_core.specs.Driver.{Ripe, walk, ripe_of, hands_out, sending, rest_of}
+use Rattle.wt_core.specs.Driver.{Ripe, seen, ripe_of, hands_out, sending, rest_of}
 use Rattle.wt_core.specs.Session.{does, tells, asks, standing, gives, first_queued, gives_request, incoming, is_whole, responds, accept, accepting_response}
 use Rattle.wt_core.specs.Calls.{accept_uni, first_left, hands, offset_of, unread, total_read}
 use Rattle.wt_core.specs.Next.{is_given}
 use Rattle.wt_core.proofs.Readable.{own_length, response-length, response-cons}
-use Rattle.wt_core.proofs.WalkFacts.{shown, IsKnown, IsControl, IsOfSession, IsRequest, AllKnown}
+use Rattle.wt_core.proofs.SeenFacts.{shown, IsKnown, IsControl, IsOfSession, IsRequest, AllKnown}
 use Rattle.wt_core.proofs.Moments.{settings_in}
 use Rattle.wt_core.proofs.Facts.{Facts, moment-is, facts-did, calls-asked, calls-handed, calls-read, accepted, facts-accepted, enough-takes, sending-cons}
 
@@ -53,16 +53,16 @@ abbrev pub asked_for : Bool → Option Verdict → Option Ripe
 asked_for true o = placed 0 o
 asked_for false o = None
 
-incoming-by : (h : Past) (b : Bool) → b ≡ settings_in h → first_queued h (walk Server h).ripe ≡ placed 0 (shown (bi_verdict_of (contents h 0) Running))
-    → gives_request Server h (cond b (first_queued h (walk Server h).ripe) None) ≡ gives_request Server h (asked_for (settings_in h) (shown (bi_verdict_of (contents h 0) Running)))
+incoming-by : (h : Past) (b : Bool) → b ≡ settings_in h → first_queued h (seen Server h).ripe ≡ placed 0 (shown (bi_verdict_of (contents h 0) Running))
+    → gives_request Server h (cond b (first_queued h (seen Server h).ripe) None) ≡ gives_request Server h (asked_for (settings_in h) (shown (bi_verdict_of (contents h 0) Running)))
 incoming-by h true e q = rw (q, ← e) refl
 incoming-by h false e q = rw (← e) refl
 
 pub incoming-is : (h : Past) → Facts h → list_any is_given (deeds h) ≡ false
     → incoming Server h ≡ gives_request Server h (asked_for (settings_in h) (shown (bi_verdict_of (contents h 0) Running)))
 incoming-is h f e =
-    incoming-by h (walk Server h).settings f.knows.settings
-    (first-queued h (walk Server h).ripe f.knows.ripe.known (f.calls.gave_first ∙ e) ∙ ap (placed 0) f.knows.ripe.request)
+    incoming-by h (seen Server h).settings f.knows.settings
+    (first-queued h (seen Server h).ripe f.knows.ripe.known (f.calls.gave_first ∙ e) ∙ ap (placed 0) f.knows.ripe.request)
 
 -- ---- accepting streams
 
@@ -91,7 +91,7 @@ left_of h = cond (list_any (hands_out 6) (deeds h)) None (placed 6 (shown (uni_v
 pub accept_uni-is : (h : Past) → Facts h → accept_uni Server h 0 ≡ hands Server (λ id. replies.Uni id) h (left_of h)
 accept_uni-is h f =
     ap (hands Server (λ id. replies.Uni id) h)
-    (first-left h (walk Server h).ripe f.knows.ripe.known ∙ ap (λ o. cond (list_any (hands_out 6) (deeds h)) None (placed 6 o)) f.knows.ripe.session)
+    (first-left h (seen Server h).ripe f.knows.ripe.known ∙ ap (λ o. cond (list_any (hands_out 6) (deeds h)) None (placed 6 o)) f.knows.ripe.session)
 
 -- a stream was handed out
 abbrev pub handed_over : Past → Past

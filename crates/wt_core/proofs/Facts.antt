@@ -16,13 +16,13 @@ use Rattle.wt_proto.specs.FixedBytes.{own_control_bytes}
 use Rattle.wt_proto.specs.Uni.{uni_verdict_of}
 use Rattle.wt_seam.specs.History.{Connected, PeerUni, PeerBi, Deed, HandedOut, Given, Stands, ReadOut, Asked, Fact, Byte, Came, Out, Did, Past, came, outs, deeds}
 use Rattle.wt_seam.specs.Seam.{contents, is_connected, unis_allowed, credit, peer_unis, peer_bis, sent, opened, is_some, is_among}
-use Rattle.wt_core.specs.Driver.{walk, work, moment, is_ready, hands_out, sending}
+use Rattle.wt_core.specs.Driver.{seen, work, moment, is_ready, hands_out, sending}
 use Rattle.wt_core.specs.Session.{standing, given, gives, accepting_response}
 use Rattle.wt_core.specs.Calls.{total_read}
 use Rattle.wt_core.specs.Built.{is_prefix, are_along, is_readable, empty_control, session_header, one_request}
 use Rattle.wt_core.specs.Next.{is_first, is_given, responds_to}
 use Rattle.wt_core.proofs.Readable.{Stays, IsCons, Cons, one_fields, settings_came, own-cons, control-verdict, session-verdict, request-verdict, uni-stays, bi-stays, settings-stay, settings-waits, uni-empty, bi-empty, none-came}
-use Rattle.wt_core.proofs.WalkFacts.{shown, AreBuilt, AllStay}
+use Rattle.wt_core.proofs.SeenFacts.{shown, AreBuilt, AllStay}
 use Rattle.wt_core.proofs.Moments.{verdicts_of, settings_in, Knows, AtReady, moment-knows}
 
 -- what the transport told, and what went out, since the connection stands
@@ -62,7 +62,7 @@ pub record Facts (h : Past) : Type 0 where
   pub connection : Connection h
   pub streams : Streams h
   pub calls : Calls h
-  pub knows : Knows h (walk Server h)
+  pub knows : Knows h (seen Server h)
 
 -- ---- a moment sends nothing, once this end's SETTINGS are out
 
@@ -107,13 +107,13 @@ same-stay h g e = record {
 
 -- ---- the peer opens a stream
 
-knows-uni : (h : Past) → Facts h → Connection (Came PeerUni ∷ h) → Streams (Came PeerUni ∷ h) → Knows (Came PeerUni ∷ h) (walk Server (Came PeerUni ∷ h))
-unfolding walk
-knows-uni h f c s = moment-knows h (Came PeerUni ∷ h) (walk Server h) (at-ready (Came PeerUni ∷ h) c s) (built-streams h f.streams) (same-stay h (Came PeerUni ∷ h) (λ k. refl)) (λ e. e) f.knows
+knows-uni : (h : Past) → Facts h → Connection (Came PeerUni ∷ h) → Streams (Came PeerUni ∷ h) → Knows (Came PeerUni ∷ h) (seen Server (Came PeerUni ∷ h))
+unfolding seen
+knows-uni h f c s = moment-knows h (Came PeerUni ∷ h) (seen Server h) (at-ready (Came PeerUni ∷ h) c s) (built-streams h f.streams) (same-stay h (Came PeerUni ∷ h) (λ k. refl)) (λ e. e) f.knows
 
-knows-bi : (h : Past) → Facts h → Connection (Came PeerBi ∷ h) → Streams (Came PeerBi ∷ h) → Knows (Came PeerBi ∷ h) (walk Server (Came PeerBi ∷ h))
-unfolding walk
-knows-bi h f c s = moment-knows h (Came PeerBi ∷ h) (walk Server h) (at-ready (Came PeerBi ∷ h) c s) (built-streams h f.streams) (same-stay h (Came PeerBi ∷ h) (λ k. refl)) (λ e. e) f.knows
+knows-bi : (h : Past) → Facts h → Connection (Came PeerBi ∷ h) → Streams (Came PeerBi ∷ h) → Knows (Came PeerBi ∷ h) (seen Server (Came PeerBi ∷ h))
+unfolding seen
+knows-bi h f c s = moment-knows h (Came PeerBi ∷ h) (seen Server h) (at-ready (Came PeerBi ∷ h) c s) (built-streams h f.streams) (same-stay h (Came PeerBi ∷ h) (λ k. refl)) (λ e. e) f.knows
 
 -- what holds of these queries holds after a fact that changes none of them
 calls-same : (h g : Past) → deeds g ≡ deeds h → outs g ≡ outs h → ((k : ℕ) → contents g k ≡ contents h k) → Calls h → Calls g
@@ -251,10 +251,10 @@ stay-byte h id b = record {
   request = bi-byte (id == 0) b (contents h 0);
 }
 
-knows-byte : (h : Past) (id b : ℕ) → Facts h → Connection (Byte id b ∷ h) → Streams (Byte id b ∷ h) → Knows (Byte id b ∷ h) (walk Server (Byte id b ∷ h))
-unfolding walk
+knows-byte : (h : Past) (id b : ℕ) → Facts h → Connection (Byte id b ∷ h) → Streams (Byte id b ∷ h) → Knows (Byte id b ∷ h) (seen Server (Byte id b ∷ h))
+unfolding seen
 knows-byte h id b f c s =
-    moment-knows h (Byte id b ∷ h) (walk Server h) (at-ready (Byte id b ∷ h) c s) (built-streams h f.streams) (stay-byte h id b) (settings-byte (id == 2) b (contents h 2) s.control) f.knows
+    moment-knows h (Byte id b ∷ h) (seen Server h) (at-ready (Byte id b ∷ h) c s) (built-streams h f.streams) (stay-byte h id b) (settings-byte (id == 2) b (contents h 2) s.control) f.knows
 
 -- the session's header stays
 header-stays : (v w : Verdict) → Stays v w → v ≡ WebTransport 0 3 → w ≡ WebTransport 0 3
@@ -308,9 +308,9 @@ streams-same h g e f s = record {
   request = rw (f 0) s.request;
 }
 
-knows-did : (h : Past) (d : Deed) → Facts h → Connection (Did d ∷ h) → Streams (Did d ∷ h) → Knows (Did d ∷ h) (walk Server (Did d ∷ h))
-unfolding walk
-knows-did h d f c s = moment-knows h (Did d ∷ h) (walk Server h) (at-ready (Did d ∷ h) c s) (built-streams h f.streams) (same-stay h (Did d ∷ h) (λ k. refl)) (λ e. e) f.knows
+knows-did : (h : Past) (d : Deed) → Facts h → Connection (Did d ∷ h) → Streams (Did d ∷ h) → Knows (Did d ∷ h) (seen Server (Did d ∷ h))
+unfolding seen
+knows-did h d f c s = moment-knows h (Did d ∷ h) (seen Server h) (at-ready (Did d ∷ h) c s) (built-streams h f.streams) (same-stay h (Did d ∷ h) (λ k. refl)) (λ e. e) f.knows
 
 pub facts-did : (h : Past) (d : Deed) → Facts h → Calls (Did d ∷ h) → Facts (Did d ∷ h)
 facts-did h d f calls =
@@ -426,9 +426,9 @@ calls-accepted h c g n = record {
   response_sent = ap (λ (sent : List ℕ). sent ++ (accepting_response [])) (c.response_sent ∙ ap (λ (o : Option ℕ). cond (is_some o) (accepting_response []) []) n);
 }
 
-knows-accepted : (h : Past) → Facts h → Connection (accepted h) → Streams (accepted h) → Knows (accepted h) (walk Server (accepted h))
-unfolding walk
-knows-accepted h f c s = moment-knows h (accepted h) (walk Server h) (at-ready (accepted h) c s) (built-streams h f.streams) (same-stay h (accepted h) (λ k. refl)) (λ e. e) f.knows
+knows-accepted : (h : Past) → Facts h → Connection (accepted h) → Streams (accepted h) → Knows (accepted h) (seen Server (accepted h))
+unfolding seen
+knows-accepted h f c s = moment-knows h (accepted h) (seen Server h) (at-ready (accepted h) c s) (built-streams h f.streams) (same-stay h (accepted h) (λ k. refl)) (λ e. e) f.knows
 
 pub facts-accepted : (h : Past) → Facts h → list_any is_given (deeds h) ≡ true → standing (deeds h) ≡ None → Facts (accepted h)
 facts-accepted h f g n =
@@ -488,8 +488,8 @@ calls-started uni bi credit datagrams = record {
   response_sent = refl;
 }
 
-knows-started : (uni bi credit : ℕ) (datagrams : DatagramFact) → Knows (started uni bi credit datagrams) (walk Server (started uni bi credit datagrams))
-unfolding walk
+knows-started : (uni bi credit : ℕ) (datagrams : DatagramFact) → Knows (started uni bi credit datagrams) (seen Server (started uni bi credit datagrams))
+unfolding seen
 knows-started uni bi credit datagrams = record {
   ripe = record { control = ap shown (sym uni-empty); session = ap shown (sym uni-empty); request = ap shown (sym bi-empty); known = tt };
   settings = sym none-came;

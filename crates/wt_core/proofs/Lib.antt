@@ -1,5 +1,5 @@
 pub mod Readable
-pub mod WalkFacts
+pub mod SeenFacts
 pub mod Moments
 pub mod Facts
 pub mod Ranges

@@ -1,4 +1,4 @@
--- What a moment leaves of a walk, where all that came is built.
+-- What is seen after a moment, where all that came is built.
 use Rattle.std.proofs.Common.{◌≡◌, ◌≤◌, ℕ, Bool, true, false, List, [], ◌∷◌, drop, refl, sym, subst, ap, ◌∙◌}
 use Rattle.std.specs.Prelude.{Option, Some, None, ◌||◌}
 use Rattle.wt_proto.specs.declared.side.Side.TheVariants.{Server}
@@ -11,9 +11,9 @@ use Rattle.wt_proto.specs.ControlWalk.{control_walk_of}
 use Rattle.wt_proto.specs.Uni.{uni_verdict_of}
 use Rattle.wt_seam.specs.History.{Event, Past, came}
 use Rattle.wt_seam.specs.Seam.{contents, is_some, end_of, end_told, newest, peer_unis, peer_bis}
-use Rattle.wt_core.specs.Driver.{Walk, Kind, over, ids, is_ready, is_settled, over_unis, over_bis, over_control, first_at, control_at, at_moment}
+use Rattle.wt_core.specs.Driver.{Seen, Kind, over, ids, is_ready, is_settled, over_unis, over_bis, over_control, first_at, control_at, at_moment}
 use Rattle.wt_core.proofs.Readable.{settings_came, IsOrWaits, Waits, Is, uni-empty, bi-empty}
-use Rattle.wt_core.proofs.WalkFacts.{shown, Verdicts, AreBuilt, AllStay, AreRipe, over-unis, over-bis, first-control, control_place}
+use Rattle.wt_core.proofs.SeenFacts.{shown, Verdicts, AreBuilt, AllStay, AreRipe, over-unis, over-bis, first-control, control_place}
 
 none-told : (k : ℕ) (es : List Event) → newest (end_told k) es ≡ None
 none-told k [] = refl
@@ -38,12 +38,12 @@ or-known : (a b : Bool) → (a ≡ true → b ≡ true) → (a || b) ≡ b
 or-known true b f = sym (f refl)
 or-known false b f = refl
 
--- a walk that knows what came
-pub record Knows (h : Past) (w : Walk) : Type 0 where
+-- what is seen of the streams is what came on them
+pub record Knows (h : Past) (w : Seen) : Type 0 where
   pub ripe : AreRipe (verdicts_of h) w
   pub settings : w.settings ≡ settings_in h
 
-control-leaves : (h : Past) (v : Verdict) (w : Walk) (was : Bool) → IsOrWaits (Control 1) v → w.settings ≡ was → (was ≡ true → settings_in h ≡ true)
+control-leaves : (h : Past) (v : Verdict) (w : Seen) (was : Bool) → IsOrWaits (Control 1) v → w.settings ≡ was → (was ≡ true → settings_in h ≡ true)
     → (v ≡ Incomplete → settings_in h ≡ false) → (over_control h (control_place (shown v)) w).settings ≡ settings_in h
 control-leaves h v w was Waits e more none = e ∙ only was more (none refl)
   where
@@ -55,7 +55,7 @@ control-leaves h v w was Is e more none =
     ∙ ap (λ (end : StreamEnd). was || is_some (control_walk_of (drop 1 (contents h 2)) end).settings) (running (came h) 2)
     ∙ or-known was (settings_in h) more
 
-control-ripe : (h : Past) (o : Option (ℕ × ℕ)) (v : Verdicts) (w : Walk) → AreRipe v w → AreRipe v (over_control h o w)
+control-ripe : (h : Past) (o : Option (ℕ × ℕ)) (v : Verdicts) (w : Seen) → AreRipe v w → AreRipe v (over_control h o w)
 control-ripe h None v w r = r
 control-ripe h (Some x) v w r = record { control = r.control; session = r.session; request = r.request; known = r.known }
 
@@ -71,7 +71,7 @@ pub record AtReady (h : Past) : Type 0 where
   pub waits : uni_verdict_of (contents h 2) Running ≡ Incomplete → settings_in h ≡ false
 
 -- what the streams leave, looked at by id
-streams-leave : (g h : Past) (w : Walk) → AtReady h → AreBuilt (verdicts_of g) → AllStay (verdicts_of g) (verdicts_of h) → AreRipe (verdicts_of g) w
+streams-leave : (g h : Past) (w : Seen) → AtReady h → AreBuilt (verdicts_of g) → AllStay (verdicts_of g) (verdicts_of h) → AreRipe (verdicts_of g) w
     → AreRipe (verdicts_of h) (over_bis Server h (over_unis Server h w)) × ((over_bis Server h (over_unis Server h w)).settings ≡ w.settings)
 streams-leave g h w at was stays ripe =
     let unis : Kind = record { most = 4; verdict = λ k. uni_verdict_of (contents h k) (end_of (came h) k); settled = is_settled h } in
@@ -79,19 +79,19 @@ streams-leave g h w at was stays ripe =
     let looked = over-unis unis (verdicts_of g) (verdicts_of h) was at.built stays refl
     (ap (uni_verdict_of (contents h 2)) (running (came h) 2)) (ap (uni_verdict_of (contents h 6)) (running (came h) 6)) (peer_unis (came h)) at.unis
     (λ z. ap (λ (c : List ℕ). uni_verdict_of c Running) (at.no_control z) ∙ uni-empty) (λ l. ap (λ (c : List ℕ). uni_verdict_of c Running) (at.no_session l) ∙ uni-empty) w ripe in
-    let all : Bool → Walk = λ b. (over b bis (ids 0 0 (peer_bis (came h))) (record { earlier = 0; walk = (over b unis (ids 2 0 (peer_unis (came h))) (record { earlier = 0; walk = w })).walk })).walk in
+    let all : Bool → Seen = λ b. (over b bis (ids 0 0 (peer_bis (came h))) (record { earlier = 0; seen = (over b unis (ids 2 0 (peer_unis (came h))) (record { earlier = 0; seen = w })).seen })).seen in
     subst (λ (b : Bool). AreRipe (verdicts_of h) (all b) × ((all b).settings ≡ w.settings)) (sym at.ready)
     (over-bis bis (verdicts_of g) (verdicts_of h) was at.built stays refl (ap (bi_verdict_of (contents h 0)) (running (came h) 0)) (peer_bis (came h)) at.bis
-    (λ z. ap (λ (c : List ℕ). bi_verdict_of c Running) (at.no_request z) ∙ bi-empty) w (over true unis (ids 2 0 (peer_unis (came h))) (record { earlier = 0; walk = w })).walk looked)
+    (λ z. ap (λ (c : List ℕ). bi_verdict_of c Running) (at.no_request z) ∙ bi-empty) w (over true unis (ids 2 0 (peer_unis (came h))) (record { earlier = 0; seen = w })).seen looked)
 
-pub moment-knows : (g h : Past) (w : Walk) → AtReady h → AreBuilt (verdicts_of g) → AllStay (verdicts_of g) (verdicts_of h) → (settings_in g ≡ true → settings_in h ≡ true)
+pub moment-knows : (g h : Past) (w : Seen) → AtReady h → AreBuilt (verdicts_of g) → AllStay (verdicts_of g) (verdicts_of h) → (settings_in g ≡ true → settings_in h ≡ true)
     → Knows g w → Knows h (at_moment Server h w)
 moment-knows g h w at was stays more knows =
     let left = streams-leave g h w at was stays knows.ripe in
-    let seen : Walk = over_bis Server h (over_unis Server h w) in
-    let place : first_at control_at seen.ripe ≡ control_place (shown (uni_verdict_of (contents h 2) Running)) = first-control seen.ripe left.0.known ∙ ap control_place left.0.control in
+    let passed : Seen = over_bis Server h (over_unis Server h w) in
+    let place : first_at control_at passed.ripe ≡ control_place (shown (uni_verdict_of (contents h 2) Running)) = first-control passed.ripe left.0.known ∙ ap control_place left.0.control in
     record {
-      ripe = control-ripe h (first_at control_at seen.ripe) (verdicts_of h) seen left.0;
-      settings = ap (λ (o : Option (ℕ × ℕ)). (over_control h o seen).settings) place
-          ∙ control-leaves h (uni_verdict_of (contents h 2) Running) seen (settings_in g) at.built.control (left.1 ∙ knows.settings) more at.waits;
+      ripe = control-ripe h (first_at control_at passed.ripe) (verdicts_of h) passed left.0;
+      settings = ap (λ (o : Option (ℕ × ℕ)). (over_control h o passed).settings) place
+          ∙ control-leaves h (uni_verdict_of (contents h 2) Running) passed (settings_in g) at.built.control (left.1 ∙ knows.settings) more at.waits;
     }

@@ -35,7 +35,7 @@ use Rattle.wt_core.specs.Step.{answer_of, after, settings_came, request_on, inco
 use Rattle.wt_core.specs.Step as step
 use Rattle.wt_core.specs.Driver.{control_came}
 use Rattle.wt_core.proofs.Readable.{one_fields, uni-empty, bi-empty, IsOrWaits, Waits, Is, settings-waits}
-use Rattle.wt_core.proofs.WalkFacts.{shown}
+use Rattle.wt_core.proofs.SeenFacts.{shown}
 use Rattle.wt_core.proofs.Moments.{settings_in}
 use Rattle.std.proofs.Math.Seq.{drop-append_seam}
 use Rattle.wt_core.proofs.Facts.{Facts, built-streams, facts-did, calls-given, moment-is}

@@ -25,7 +25,7 @@ use Rattle.wt_core.proofs.CallTurns.{left_of, handed_over, session_begun, unread
 use Rattle.wt_core.proofs.Facts.{started}
 use Rattle.wt_core.proofs.Moments.{settings_in}
 use Rattle.wt_core.proofs.Readable.{one_fields}
-use Rattle.wt_core.proofs.WalkFacts.{shown}
+use Rattle.wt_core.proofs.SeenFacts.{shown}
 
 abbrev pub done : Answer
 done = record { reply = replies.Done; actions = [] }

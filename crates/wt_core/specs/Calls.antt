@@ -9,7 +9,7 @@ use Rattle.wt_proto.specs.declared.verdict.Verdict.{Verdict}
 use Rattle.wt_proto.specs.declared.verdict.Verdict.TheVariants as verdicts
 use Rattle.wt_seam.specs.History.{Deed, HandedOut, Given, Begun, Stands, ReadOut, Asked, Past, deeds}
 use Rattle.wt_seam.specs.Seam.{contents, peer_uni, own_uni}
-use Rattle.wt_core.specs.Driver.{Ripe, walk, ripe_of, hands_out}
+use Rattle.wt_core.specs.Driver.{Ripe, seen, ripe_of, hands_out}
 use Rattle.wt_core.specs.Session.{Told, does, tells, asks}
 
 abbrev pub in_session : Side → Past → (ℕ → Told) → Option ℕ → Told
@@ -35,7 +35,7 @@ hands side reply h None = asks side h replies.Pending
 hands side reply h (Some r) = tells (does side (does side h [] (HandedOut r.id)) [] Asked) (reply r.id)
 
 abbrev pub accept_uni : Side → Past → ℕ → Told
-accept_uni side h s = hands side replies.Uni h (first_left h (peer_uni side) s (walk side h).ripe)
+accept_uni side h s = hands side replies.Uni h (first_left h (peer_uni side) s (seen side h).ripe)
 
 -- ---- reading
 
@@ -55,7 +55,7 @@ offset_of _ = 0
 
 -- what follows the header of a stream
 abbrev pub body : Side → Past → ℕ → List ℕ
-body side h k = drop (offset_of (ripe_of k (walk side h).ripe)) (contents h k)
+body side h k = drop (offset_of (ripe_of k (seen side h).ripe)) (contents h k)
 
 abbrev pub unread : Side → Past → ℕ → List ℕ
 unread side h k = drop (total_read k (deeds h)) (body side h k)

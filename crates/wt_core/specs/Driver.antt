@@ -16,19 +16,20 @@ use Rattle.wt_proto.specs.Uni.{uni_verdict_of}
 use Rattle.wt_seam.specs.History.{Deed, HandedOut, Given, Begun, Stands, ReadOut, Asked, Fact, Byte, Came, Out, Did, Past, came, outs, deeds, put}
 use Rattle.wt_seam.specs.Seam.{contents, is_connected, is_some, unis_allowed, credit, end_of, peer_unis, peer_bis, sent, opened, own_uni, peer_uni, peer_bi}
 
--- ---- what a moment leaves
+-- ---- what is seen of the peer's streams
 
 -- a ripe stream with its verdict
 pub record Ripe : Type 0 where
   pub id : ℕ
   pub verdict : Verdict
 
-pub record Walk : Type 0 where
+-- after a moment
+pub record Seen : Type 0 where
   pub taken : List ℕ  -- the streams that are taken
   pub ripe : List Ripe  -- the ripe ones, in ripe order: by moment, then unidirectional ones first, then by id
   pub settings : Bool  -- the peer's SETTINGS came
 
-abbrev pub start : Walk
+abbrev pub start : Seen
 start = record { taken = []; ripe = []; settings = false }
 
 abbrev pub has : ℕ → List ℕ → Bool
@@ -81,53 +82,53 @@ pub record Kind : Type 0 where
 -- the streams of a kind are looked at by id; so many earlier ones are unsettled
 pub record Pass : Type 0 where
   pub earlier : ℕ
-  pub walk : Walk
+  pub seen : Seen
 
 abbrev pub counted : Bool → ℕ → ℕ
 counted true n = n
 counted false n = suc n
 
-abbrev pub with_ripe : Walk → ℕ → Verdict → Walk
-with_ripe w k v = record w { ripe = w.ripe ++ record { id = k; verdict = v } ∷ [] }
+abbrev pub with_ripe : Seen → ℕ → Verdict → Seen
+with_ripe s k v = record s { ripe = s.ripe ++ record { id = k; verdict = v } ∷ [] }
 
 -- a taken stream is ripe where its verdict isn't Incomplete
 abbrev pub judged : Kind → ℕ → Verdict → Pass → Pass
 judged kind k verdicts.Incomplete p = record p { earlier = suc p.earlier }
-judged kind k v p = record { earlier = counted (kind.settled k v) p.earlier; walk = with_ripe p.walk k v }
+judged kind k v p = record { earlier = counted (kind.settled k v) p.earlier; seen = with_ripe p.seen k v }
 
-abbrev pub with_taken : ℕ → Walk → Walk
-with_taken k w = record w { taken = if has k w.taken then w.taken else w.taken ++ k ∷ [] }
+abbrev pub with_taken : ℕ → Seen → Seen
+with_taken k s = record s { taken = if has k s.taken then s.taken else s.taken ++ k ∷ [] }
 
 abbrev pub taking : Bool → Kind → ℕ → Pass → Pass
 taking false kind k p = record p { earlier = suc p.earlier }
-taking true kind k p = judged kind k (kind.verdict k) (record p { walk = with_taken k p.walk })
+taking true kind k p = judged kind k (kind.verdict k) (record p { seen = with_taken k p.seen })
 
 -- what is ripe stays so, what was taken stays so; else a stream is taken where few enough earlier ones are
 -- unsettled
 abbrev pub meets : Bool → Kind → ℕ → Option Verdict → Pass → Pass
 meets ready kind k (Some v) p = record p { earlier = counted (kind.settled k v) p.earlier }
-meets ready kind k None p = taking (has k p.walk.taken || (ready && nat_lt p.earlier kind.most)) kind k p
+meets ready kind k None p = taking (has k p.seen.taken || (ready && nat_lt p.earlier kind.most)) kind k p
 
 abbrev pub over : Bool → Kind → List ℕ → Pass → Pass
 over ready kind [] p = p
-over ready kind (k ∷ ks) p = over ready kind ks (meets ready kind k (ripe_of k p.walk.ripe) p)
+over ready kind (k ∷ ks) p = over ready kind ks (meets ready kind k (ripe_of k p.seen.ripe) p)
 
 -- the ids of the streams of a kind from this one on
 abbrev pub ids : ℕ → ℕ → ℕ → List ℕ
 ids kind n zero = []
 ids kind n (suc count) = (4 * n + kind) ∷ ids kind (suc n) count
 
-abbrev pub over_unis : Side → Past → Walk → Walk
-over_unis side h w =
+abbrev pub over_unis : Side → Past → Seen → Seen
+over_unis side h s =
     (over (is_ready side h)
     (record { most = 4; verdict = λ k. uni_verdict_of (contents h k) (end_of (came h) k); settled = is_settled h })
-    (ids (peer_uni side) 0 (peer_unis (came h))) (record { earlier = 0; walk = w })).walk
+    (ids (peer_uni side) 0 (peer_unis (came h))) (record { earlier = 0; seen = s })).seen
 
-abbrev pub over_bis : Side → Past → Walk → Walk
-over_bis side h w =
+abbrev pub over_bis : Side → Past → Seen → Seen
+over_bis side h s =
     (over (is_ready side h)
     (record { most = 1; verdict = λ k. bi_verdict_of (contents h k) (end_of (came h) k); settled = is_settled h })
-    (ids (peer_bi side) 0 (peer_bis (came h))) (record { earlier = 0; walk = w })).walk
+    (ids (peer_bi side) 0 (peer_bis (came h))) (record { earlier = 0; seen = s })).seen
 
 -- ---- the peer's SETTINGS
 
@@ -145,29 +146,30 @@ abbrev pub first_at : (Verdict → Option ℕ) → List Ripe → Option (ℕ × 
 first_at tells [] = None
 first_at tells (r ∷ rs) = elim (tells r.verdict) [ Some at ↦ Some (r.id, at) | None ↦ first_at tells rs ]
 
-abbrev pub over_control : Past → Option (ℕ × ℕ) → Walk → Walk
-over_control h None w = w
-over_control h (Some x) w =
-    record w { settings = w.settings || is_some (control_walk_of (drop x.1 (contents h x.0)) (end_of (came h) x.0)).settings }
+abbrev pub over_control : Past → Option (ℕ × ℕ) → Seen → Seen
+over_control h None s = s
+over_control h (Some x) s =
+    record s { settings = s.settings || is_some (control_walk_of (drop x.1 (contents h x.0)) (end_of (came h) x.0)).settings }
 
 -- ---- a moment: what it looks at, in order
 
-abbrev pub in_order : Walk → List (Walk → Walk) → Walk
-in_order w [] = w
-in_order w (f ∷ fs) = in_order (f w) fs
+abbrev pub in_order : Seen → List (Seen → Seen) → Seen
+in_order s [] = s
+in_order s (f ∷ fs) = in_order (f s) fs
 
-abbrev pub steps : Side → Past → List (Walk → Walk)
-steps side h = over_unis side h ∷ over_bis side h ∷ (λ w. over_control h (first_at control_at w.ripe) w) ∷ []
+abbrev pub steps : Side → Past → List (Seen → Seen)
+steps side h = over_unis side h ∷ over_bis side h ∷ (λ s. over_control h (first_at control_at s.ripe) s) ∷ []
 
-abbrev pub at_moment : Side → Past → Walk → Walk
-at_moment side h w = in_order w (steps side h)
+abbrev pub at_moment : Side → Past → Seen → Seen
+at_moment side h s = in_order s (steps side h)
 
-unfoldable pub walk : Side → Past → Walk
-walk side [] = start
-walk side (Out a ∷ h) = walk side h
-walk side (Came e ∷ h) = at_moment side (Came e ∷ h) (walk side h)
-walk side (Byte id byte ∷ h) = at_moment side (Byte id byte ∷ h) (walk side h)
-walk side (Did d ∷ h) = at_moment side (Did d ∷ h) (walk side h)
+-- what is seen after the newest moment; an action is no moment
+unfoldable pub seen : Side → Past → Seen
+seen side [] = start
+seen side (Out a ∷ h) = seen side h
+seen side (Came e ∷ h) = at_moment side (Came e ∷ h) (seen side h)
+seen side (Byte id byte ∷ h) = at_moment side (Byte id byte ∷ h) (seen side h)
+seen side (Did d ∷ h) = at_moment side (Did d ∷ h) (seen side h)
 
 -- ---- what goes out at a moment: this end's control stream, as soon as it may be opened and as far as credit lets it
 

@@ -12,7 +12,7 @@ use Rattle.wt_proto.specs.FixedBytes.{headers_frame_bytes}
 use Rattle.wt_proto.specs.HeaderList.{Fields, with_field}
 use Rattle.wt_seam.specs.History.{Deed, HandedOut, Given, Begun, Stands, ReadOut, Asked, Did, Past, came, outs, deeds, put, is_open}
 use Rattle.wt_seam.specs.Seam.{credit, sent}
-use Rattle.wt_core.specs.Driver.{Ripe, walk, moment, sending, rest_of}
+use Rattle.wt_core.specs.Driver.{Ripe, seen, moment, sending, rest_of}
 
 -- what a turn gives: the history with all that it did, and the reply
 pub record Told : Type 0 where
@@ -73,7 +73,7 @@ gives_request side h (Some r) = tells (does side h [] (Given r.id)) (replies.Req
 
 -- a request is given only once the peer's SETTINGS came
 abbrev pub incoming : Side → Past → Told
-incoming side h = gives_request side h (if (walk side h).settings then first_queued h (walk side h).ripe else None)
+incoming side h = gives_request side h (if (seen side h).settings then first_queued h (seen side h).ripe else None)
 
 -- ---- the response
 
@@ -108,6 +108,6 @@ accept side h headers =
 -- (RFC 9220, section 3), while the connection is open.
 pub record MayStand (side : Side) (h : Past) (s : ℕ) : Type 0 where
   pub still_open : IsTrue (is_open h)
-  pub settings : IsTrue (walk side h).settings
+  pub settings : IsTrue (seen side h).settings
   pub given : IsTrue (list_any (gives s) (deeds h))
   pub responded : (headers : Fields) × (sent (outs h) s ≡ accepting_response headers)

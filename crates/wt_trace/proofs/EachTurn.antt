@@ -33,7 +33,7 @@ use Rattle.wt_core.proofs.Readable.{IsOrWaits, Waits, Is, one_fields, uni-empty,
 use Rattle.wt_core.proofs.Standing.{Reached, AtStart, Later}
 use Rattle.wt_trace.proofs.Tells.{Tells}
 use Rattle.wt_core.proofs.Turned.{Turned, Connects, OpensUni, OpensBi, Brings, NoRequest, GivesRequest, Accepts, NoSession, NoneLeft, HandsOut, NoStream, ReadsNone, NoBytes, Reads, telling}
-use Rattle.wt_core.proofs.WalkFacts.{shown}
+use Rattle.wt_core.proofs.SeenFacts.{shown}
 
 -- ---- replies that give nothing
 

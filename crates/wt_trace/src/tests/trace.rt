@@ -28,7 +28,8 @@ fn turns(rt: &impl Abort, alloc: Global, last: Turn) -> Turns {
 fn are_answers(rt: &impl Abort, answers: &Answers, count: usize) {
     let answers = answers.as_slice();
     assert_eq!(rt; answers.len(), count);
-    assert_eq!(rt; answers[0].actions.as_slice().len(), 2);
+    let first = answers.first().expect(rt, "no answer");
+    assert_eq!(rt; first.actions.as_slice().len(), 2);
     for answer in answers {
         assert!(rt; answer.reply.is_equal(&Reply::Done));
     }

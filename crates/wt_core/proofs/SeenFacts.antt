@@ -6,7 +6,7 @@ use Rattle.std.proofs.lemmas.Bool.{eq-eqb}
 use Rattle.wt_proto.specs.declared.verdict.Verdict.{Verdict}
 use Rattle.wt_proto.specs.declared.verdict.Verdict.TheVariants.{Incomplete, WebTransport, Control, Request}
 use Rattle.wt_proto.specs.Uni.{is_final}
-use Rattle.wt_core.specs.Driver.{Ripe, Walk, Pass, Kind, ripe_of, meets, judged, with_taken, with_ripe, counted, over, ids, has, first_at, control_at}
+use Rattle.wt_core.specs.Driver.{Ripe, Seen, Pass, Kind, ripe_of, meets, judged, with_taken, with_ripe, counted, over, ids, has, first_at, control_at}
 use Rattle.wt_core.proofs.Readable.{one_fields, Stays, IsOrWaits, Waits, Is}
 
 -- what is shown of a verdict
@@ -45,15 +45,15 @@ ripe_of-other k j v (x ∷ xs) e = ap (cond (x.id == j) (Some x.verdict)) (ripe_
 
 -- ---- one stream is looked at
 
--- what a look at the stream k leaves of a walk
-pub record Looked (k : ℕ) (v : Verdict) (before after : Walk) : Type 0 where
+-- what is seen after a look at the stream k
+pub record Looked (k : ℕ) (v : Verdict) (before after : Seen) : Type 0 where
   pub here : ripe_of k after.ripe ≡ shown v
   pub others : (j : ℕ) → (k == j) ≡ false → ripe_of j after.ripe ≡ ripe_of j before.ripe
   pub settings : after.settings ≡ before.settings
   pub known : AllKnown before.ripe → AllKnown after.ripe
 
 pub record LookedPass (k : ℕ) (v : Verdict) (before after : Pass) : Type 0 where
-  pub walk : Looked k v before.walk after.walk
+  pub seen : Looked k v before.seen after.seen
   pub earlier : after.earlier ≤ suc before.earlier
 
 counted-at-most : (b : Bool) (n : ℕ) → counted b n ≤ suc n
@@ -61,37 +61,37 @@ counted-at-most true n = omega arith
 counted-at-most false n = omega arith
 
 -- a stream whose verdict is there becomes ripe
-ripens : (kind : Kind) (k : ℕ) (v : Verdict) (p : Pass) → ripe_of k p.walk.ripe ≡ None → IsKnown (record { id = k; verdict = v }) → shown v ≡ Some v
-    → LookedPass k v p (record { earlier = counted (kind.settled k v) p.earlier; walk = with_ripe p.walk k v })
+ripens : (kind : Kind) (k : ℕ) (v : Verdict) (p : Pass) → ripe_of k p.seen.ripe ≡ None → IsKnown (record { id = k; verdict = v }) → shown v ≡ Some v
+    → LookedPass k v p (record { earlier = counted (kind.settled k v) p.earlier; seen = with_ripe p.seen k v })
 ripens kind k v p e known s = record {
-  walk = record {
-    here = ripe_of-append k v p.walk.ripe e ∙ sym s;
-    others = λ j n. ripe_of-other k j v p.walk.ripe n;
+  seen = record {
+    here = ripe_of-append k v p.seen.ripe e ∙ sym s;
+    others = λ j n. ripe_of-other k j v p.seen.ripe n;
     settings = refl;
-    known = λ a. known-append p.walk.ripe (record { id = k; verdict = v }) a known;
+    known = λ a. known-append p.seen.ripe (record { id = k; verdict = v }) a known;
   };
   earlier = counted-at-most (kind.settled k v) p.earlier;
 }
 
 judged-looks : (kind : Kind) (k : ℕ) (full v : Verdict) (p : Pass) → IsKnown (record { id = k; verdict = full }) → IsOrWaits full v → shown full ≡ Some full
-    → judged kind k full p ≡ record { earlier = counted (kind.settled k full) p.earlier; walk = with_ripe p.walk k full }
-    → ripe_of k p.walk.ripe ≡ None → LookedPass k v p (judged kind k v p)
+    → judged kind k full p ≡ record { earlier = counted (kind.settled k full) p.earlier; seen = with_ripe p.seen k full }
+    → ripe_of k p.seen.ripe ≡ None → LookedPass k v p (judged kind k v p)
 judged-looks kind k full v p known Waits s j e = record {
-  walk = record { here = e; others = λ i n. refl; settings = refl; known = λ a. a };
+  seen = record { here = e; others = λ i n. refl; settings = refl; known = λ a. a };
   earlier = omega arith;
 }
 judged-looks kind k full v p known Is s j e = rw j (ripens kind k full p e known s)
 
-taken-looks : (kind : Kind) (k : ℕ) (v : Verdict) (p : Pass) (taken : List ℕ) → LookedPass k v (record { earlier = p.earlier; walk = record p.walk { taken = taken } }) (judged kind k v (record { earlier = p.earlier; walk = record p.walk { taken = taken } }))
-    → LookedPass k v p (judged kind k v (record { earlier = p.earlier; walk = record p.walk { taken = taken } }))
-taken-looks kind k v p taken l = record { walk = record { here = l.walk.here; others = l.walk.others; settings = l.walk.settings; known = l.walk.known }; earlier = l.earlier }
+taken-looks : (kind : Kind) (k : ℕ) (v : Verdict) (p : Pass) (taken : List ℕ) → LookedPass k v (record { earlier = p.earlier; seen = record p.seen { taken = taken } }) (judged kind k v (record { earlier = p.earlier; seen = record p.seen { taken = taken } }))
+    → LookedPass k v p (judged kind k v (record { earlier = p.earlier; seen = record p.seen { taken = taken } }))
+taken-looks kind k v p taken l = record { seen = record { here = l.seen.here; others = l.seen.others; settings = l.seen.settings; known = l.seen.known }; earlier = l.earlier }
 
 -- the verdict that a known stream can have
 pub record Full (k : ℕ) (full : Verdict) : Type 0 where
   pub known : IsKnown (record { id = k; verdict = full })
   pub shows : shown full ≡ Some full
   pub complete : is_final full ≡ true
-  pub judges : (kind : Kind) (p : Pass) → judged kind k full p ≡ record { earlier = counted (kind.settled k full) p.earlier; walk = with_ripe p.walk k full }
+  pub judges : (kind : Kind) (p : Pass) → judged kind k full p ≡ record { earlier = counted (kind.settled k full) p.earlier; seen = with_ripe p.seen k full }
 
 or-true : (a : Bool) → (a || true) ≡ true
 or-true true = refl
@@ -99,15 +99,15 @@ or-true false = refl
 
 -- at a ready moment with a free slot
 pub meets-looks : (kind : Kind) (k : ℕ) (full old v : Verdict) (p : Pass) → Full k full → IsOrWaits full old → IsOrWaits full v → Stays old v
-    → kind.verdict k ≡ v → nat_lt p.earlier kind.most ≡ true → ripe_of k p.walk.ripe ≡ shown old → LookedPass k v p (meets true kind k (ripe_of k p.walk.ripe) p)
+    → kind.verdict k ≡ v → nat_lt p.earlier kind.most ≡ true → ripe_of k p.seen.ripe ≡ shown old → LookedPass k v p (meets true kind k (ripe_of k p.seen.ripe) p)
 meets-looks kind k full old v p f Waits now stays is free e =
-    rw (e, free, or-true (has k p.walk.taken), is)
-    (taken-looks kind k v p (with_taken k p.walk).taken
-    (judged-looks kind k full v (record p { walk = with_taken k p.walk }) f.known now f.shows (f.judges kind (record p { walk = with_taken k p.walk })) e))
+    rw (e, free, or-true (has k p.seen.taken), is)
+    (taken-looks kind k v p (with_taken k p.seen).taken
+    (judged-looks kind k full v (record p { seen = with_taken k p.seen }) f.known now f.shows (f.judges kind (record p { seen = with_taken k p.seen })) e))
 meets-looks kind k full old v p f Is now stays is free e =
     rw (e, f.shows)
     (record {
-      walk = record { here = e ∙ ap shown (sym (stays f.complete)); others = λ j n. refl; settings = refl; known = λ a. a };
+      seen = record { here = e ∙ ap shown (sym (stays f.complete)); others = λ j n. refl; settings = refl; known = λ a. a };
       earlier = counted-at-most (kind.settled k full) p.earlier;
     })
 
@@ -139,7 +139,7 @@ pub record AllStay (v w : Verdicts) : Type 0 where
   pub request : Stays v.request w.request
 
 -- each of the three is ripe exactly where its verdict is there
-pub record AreRipe (v : Verdicts) (w : Walk) : Type 0 where
+pub record AreRipe (v : Verdicts) (w : Seen) : Type 0 where
   pub control : ripe_of 2 w.ripe ≡ shown v.control
   pub session : ripe_of 6 w.ripe ≡ shown v.session
   pub request : ripe_of 0 w.ripe ≡ shown v.request
@@ -153,7 +153,7 @@ stays-waiting Incomplete w s e = refl
 stays-waiting v w s e = sym (s refl) ∙ e
 
 -- what the unidirectional streams leave, and what the bidirectional one leaves after them
-pub record UnisLooked (v w : Verdicts) (before after : Walk) : Type 0 where
+pub record UnisLooked (v w : Verdicts) (before after : Seen) : Type 0 where
   pub control : ripe_of 2 after.ripe ≡ shown w.control
   pub session : ripe_of 6 after.ripe ≡ shown w.session
   pub request : ripe_of 0 after.ripe ≡ shown v.request
@@ -162,44 +162,44 @@ pub record UnisLooked (v w : Verdicts) (before after : Walk) : Type 0 where
 
 module _ (kind : Kind) (v w : Verdicts) (was : AreBuilt v) (now : AreBuilt w) (stays : AllStay v w) where
   pub over-unis : (most : kind.most ≡ 4) (control : kind.verdict 2 ≡ w.control) (session : kind.verdict 6 ≡ w.session) (count : ℕ) → count ≤ 2
-      → (count ≡ 0 → w.control ≡ Incomplete) → (count ≤ 1 → w.session ≡ Incomplete) → (walk : Walk) → AreRipe v walk
-      → UnisLooked v w walk (over true kind (ids 2 0 count) (record { earlier = 0; walk = walk })).walk
-  over-unis most control session zero l none less walk r = record {
+      → (count ≡ 0 → w.control ≡ Incomplete) → (count ≤ 1 → w.session ≡ Incomplete) → (seen : Seen) → AreRipe v seen
+      → UnisLooked v w seen (over true kind (ids 2 0 count) (record { earlier = 0; seen = seen })).seen
+  over-unis most control session zero l none less seen r = record {
     control = r.control ∙ ap shown (stays-waiting v.control w.control stays.control (none refl) ∙ sym (none refl));
     session = r.session ∙ ap shown (stays-waiting v.session w.session stays.session (less (omega arith)) ∙ sym (less (omega arith)));
     request = r.request;
     settings = refl;
     known = r.known;
   }
-  over-unis most control session (suc zero) l none less walk r =
-      let first = meets-looks kind 2 (Control 1) v.control w.control (record { earlier = 0; walk = walk }) control-full was.control now.control stays.control control (rw most refl) r.control in
+  over-unis most control session (suc zero) l none less seen r =
+      let first = meets-looks kind 2 (Control 1) v.control w.control (record { earlier = 0; seen = seen }) control-full was.control now.control stays.control control (rw most refl) r.control in
       record {
-        control = first.walk.here;
-        session = first.walk.others 6 refl ∙ r.session ∙ ap shown (stays-waiting v.session w.session stays.session (less (omega arith)) ∙ sym (less (omega arith)));
-        request = first.walk.others 0 refl ∙ r.request;
-        settings = first.walk.settings;
-        known = first.walk.known r.known;
+        control = first.seen.here;
+        session = first.seen.others 6 refl ∙ r.session ∙ ap shown (stays-waiting v.session w.session stays.session (less (omega arith)) ∙ sym (less (omega arith)));
+        request = first.seen.others 0 refl ∙ r.request;
+        settings = first.seen.settings;
+        known = first.seen.known r.known;
       }
-  over-unis most control session (suc (suc zero)) l none less walk r =
-      let p : Pass = record { earlier = 0; walk = walk } in
+  over-unis most control session (suc (suc zero)) l none less seen r =
+      let p : Pass = record { earlier = 0; seen = seen } in
       let first = meets-looks kind 2 (Control 1) v.control w.control p control-full was.control now.control stays.control control (rw most refl) r.control in
-      let q : Pass = meets true kind 2 (ripe_of 2 walk.ripe) p in
+      let q : Pass = meets true kind 2 (ripe_of 2 seen.ripe) p in
       let free : nat_lt q.earlier kind.most ≡ true = ap (λ (n : ℕ). nat_lt q.earlier n) most ∙ below-four q.earlier first.earlier in
-      let second = meets-looks kind 6 (WebTransport 0 3) v.session w.session q session-full was.session now.session stays.session session free (first.walk.others 6 refl ∙ r.session) in
+      let second = meets-looks kind 6 (WebTransport 0 3) v.session w.session q session-full was.session now.session stays.session session free (first.seen.others 6 refl ∙ r.session) in
       record {
-        control = second.walk.others 2 refl ∙ first.walk.here;
-        session = second.walk.here;
-        request = second.walk.others 0 refl ∙ first.walk.others 0 refl ∙ r.request;
-        settings = second.walk.settings ∙ first.walk.settings;
-        known = second.walk.known (first.walk.known r.known);
+        control = second.seen.others 2 refl ∙ first.seen.here;
+        session = second.seen.here;
+        request = second.seen.others 0 refl ∙ first.seen.others 0 refl ∙ r.request;
+        settings = second.seen.settings ∙ first.seen.settings;
+        known = second.seen.known (first.seen.known r.known);
       }
-  over-unis most control session (suc (suc (suc count))) l none less walk r = absurd (omega arith)
+  over-unis most control session (suc (suc (suc count))) l none less seen r = absurd (omega arith)
 
   pub over-bis : (most : kind.most ≡ 1) (request : kind.verdict 0 ≡ w.request) (count : ℕ) → count ≤ 1 → (count ≡ 0 → w.request ≡ Incomplete)
-      → (before walk : Walk) → UnisLooked v w before walk
-      → AreRipe w (over true kind (ids 0 0 count) (record { earlier = 0; walk = walk })).walk
-      × ((over true kind (ids 0 0 count) (record { earlier = 0; walk = walk })).walk.settings ≡ before.settings)
-  over-bis most request zero l none before walk u = (
+      → (before seen : Seen) → UnisLooked v w before seen
+      → AreRipe w (over true kind (ids 0 0 count) (record { earlier = 0; seen = seen })).seen
+      × ((over true kind (ids 0 0 count) (record { earlier = 0; seen = seen })).seen.settings ≡ before.settings)
+  over-bis most request zero l none before seen u = (
     record {
       control = u.control;
       session = u.session;
@@ -208,18 +208,18 @@ module _ (kind : Kind) (v w : Verdicts) (was : AreBuilt v) (now : AreBuilt w) (s
     },
     u.settings,
   )
-  over-bis most request (suc zero) l none before walk u =
-      let p : Pass = record { earlier = 0; walk = walk } in
+  over-bis most request (suc zero) l none before seen u =
+      let p : Pass = record { earlier = 0; seen = seen } in
       let one = meets-looks kind 0 (Request one_fields 83) v.request w.request p request-full was.request now.request stays.request request (rw most refl) u.request in (
         record {
-          control = one.walk.others 2 refl ∙ u.control;
-          session = one.walk.others 6 refl ∙ u.session;
-          request = one.walk.here;
-          known = one.walk.known u.known;
+          control = one.seen.others 2 refl ∙ u.control;
+          session = one.seen.others 6 refl ∙ u.session;
+          request = one.seen.here;
+          known = one.seen.known u.known;
         },
-        one.walk.settings ∙ u.settings,
+        one.seen.settings ∙ u.settings,
       )
-  over-bis most request (suc (suc count)) l none before walk u = absurd (omega arith)
+  over-bis most request (suc (suc count)) l none before seen u = absurd (omega arith)
 
 -- ---- the control stream
 
