@@ -1,15 +1,10 @@
 -- Numbers and bytes in a script: decimal numbers below a limit, and bytes in hexadecimal.
 use Rattle.std.specs.Prelude.{ℕ, ◌+◌, ◌-◌, ◌*◌, ◌==◌, Bool, true, false, ◌&&◌, not, nat_lt, nat_le, List, [], ◌∷◌, codes, Option, Some, None, if◌then◌else◌}
+use Rattle.std.specs.Char.{is_ascii_digit}
 use Rattle.std.specs.Result.{result_ok}
+use Rattle.std.specs.Str.{all_ascii_digits}
 use Rattle.hex.specs.Hex.{decode_of}
 use Rattle.wt_trace.specs.Words.{is_word}
-
-abbrev pub is_digit : ℕ → Bool
-is_digit c = nat_le 48 c && nat_le c 57
-
-abbrev pub all_digits : List ℕ → Bool
-all_digits [] = true
-all_digits (c ∷ digits) = is_digit c && all_digits digits
 
 -- the value of digits, behind those whose value is n
 abbrev pub value : ℕ → List ℕ → ℕ
@@ -19,8 +14,8 @@ value n (c ∷ digits) = value (10 * n + (c - 48)) digits
 -- decimal digits, without a leading zero
 abbrev pub is_decimal : List ℕ → Bool
 is_decimal [] = false
-is_decimal (c ∷ []) = is_digit c
-is_decimal (c ∷ d ∷ digits) = not (c == 48) && all_digits (c ∷ d ∷ digits)
+is_decimal (c ∷ []) = is_ascii_digit c
+is_decimal (c ∷ d ∷ digits) = not (c == 48) && all_ascii_digits (c ∷ d ∷ digits)
 
 -- the number that a word spells, where it is below the limit
 abbrev pub number : ℕ → List ℕ → Option ℕ

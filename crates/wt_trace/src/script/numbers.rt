@@ -1,7 +1,9 @@
 //! Numbers and bytes in a script.
 ghost use Rattle.std.specs.Prelude.{◌≡◌, ◌+◌, ◌-◌, ◌*◌, ◌<◌, ◌^◌, IsTrue, IfOk, Some, None};
 ghost use Rattle.std.specs.Option.{option_map, SomeIff};
-ghost use Rattle.wt_trace.specs.Numbers.{is_digit, all_digits, is_decimal, value, number, bytes_of};
+ghost use Rattle.wt_trace.specs.Numbers.{is_decimal, value, number, bytes_of};
+ghost use Rattle.std.specs.Char.{is_ascii_digit};
+ghost use Rattle.std.specs.Str.{all_ascii_digits};
 ghost use Rattle.std.specs.Result.{result_ok};
 ghost use Rattle.hex.specs.Hex.{decode_of};
 ghost use Rattle.wt_trace.specs.Script.{count_of, id_of, fact_of};
@@ -15,17 +17,11 @@ use wt_proto::varint::VarInt;
 use wt_seam::piece::Piece;
 use wt_seam::turn::DatagramFact;
 
-fn is_digit_byte(byte: u8) -> bool
-    ensures { result ≡ is_digit byte }
-{
-    b'0' <= byte && byte <= b'9'
-}
-
 fn are_digits(word: &[u8]) -> bool
-    ensures { result ≡ all_digits word.now }
+    ensures { result ≡ all_ascii_digits word.now }
 {
     for byte in word {
-        if !is_digit_byte(*byte) {
+        if !byte.is_ascii_digit() {
             return false;
         }
     }
@@ -37,14 +33,14 @@ fn is_decimal_number(word: &[u8]) -> bool
 {
     match word {
         [] => false,
-        [digit] => is_digit_byte(*digit),
+        [digit] => digit.is_ascii_digit(),
         [first, ..] => *first != b'0' && are_digits(word),
     }
 }
 
 /// The number with one more digit; None where it doesn't fit.
 fn with_digit(number: u64, digit: u8) -> Option<u64>
-    requires { IsTrue (is_digit digit) }
+    requires { IsTrue (is_ascii_digit digit) }
     ensures { SomeIff result (10 * number + (digit - 48) < 2 ^ 64) (10 * number + (digit - 48)) }
 {
     match number.checked_mul(10) {
@@ -56,7 +52,7 @@ fn with_digit(number: u64, digit: u8) -> Option<u64>
 /// The value of decimal digits; None where it doesn't fit.
 #[tactic(auto, using(crate::proofs::NumberLaws::value_grows))]
 fn digits_value(word: &[u8]) -> Option<u64>
-    requires { IsTrue (all_digits word.now) }
+    requires { IsTrue (all_ascii_digits word.now) }
     ensures { SomeIff result (value 0 word.now < 2 ^ 64) (value 0 word.now) }
 {
     let mut number: u64 = 0;

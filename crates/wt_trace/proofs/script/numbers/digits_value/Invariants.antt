@@ -1,10 +1,11 @@
 use Rattle.std.proofs.Common.{◌≡◌, ◌<◌, ◌^◌, drop, true}
-use Rattle.wt_trace.specs.Numbers.{value, all_digits}
+use Rattle.std.specs.Str.{all_ascii_digits}
+use Rattle.wt_trace.specs.Numbers.{value}
 use Rattle.wt_trace.proofs.script.numbers.digits_value.Given as goal
 
 abbrev pub invariant-loop-byte : goal.invariant-loop-byte
 invariant-loop-byte l = record {
   joined : value l.number (drop l.byte-index l.word) ≡ value 0 l.word;
-  digits : all_digits (drop l.byte-index l.word) ≡ true;
+  digits : all_ascii_digits (drop l.byte-index l.word) ≡ true;
   small : l.number < 2 ^ 64;
 }
