@@ -35,6 +35,13 @@ impl Reply {
     pub fn copy(&self, _alloc: Global) -> Result<Reply, OutOfMemory>
         ensures { IfOk result (λ r. r ≡ self.now) }
     {
+        self.copied()
+    }
+
+    /// What a copy takes memory for keeps an allocator of its own.
+    fn copied(&self) -> Result<Reply, OutOfMemory>
+        ensures { IfOk result (λ r. r ≡ self.now) }
+    {
         Ok(match self {
             Reply::Done => Reply::Done,
             Reply::Pending => Reply::Pending,
@@ -136,7 +143,7 @@ impl Answer {
         ensures { IfOk result (λ a. a ≡ self.now) }
     {
         Ok(Answer {
-            reply: self.reply.copy(*self.actions.allocator())?,
+            reply: self.reply.copied()?,
             actions: self.actions.copy()?,
         })
     }

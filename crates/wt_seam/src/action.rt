@@ -135,11 +135,6 @@ impl Actions {
         Ok(copied)
     }
 
-    /// The allocator that gives its memory.
-    pub fn allocator(&self) -> &Global {
-        self.items.allocator()
-    }
-
     /// Whether both are the same actions in the same order.
     #[tactic(auto, using(crate::specs::Equality::actions_decide))]
     pub fn is_equal(&self, other: &Actions) -> bool
