@@ -7,6 +7,7 @@ pub mod UniLaws
 pub mod HeaderAgain
 pub mod FrameAgain
 pub mod OrderLaws
+pub mod SearchLaws
 pub mod EqualityLaws
 pub mod TextLaws
 pub mod SevenBits

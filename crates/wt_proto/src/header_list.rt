@@ -49,21 +49,14 @@ fn compare(a: &str, b: &str) -> Ordering
 
 /// The place of the name, or else the place where it belongs.
 fn place(fields: &[(Text, Text)], name: &str) -> Result<usize, usize>
+    requires ordered { IsHeaderList fields.now }
     ensures within { MatchResult result (λ at. at < length fields.now) (λ at. at ≤ length fields.now) }
     ensures found { (value : List ℕ) (d : List ℕ × List ℕ) → IfOk result (λ at. with_field name.now value fields.now
         ≡ slice_set fields.now at ((slice_index_or fields.now at d).0, value)) }
     ensures absent { (value : List ℕ) → IfErr result (λ at. with_field name.now value fields.now
         ≡ insert fields.now at (name.now, value)) }
 {
-    let mut at = 0;
-    while at < fields.len() {
-        match compare(name, fields[at].0.as_str()) {
-            Ordering::Less => return Err(at),
-            Ordering::Equal => return Ok(at),
-            Ordering::Greater => at += 1,
-        }
-    }
-    Err(at)
+    fields.binary_search_by(|field| compare(field.0.as_str(), name))
 }
 
 fn value_at<'a>(fields: &'a [(Text, Text)], name: &str) -> Option<&'a str>
@@ -88,6 +81,7 @@ fn copied(alloc: Global, fields: &[(Text, Text)]) -> Result<Vec<(Text, Text)>, O
 }
 
 fn put(fields: &mut Vec<(Text, Text)>, name: &str, value: &str) -> Result<(), OutOfMemory>
+    requires ordered { IsHeaderList fields.old.items }
     ensures ok { OnOk result (fields.new.items ≡ with_field name.now value.now fields.old.items) }
     ensures err { OnErr result (fields.new.items ≡ fields.old.items) }
 {

@@ -1,14 +1,12 @@
-use Rattle.std.proofs.Common.{ap, sym, ◌∙◌}
-use Rattle.std.proofs.lemmas.List.{get_or_default}
+use Rattle.std.proofs.Common.{rules}
+use Rattle.std.proofs.lemmas.Fn.{always_returns_same}
 use Rattle.wt_proto.specs.HeaderList.{compare_names}
-use Rattle.wt_proto.proofs.OrderLaws.{with_field_at}
+use Rattle.wt_proto.proofs.SearchLaws.{searched}
 use Rattle.wt_proto.proofs.header_list.place.Goals as goal
 
-pub returns-in-Equal-clause-found : goal.returns-in-Equal-clause-found
-returns-in-Equal-clause-found c value d =
-    let fields = c.args.fields.now in
-    let at = c.loop-at.at in
-    with_field_at c.args.name.now value d fields at c.loop-at-test.true
-    (ap (λ f. compare_names c.args.name.now f.0) (get_or_default fields at d c.index-fields-at.result c.loop-at-test.true)
-    ∙ ap (compare_names c.args.name.now) (sym c.as_str.ensures.value) ∙ sym c.compare.ensures ∙ c.in-Equal.is)
-    (c.loop-at.invariant.passed value)
+-- the closure compares a field's name with the name that it captures
+pub returns : goal.returns
+returns c =
+    let facts = c.binary_search_by.ensures in
+    searched c.args.name.now c.args.fields.now c.requires.ordered c.binary_search_by.result facts.bound
+    (facts.position (λ field. compare_names field.0 c.args.name.now) (always_returns_same _ _ _ (λ a r g called. (search rules, search rules))))
