@@ -31,6 +31,8 @@ pub mod settings;
 pub mod side;
 pub mod status;
 pub mod stream_header;
+#[cfg(test)]
+mod table_tests;
 pub mod text;
 pub mod utf8;
 pub mod varint;
