@@ -1,17 +1,17 @@
 //! One worked table: bytes that come from outside, and what each call answers to them.
 use crate::bi::bi_verdict;
 use crate::control_walk::{ControlWalk, control_walk};
-use crate::error::ErrorCode;
-use crate::frame::Frame;
-use crate::headers::Headers;
 use crate::response_walk::{ResponseWalk, response_walk};
 use crate::session_walk::{SessionWalk, session_walk};
 use crate::settings::Settings;
-use crate::side::StreamEnd;
-use crate::varint::{VarInt, write_varint};
 use crate::verdict::{Verdict, uni_verdict};
 use std::alloc::Global;
 use std::process::Abort;
+use wt_wire::error::ErrorCode;
+use wt_wire::frame::Frame;
+use wt_wire::headers::Headers;
+use wt_wire::side::StreamEnd;
+use wt_wire::varint::{VarInt, write_varint};
 
 /// A request at the path `/` of the authority `h`: a frame's header of three bytes and a payload.
 const REQUEST: &[u8] =
