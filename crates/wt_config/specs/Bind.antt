@@ -1,7 +1,7 @@
 -- The address that each choice of a builder stands for.
 use Rattle.std.specs.Prelude.{ℕ}
-use Rattle.wt_proto.specs.declared.addr.Addr.{Addr}
-use Rattle.wt_proto.specs.declared.addr.Addr.TheVariants.{V4, V6}
+use Rattle.wt_wire.specs.declared.addr.Addr.{Addr}
+use Rattle.wt_wire.specs.declared.addr.Addr.TheVariants.{V4, V6}
 use Rattle.wt_config.specs.declared.bind.BindAddressConfig.{BindAddressConfig}
 use Rattle.wt_config.specs.declared.bind.BindAddressConfig.TheVariants.{AddressV4, AddressV6}
 use Rattle.wt_config.specs.declared.bind.IpBindConfig.{IpBindConfig}

@@ -2,7 +2,7 @@
 use Rattle.std.specs.Global.{Global}
 use Rattle.std.specs.Prelude.{ℕ, List, Option, Some, None}
 use Rattle.std.specs.declared.dyn_box.DynBox.{DynBox}
-use Rattle.wt_proto.specs.declared.lookup.Lookup.{Lookup}
+use Rattle.wt_wire.specs.declared.lookup.Lookup.{Lookup}
 use Rattle.wt_config.specs.Bind.{bind_of}
 use Rattle.wt_config.specs.declared.bind.BindAddressConfig.{BindAddressConfig}
 use Rattle.wt_config.specs.declared.bind.IpBindConfig.TheVariants.{InAddrAnyDual}

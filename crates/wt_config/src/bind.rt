@@ -2,7 +2,7 @@
 ghost use Rattle.std.specs.Prelude.{◌≡◌};
 ghost use Rattle.wt_config.specs.Bind.{bind_of, bind_of_address};
 
-use wt_proto::addr::Addr;
+use wt_wire::addr::Addr;
 
 /// The loopback address of IPv4, 127.0.0.1.
 const LOCALHOST_V4: u32 = 0x7f00_0001;

@@ -14,9 +14,9 @@ use crate::tls::{Opaque, TlsChoice};
 use crate::verification::ServerHashVerification;
 use std::alloc::Global;
 use std::marker::Model;
-use wt_proto::addr::Addr;
-use wt_proto::error::OutOfMemory;
-use wt_proto::lookup::Lookup;
+use wt_wire::addr::Addr;
+use wt_wire::error::OutOfMemory;
+use wt_wire::lookup::Lookup;
 
 /// The configuration of a client. Contracts see its choices by `settings_of`, and its resolver by
 /// `resolver_of`.

@@ -11,7 +11,7 @@ use std::fmt;
 use std::marker::Model;
 use std::str::FromStr;
 use thiserror::Error;
-use wt_proto::error::OutOfMemory;
+use wt_wire::error::OutOfMemory;
 
 /// The text is no digest in the form that it was read in.
 #[derive(Debug, Drop, Error)]

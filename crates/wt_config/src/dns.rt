@@ -2,14 +2,14 @@
 ghost use Rattle.std.specs.Prelude.{◌≡◌, IfOk};
 
 use std::alloc::Global;
-use wt_proto::error::OutOfMemory;
-use wt_proto::lookup::Lookup;
+use wt_wire::error::OutOfMemory;
+use wt_wire::lookup::Lookup;
 
 /// Resolves the names of hosts. What it answers for a host is the one meaning of a resolver: it does
 /// not change while the resolver is kept.
 pub trait DnsResolver: Drop {
     ghost use Rattle.std.specs.Prelude.{List, ℕ};
-    ghost use Rattle.wt_proto.specs.declared.lookup.Lookup.{Lookup};
+    ghost use Rattle.wt_wire.specs.declared.lookup.Lookup.{Lookup};
 
     // What each host, as the bytes of its text, is looked up to.
     ghost lookup_of: { Self → List ℕ → Lookup };

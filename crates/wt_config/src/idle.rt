@@ -4,7 +4,7 @@ ghost use Rattle.wt_config.specs.Idle.{is_too_long, idle_of};
 
 use std::error::Error;
 use std::fmt;
-use wt_proto::varint::VarInt;
+use wt_wire::varint::VarInt;
 
 /// The time after which a silent connection is given up (RFC 9000, section 10.1).
 #[derive(Clone, Copy, PartialEq, Eq, Debug)]

@@ -9,7 +9,7 @@ use crate::idle::{IdleTimeout, InvalidIdleTimeout, idle_timeout};
 use crate::states::{WantsBindAddress, WantsIdentity, WantsTransportConfigServer};
 use crate::tls::{Opaque, TlsChoice};
 use std::marker::Model;
-use wt_proto::addr::Addr;
+use wt_wire::addr::Addr;
 
 /// The configuration of a server. Contracts see the record of its choices.
 #[derive(Drop)]

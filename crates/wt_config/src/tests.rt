@@ -15,9 +15,9 @@ use std::collections::hash_map::DefaultHasher;
 use std::hash::{Hash, Hasher};
 use std::process::Abort;
 use std::test::Fail;
-use wt_proto::addr::Addr;
-use wt_proto::error::OutOfMemory;
-use wt_proto::lookup::Lookup;
+use wt_wire::addr::Addr;
+use wt_wire::error::OutOfMemory;
+use wt_wire::lookup::Lookup;
 
 /// The digest of the bytes 97 to 127, and then 64.
 const LETTERS: [u8; 32] = [
@@ -389,7 +389,7 @@ struct OneHost(Addr);
 
 impl DnsResolver for OneHost {
     ghost use Rattle.std.specs.Prelude.{ℕ, List, bytes_eq, codes, if◌then◌else◌};
-    ghost use Rattle.wt_proto.specs.declared.lookup.Lookup.TheVariants.{Found, NotFound};
+    ghost use Rattle.wt_wire.specs.declared.lookup.Lookup.TheVariants.{Found, NotFound};
 
     ghost lookup_of = { λ known host. if bytes_eq host (codes "h:443") then Found known.0 else NotFound };
 

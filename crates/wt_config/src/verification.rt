@@ -10,7 +10,7 @@ use crate::digest::Sha256Digest;
 use std::alloc::Global;
 use std::collections::BTreeSet;
 use std::marker::Model;
-use wt_proto::error::OutOfMemory;
+use wt_wire::error::OutOfMemory;
 
 /// The last second of the year 9999, the last moment that a certificate can name.
 const LAST_MOMENT: u64 = 253_402_300_799;

@@ -3,7 +3,7 @@ use Rattle.std.proofs.Common.{arith, ◌≡◌, ℕ, Bool, true, false, cond, Li
 use Rattle.std.specs.Prelude.{◌==◌, ◌||◌}
 use Rattle.std.proofs.lemmas.List.{drop_all}
 use Rattle.std.proofs.lemmas.Bool.{eq-eqb}
-use Rattle.wt_proto.specs.declared.side.Side.TheVariants.{Server}
+use Rattle.wt_wire.specs.declared.side.Side.TheVariants.{Server}
 use Rattle.wt_seam.specs.History.{Byte, Past, came, outs, deeds}
 use Rattle.wt_seam.specs.Seam.{contents, peer_unis, peer_bis, is_among}
 use Rattle.wt_core.specs.Next.{bytes_come, went, between}

@@ -3,8 +3,8 @@ use Rattle.std.proofs.Common.{arith, ◌≡◌, ℕ, Bool, true, false, cond, Li
 use Rattle.std.specs.Prelude.{Option, Some, None, ◌==◌, ◌||◌, not, nat_lt}
 use Rattle.std.specs.List.{list_any}
 use Rattle.std.proofs.lemmas.Bool.{eq-eqb}
-use Rattle.wt_proto.specs.declared.side.Side.TheVariants.{Server}
-use Rattle.wt_proto.specs.declared.side.StreamEnd.TheVariants.{Running}
+use Rattle.wt_wire.specs.declared.side.Side.TheVariants.{Server}
+use Rattle.wt_wire.specs.declared.side.StreamEnd.TheVariants.{Running}
 use Rattle.wt_seam.specs.declared.action.Action.TheVariants as actions
 use Rattle.wt_core.specs.declared.answer.Reply.{Reply}
 use Rattle.wt_core.specs.declared.answer.Reply.TheVariants as replies

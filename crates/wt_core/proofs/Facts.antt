@@ -5,8 +5,8 @@ use Rattle.std.specs.List.{list_any}
 use Rattle.std.proofs.lemmas.List.{take_all, drop_all}
 use Rattle.std.proofs.lemmas.Bool.Decides.{nat_tests}
 use Rattle.std.proofs.lemmas.Bool.{eqb-true}
-use Rattle.wt_proto.specs.declared.side.Side.TheVariants.{Server}
-use Rattle.wt_proto.specs.declared.side.StreamEnd.TheVariants.{Running}
+use Rattle.wt_wire.specs.declared.side.Side.TheVariants.{Server}
+use Rattle.wt_wire.specs.declared.side.StreamEnd.TheVariants.{Running}
 use Rattle.wt_seam.specs.declared.action.Action.TheVariants as actions
 use Rattle.wt_seam.specs.declared.turn.DatagramFact.{DatagramFact}
 use Rattle.wt_proto.specs.declared.verdict.Verdict.{Verdict}

@@ -1,9 +1,9 @@
 -- What is seen after a moment, where all that came is built.
 use Rattle.std.proofs.Common.{◌≡◌, ◌≤◌, ℕ, Bool, true, false, List, [], ◌∷◌, drop, refl, sym, subst, ap, ◌∙◌}
 use Rattle.std.specs.Prelude.{Option, Some, None, ◌||◌}
-use Rattle.wt_proto.specs.declared.side.Side.TheVariants.{Server}
-use Rattle.wt_proto.specs.declared.side.StreamEnd.{StreamEnd}
-use Rattle.wt_proto.specs.declared.side.StreamEnd.TheVariants.{Running}
+use Rattle.wt_wire.specs.declared.side.Side.TheVariants.{Server}
+use Rattle.wt_wire.specs.declared.side.StreamEnd.{StreamEnd}
+use Rattle.wt_wire.specs.declared.side.StreamEnd.TheVariants.{Running}
 use Rattle.wt_proto.specs.declared.verdict.Verdict.{Verdict}
 use Rattle.wt_proto.specs.declared.verdict.Verdict.TheVariants.{Incomplete, Control}
 use Rattle.wt_proto.specs.Bi.{bi_verdict_of}

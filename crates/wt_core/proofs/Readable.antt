@@ -4,20 +4,20 @@ use Rattle.std.specs.Prelude.{◌==◌, ◌&&◌, codes, nat_lt}
 use Rattle.std.proofs.lemmas.Bool.Decides.{nat_tests}
 use Rattle.std.proofs.lemmas.Bool.{eqb-true}
 use Rattle.std.proofs.lemmas.List.{drop_all}
-use Rattle.wt_proto.specs.declared.side.StreamEnd.TheVariants.{Running}
+use Rattle.wt_wire.specs.declared.side.StreamEnd.TheVariants.{Running}
 use Rattle.wt_proto.specs.declared.verdict.Verdict.{Verdict}
 use Rattle.wt_proto.specs.declared.verdict.Verdict.TheVariants.{Incomplete, WebTransport, Control, Request}
 use Rattle.wt_proto.specs.Bi.{bi_decides, bi_verdict_of}
 use Rattle.wt_proto.specs.ControlWalk.{control_decides, control_walk_of}
-use Rattle.wt_proto.specs.FieldSection.{string_at, line_at, lines_from}
+use Rattle.wt_wire.specs.FieldSection.{string_at, line_at, lines_from}
 use Rattle.wt_proto.specs.FixedBytes.{own_control_bytes}
-use Rattle.wt_proto.specs.Frames.{frame_at}
-use Rattle.wt_proto.specs.HeaderList.{Fields}
-use Rattle.wt_proto.specs.PrefixedInteger.{continuation_at, prefixed_at, prefixed_bytes}
+use Rattle.wt_wire.specs.Frames.{frame_at}
+use Rattle.wt_wire.specs.HeaderList.{Fields}
+use Rattle.wt_wire.specs.PrefixedInteger.{continuation_at, prefixed_at, prefixed_bytes}
 use Rattle.wt_proto.specs.Requests.{request_fields, request_of}
 use Rattle.wt_proto.specs.Uni.{uni_verdict_of, is_final}
-use Rattle.wt_proto.specs.Utf8.{is_text_from}
-use Rattle.wt_proto.specs.Varint.{varint_at, varint_bytes}
+use Rattle.wt_wire.specs.Utf8.{is_text_from}
+use Rattle.wt_wire.specs.Varint.{varint_at, varint_bytes}
 use Rattle.wt_proto.proofs.UniLaws.{uni_verdict_stays}
 use Rattle.wt_proto.proofs.BiLaws.{bi_verdict_stays}
 use Rattle.wt_core.specs.Built.{is_prefix, are_along, empty_control, session_header, one_request}

@@ -5,8 +5,8 @@ use Rattle.std.specs.List.{list_any}
 use Rattle.std.proofs.lemmas.Bool.Decides.{nat_tests}
 use Rattle.std.proofs.lemmas.Bool.{eqb-true}
 use Rattle.std.proofs.lemmas.List.FromFn.{get_or-map-range_with_len}
-use Rattle.wt_proto.specs.declared.side.Side.TheVariants.{Server}
-use Rattle.wt_proto.specs.declared.side.StreamEnd.TheVariants.{Running}
+use Rattle.wt_wire.specs.declared.side.Side.TheVariants.{Server}
+use Rattle.wt_wire.specs.declared.side.StreamEnd.TheVariants.{Running}
 use Rattle.wt_seam.specs.declared.turn.Call.{Call}
 use Rattle.wt_seam.specs.declared.turn.Call.TheVariants as calls
 use Rattle.wt_seam.specs.declared.turn.Turn.TheVariants as turns
@@ -21,7 +21,7 @@ use Rattle.wt_core.specs.declared.session.Progress.TheVariants as progresses
 use Rattle.wt_proto.specs.declared.verdict.Verdict.{Verdict}
 use Rattle.wt_proto.specs.declared.verdict.Verdict.TheVariants.{Incomplete, WebTransport, Control, Request}
 use Rattle.wt_proto.specs.Bi.{bi_verdict_of}
-use Rattle.wt_proto.specs.HeaderList.{Fields}
+use Rattle.wt_wire.specs.HeaderList.{Fields}
 use Rattle.wt_proto.specs.Uni.{uni_verdict_of}
 use Rattle.wt_seam.specs.History.{Given, ReadOut, Asked, Did, Past, came, deeds}
 use Rattle.wt_seam.specs.Seam.{contents, peer_unis, peer_bis, is_some, is_among}

@@ -2,8 +2,8 @@
 use Rattle.std.proofs.Common.{arith, ◌≡◌, ◌/◌, ℕ, Bool, true, false, cond, List, [], ◌∷◌, ◌++◌, length, refl, sym, subst, ap, ◌∙◌}
 use Rattle.std.specs.Prelude.{◌&&◌, ◌||◌, not, nat_lt, IsTrue, slice_set}
 use Rattle.std.proofs.lemmas.Bool.Decides.{nat_tests}
-use Rattle.wt_proto.specs.declared.side.Side.{Side}
-use Rattle.wt_proto.specs.declared.side.Side.TheVariants.{Client, Server}
+use Rattle.wt_wire.specs.declared.side.Side.{Side}
+use Rattle.wt_wire.specs.declared.side.Side.TheVariants.{Client, Server}
 use Rattle.wt_seam.specs.declared.turn.Call.TheVariants as calls
 use Rattle.wt_seam.specs.declared.turn.Turn.{Turn}
 use Rattle.wt_seam.specs.declared.turn.Turn.TheVariants as turns

@@ -1,6 +1,6 @@
 -- A new core stands for the history in which nothing happened.
 use Rattle.std.proofs.Common.{false, [], refl}
-use Rattle.wt_proto.specs.declared.side.Side.{Side}
+use Rattle.wt_wire.specs.declared.side.Side.{Side}
 use Rattle.wt_core.specs.declared.session.Progress.TheVariants as progresses
 use Rattle.wt_core.specs.Kept.{Stands, Start}
 

@@ -1,9 +1,9 @@
 -- Which lawful turns are built so far: those of one session with one stream, from one request (this repository's own
 -- bound on what stands; the bytes are those of RFC 9114, section 7.2, RFC 9204, section 4.5, and RFC 9220, section 3).
 use Rattle.std.specs.Prelude.{ℕ, List, [], ◌∷◌, ◌++◌, length, Bool, true, false, nat_lt, ◌==◌, ◌&&◌, not, codes, if◌then◌else◌}
-use Rattle.wt_proto.specs.declared.side.Side.{Side}
+use Rattle.wt_wire.specs.declared.side.Side.{Side}
 use Rattle.wt_proto.specs.FixedBytes.{headers_frame_bytes, own_control_bytes}
-use Rattle.wt_proto.specs.HeaderList.{Fields}
+use Rattle.wt_wire.specs.HeaderList.{Fields}
 use Rattle.wt_proto.specs.Requests.{request_fields}
 use Rattle.wt_seam.specs.declared.turn.Call.{Call}
 use Rattle.wt_seam.specs.declared.turn.Call.TheVariants as calls

@@ -2,7 +2,7 @@
 -- call gives what, and when, is this repository's own, after the Rust crate).
 use Rattle.std.specs.Prelude.{ℕ, ◌+◌, List, [], ◌∷◌, length, take, drop, Option, Some, None, Bool, true, false, ◌%◌, ◌==◌, ◌&&◌, not, if◌then◌else◌}
 use Rattle.std.specs.List.{list_any}
-use Rattle.wt_proto.specs.declared.side.Side.{Side}
+use Rattle.wt_wire.specs.declared.side.Side.{Side}
 use Rattle.wt_core.specs.declared.answer.Reply.{Reply}
 use Rattle.wt_core.specs.declared.answer.Reply.TheVariants as replies
 use Rattle.wt_proto.specs.declared.verdict.Verdict.{Verdict}

@@ -3,8 +3,8 @@
 -- sections 3.2 and 6.2.1; how many streams are taken at once is this repository's own, after the Rust crate.
 use Rattle.std.specs.Prelude.{ℕ, zero, suc, ◌+◌, ◌*◌, List, [], ◌∷◌, ◌++◌, length, take, drop, Option, Some, None, Bool, true, false, nat_lt, ◌==◌, ◌||◌, ◌&&◌, not, if◌then◌else◌}
 use Rattle.std.specs.List.{list_any}
-use Rattle.wt_proto.specs.declared.side.Side.{Side}
-use Rattle.wt_proto.specs.declared.side.StreamEnd.TheVariants.{Running}
+use Rattle.wt_wire.specs.declared.side.Side.{Side}
+use Rattle.wt_wire.specs.declared.side.StreamEnd.TheVariants.{Running}
 use Rattle.wt_seam.specs.declared.action.Action.{Action}
 use Rattle.wt_seam.specs.declared.action.Action.TheVariants as actions
 use Rattle.wt_proto.specs.declared.verdict.Verdict.{Verdict}

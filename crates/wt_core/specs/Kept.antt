@@ -1,7 +1,7 @@
 -- What a core keeps of a history, as data.
 use Rattle.std.specs.Prelude.{◌≡◌, ℕ, ◌+◌, ◌*◌, Bool, true, false, List, [], ◌∷◌, map, Option, Some, None, IsTrue, ◌&&◌, if◌then◌else◌}
 use Rattle.std.specs.List.{range_with_len, list_any}
-use Rattle.wt_proto.specs.declared.side.Side.{Side}
+use Rattle.wt_wire.specs.declared.side.Side.{Side}
 use Rattle.wt_seam.specs.declared.turn.Turn.{Turn}
 use Rattle.wt_core.specs.declared.streams.Stream.{Stream}
 use Rattle.wt_core.specs.declared.session.Progress.{Progress}

@@ -2,8 +2,8 @@
 -- bring is RFC 9000, sections 2 to 4).
 use Rattle.std.specs.Prelude.{ℕ, List, [], ◌∷◌, ◌++◌, length, drop, Bool, true, false, ◌==◌, ◌&&◌, not, if◌then◌else◌}
 use Rattle.std.specs.List.{list_any}
-use Rattle.wt_proto.specs.declared.side.Side.{Side}
-use Rattle.wt_proto.specs.declared.side.Side.TheVariants.{Client, Server}
+use Rattle.wt_wire.specs.declared.side.Side.{Side}
+use Rattle.wt_wire.specs.declared.side.Side.TheVariants.{Client, Server}
 use Rattle.wt_seam.specs.declared.turn.Call.{Call}
 use Rattle.wt_seam.specs.declared.turn.Call.TheVariants as calls
 use Rattle.wt_seam.specs.declared.turn.Turn.{Turn}

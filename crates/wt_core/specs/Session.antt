@@ -2,14 +2,14 @@
 -- section 4.4).
 use Rattle.std.specs.Prelude.{ℕ, List, [], ◌∷◌, length, take, Option, Some, None, Bool, true, false, ◌==◌, ◌||◌, ◌&&◌, not, codes, if◌then◌else◌, IsTrue, ◌≡◌}
 use Rattle.std.specs.List.{list_any}
-use Rattle.wt_proto.specs.declared.side.Side.{Side}
+use Rattle.wt_wire.specs.declared.side.Side.{Side}
 use Rattle.wt_seam.specs.declared.action.Action.{Action}
 use Rattle.wt_core.specs.declared.answer.Reply.{Reply}
 use Rattle.wt_core.specs.declared.answer.Reply.TheVariants as replies
 use Rattle.wt_proto.specs.declared.verdict.Verdict.{Verdict}
 use Rattle.wt_proto.specs.declared.verdict.Verdict.TheVariants as verdicts
 use Rattle.wt_proto.specs.FixedBytes.{headers_frame_bytes}
-use Rattle.wt_proto.specs.HeaderList.{Fields, with_field}
+use Rattle.wt_wire.specs.HeaderList.{Fields, with_field}
 use Rattle.wt_seam.specs.History.{Deed, HandedOut, Given, Begun, Stands, ReadOut, Asked, Did, Past, came, outs, deeds, put, is_open}
 use Rattle.wt_seam.specs.Seam.{credit, sent}
 use Rattle.wt_core.specs.Driver.{Ripe, seen, moment, sending, rest_of}

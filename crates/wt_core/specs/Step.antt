@@ -1,7 +1,7 @@
 -- One turn on what a core keeps.
 use Rattle.std.specs.Prelude.{ℕ, ◌+◌, ◌*◌, ◌/◌, ◌^◌, List, [], ◌∷◌, ◌++◌, length, take, drop, slice_set, Option, Some, None, Bool, true, false, nat_lt, ◌==◌, ◌||◌, ◌&&◌, not, if◌then◌else◌}
 use Rattle.std.specs.List.{slice_index_or}
-use Rattle.wt_proto.specs.declared.side.StreamEnd.TheVariants.{Running}
+use Rattle.wt_wire.specs.declared.side.StreamEnd.TheVariants.{Running}
 use Rattle.wt_seam.specs.declared.turn.Call.{Call}
 use Rattle.wt_seam.specs.declared.turn.Call.TheVariants as calls
 use Rattle.wt_seam.specs.declared.turn.Turn.{Turn}

@@ -3,9 +3,9 @@ ghost use Rattle.std.specs.Prelude.{◌≡◌, ◌↔◌, ◌++◌, ◌∷◌, [
 
 use std::alloc::Global;
 use std::marker::Model;
-use wt_proto::error::OutOfMemory;
-use wt_proto::header_list::HeaderList;
-use wt_proto::ids::{SessionId, StreamId};
+use wt_wire::error::OutOfMemory;
+use wt_wire::header_list::HeaderList;
+use wt_wire::ids::{SessionId, StreamId};
 use wt_seam::action::Actions;
 use wt_seam::piece::Piece;
 

@@ -3,7 +3,7 @@ ghost use Rattle.std.specs.Prelude.{◌≡◌, ◌++◌};
 ghost use Rattle.wt_core.specs.Built.{are_along, empty_control, is_built_call, is_prefix, is_readable, one_request, session_header};
 
 use crate::streams::behind;
-use wt_proto::ids::StreamId;
+use wt_wire::ids::StreamId;
 use wt_seam::turn::Call;
 
 /// The one request that may come: for a session at the path `/` of the authority `h`.

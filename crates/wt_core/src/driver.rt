@@ -1,7 +1,7 @@
 //! What the peer's streams say: its SETTINGS, its request, and the streams of a session.
 ghost use Rattle.std.specs.Prelude.{◌≡◌, ◌<◌, ◌+◌, ◌^◌, IfOk, IfSome, length};
 ghost use Rattle.wt_proto.specs.Uni.{uni_verdict_of};
-ghost use Rattle.wt_proto.specs.declared.side.StreamEnd.TheVariants.{Running};
+ghost use Rattle.wt_wire.specs.declared.side.StreamEnd.TheVariants.{Running};
 ghost use Rattle.wt_core.specs.Driver.{control_came};
 ghost use Rattle.wt_core.specs.Step.{is_left, left_from, request_on, settings_came, unread_of};
 
@@ -9,9 +9,9 @@ use crate::streams::{Stream, behind};
 use std::alloc::Global;
 use wt_proto::bi::bi_verdict;
 use wt_proto::control_walk::control_walk;
-use wt_proto::error::OutOfMemory;
-use wt_proto::ids::SessionId;
-use wt_proto::side::StreamEnd;
+use wt_wire::error::OutOfMemory;
+use wt_wire::ids::SessionId;
+use wt_wire::side::StreamEnd;
 use wt_proto::verdict::{Verdict, uni_verdict};
 use wt_seam::piece::Piece;
 

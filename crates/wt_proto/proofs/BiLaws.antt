@@ -1,15 +1,16 @@
 -- The verdict of a bidirectional stream is a steady walk, and stays where it isn't Incomplete.
 use Rattle.std.proofs.Common.{◌≡◌, ℕ, ◌+◌, ◌-◌, true, List, ◌++◌, take, drop, Option, Some, None, refl, sym, ap, ◌∙◌}
-use Rattle.wt_proto.specs.declared.side.StreamEnd.{StreamEnd}
-use Rattle.wt_proto.specs.declared.side.StreamEnd.TheVariants.{Running}
+use Rattle.wt_wire.specs.declared.side.StreamEnd.{StreamEnd}
+use Rattle.wt_wire.specs.declared.side.StreamEnd.TheVariants.{Running}
 use Rattle.wt_proto.specs.declared.verdict.Verdict.{Verdict}
 use Rattle.wt_proto.specs.declared.walk.Step.TheVariants.{Goes, Stops}
 use Rattle.wt_proto.specs.Bi.{bi_decides, bi_judged, bi_verdict_of, headers_verdict, or_cut}
-use Rattle.wt_proto.specs.FieldSection.{headers_of}
-use Rattle.wt_proto.specs.Frames.{Headers, first_judged, frame_at}
+use Rattle.wt_wire.specs.FieldSection.{headers_of}
+use Rattle.wt_wire.specs.Frames.{Headers, frame_at}
+use Rattle.wt_proto.specs.FrameSteps.{first_judged}
 use Rattle.wt_proto.proofs.Steady.{IsSteady}
 use Rattle.wt_proto.specs.Uni.{is_final}
-use Rattle.wt_proto.specs.Varint.{varint_at}
+use Rattle.wt_wire.specs.Varint.{varint_at}
 use Rattle.wt_proto.specs.Walk.{Reached, walked}
 use Rattle.wt_proto.proofs.FirstLaws.{first-effect, first-headers, first-next}
 use Rattle.wt_proto.proofs.FrameLaws.{frames-steady, varint-on}

@@ -1,12 +1,13 @@
 -- The walk over the control stream is steady.
 use Rattle.std.proofs.Common.{◌≡◌, ℕ, zero, suc, ◌-◌, Bool, true, false, cond, List, [], ◌∷◌, ◌++◌, Option, Some, None, IsSome, Result, Ok, Err, refl, sym, ap, ◌∙◌}
-use Rattle.wt_proto.specs.declared.error.ErrorCode.{ErrorCode}
+use Rattle.wt_wire.specs.declared.error.ErrorCode.{ErrorCode}
 use Rattle.wt_proto.specs.declared.settings.Settings.{Settings}
-use Rattle.wt_proto.specs.declared.side.StreamEnd.{StreamEnd}
-use Rattle.wt_proto.specs.declared.side.StreamEnd.TheVariants.{Running}
+use Rattle.wt_wire.specs.declared.side.StreamEnd.{StreamEnd}
+use Rattle.wt_wire.specs.declared.side.StreamEnd.TheVariants.{Running}
 use Rattle.wt_proto.specs.declared.walk.Step.{Step}
 use Rattle.wt_proto.specs.declared.walk.Step.TheVariants.{Cut, Goes, Stops}
-use Rattle.wt_proto.specs.Frames as frames
+use Rattle.wt_wire.specs.Frames as frames
+use Rattle.wt_proto.specs.FrameSteps.{decided}
 use Rattle.wt_proto.specs.Settings.{settings_of}
 use Rattle.wt_proto.proofs.Steady.{taken, IsSteady}
 use Rattle.wt_proto.specs.ControlWalk.{control_decides, control_effect, control_end, control_fault, control_walk_of, settings_step}
@@ -57,7 +58,7 @@ control_fault_stays bytes more end some = by (walked control_decides None bytes)
 -- settings that came stay: the walk goes on in no other state
 
 module _ (s : Settings) where
-  goes_on : (f : Option (frames.Frame × ℕ)) (t : Option Settings) (n : ℕ) → frames.decided (control_effect (Some s)) f ≡ Goes t n → t ≡ Some s
+  goes_on : (f : Option (frames.Frame × ℕ)) (t : Option Settings) (n : ℕ) → decided (control_effect (Some s)) f ≡ Goes t n → t ≡ Some s
   goes_on None t n e = absurd cc
   goes_on (Some (frames.Data payload, m)) t n e = absurd cc
   goes_on (Some (frames.Headers payload, m)) t n e = absurd cc

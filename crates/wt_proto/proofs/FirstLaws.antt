@@ -1,7 +1,8 @@
 -- A walk up to the first frame that isn't skipped.
 use Rattle.std.proofs.Common.{◌≡◌, ℕ, ◌+◌, ◌-◌, List, take, drop, Option, Some, None, refl, ap, arith}
 use Rattle.wt_proto.specs.declared.walk.Step.TheVariants.{Goes, Stops}
-use Rattle.wt_proto.specs.Frames.{Frame, Data, Headers, Settings, TooLong, Signal, Skipped, decided, first_judged, frame_at}
+use Rattle.wt_wire.specs.Frames.{Frame, Data, Headers, Settings, TooLong, Signal, Skipped, frame_at}
+use Rattle.wt_proto.specs.FrameSteps.{decided, first_judged}
 use Rattle.wt_proto.proofs.Steady.{taken}
 use Rattle.wt_proto.proofs.FrameLaws.{IsEffect}
 

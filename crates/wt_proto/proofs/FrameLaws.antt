@@ -4,10 +4,11 @@ use Rattle.std.proofs.lemmas.List.{length-append, length-drop, drop-append-le, t
 use Rattle.std.proofs.lemmas.Grind.{common_steps}
 use Rattle.wt_proto.specs.declared.walk.Step.{Step}
 use Rattle.wt_proto.specs.declared.walk.Step.TheVariants.{Cut}
-use Rattle.wt_proto.specs.Varint.{varint_at}
-use Rattle.wt_proto.specs.Frames.{Frame, frame_at, with_type, with_length, with_header, with_id, unread, decided}
+use Rattle.wt_wire.specs.Varint.{varint_at}
+use Rattle.wt_wire.specs.Frames.{Frame, frame_at, with_type, with_length, with_header, with_id, unread}
+use Rattle.wt_proto.specs.FrameSteps.{decided}
 use Rattle.wt_proto.proofs.Steady.{taken, IsReader, IsSteady}
-use Rattle.wt_proto.proofs.VarintLaws.{varint_at-more, varint_at-within, varint_at-front}
+use Rattle.wt_wire.proofs.VarintLaws.{varint_at-more, varint_at-within, varint_at-front}
 
 pub varint-reader : IsReader varint_at
 unfolding varint_at

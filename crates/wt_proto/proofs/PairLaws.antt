@@ -2,8 +2,8 @@
 use Rattle.std.proofs.Common.{◌≡◌, ◌≤◌, ◌<◌, ◌+◌, ◌-◌, ℕ, zero, suc, List, [], ◌∷◌, length, take, drop, Some, None, Result, Ok, Err, refl, sym, ap, ◌∙◌, arith, length-drop}
 use Rattle.std.proofs.lemmas.List.{drop_all, drop-drop, take_rest}
 use Rattle.wt_proto.specs.declared.settings.Settings.{Settings}
-use Rattle.wt_proto.specs.declared.error.ErrorCode.{ErrorCode}
-use Rattle.wt_proto.specs.declared.error.ErrorCode.TheVariants as errors
+use Rattle.wt_wire.specs.declared.error.ErrorCode.{ErrorCode}
+use Rattle.wt_wire.specs.declared.error.ErrorCode.TheVariants as errors
 use Rattle.wt_proto.specs.Settings.{Pair, pair_at, pairs_from, judged, go_on, with_pair}
 
 pairs_skip : (s : Settings) (k : ℕ) (bytes : List ℕ) → k ≤ length bytes → pairs_from s k bytes ≡ pairs_from s 0 (drop k bytes)

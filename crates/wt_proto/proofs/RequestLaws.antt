@@ -5,9 +5,9 @@ use Rattle.std.specs.Cmp.{first_so, second_so}
 use Rattle.std.specs.Cmp.Lexicographic.{nat_list_eq_equiv}
 use Rattle.std.specs.Str.{bytes_eq}
 use Rattle.wt_proto.specs.declared.session.HeadersParseError.TheVariants.{MethodNotConnect, Other}
-use Rattle.wt_proto.specs.HeaderList.{Fields, with_field, value_of}
+use Rattle.wt_wire.specs.HeaderList.{Fields, with_field, value_of}
 use Rattle.wt_proto.specs.Requests.{is_value, is_for_session, is_reserved, request_with, request_of, request_fields}
-use Rattle.wt_proto.proofs.ValueLaws.{value_of_other}
+use Rattle.wt_wire.proofs.ValueLaws.{value_of_other}
 
 pub five_are_request : (fields : Fields) (authority path : List ℕ) → fields ≡ request_fields authority path → request_of fields ≡ Ok fields
 unfolding request_of

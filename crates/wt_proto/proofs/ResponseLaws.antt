@@ -3,9 +3,10 @@ use Rattle.std.proofs.Common.{◌≡◌, ℕ, true, false, List, Option, Some, N
 use Rattle.std.specs.Prelude.{codes, is_some}
 use Rattle.std.specs.Cmp.Lexicographic.{nat_list_eq_equiv}
 use Rattle.std.specs.Str.{bytes_eq}
-use Rattle.wt_proto.specs.HeaderList.{Fields, with_field, value_of}
-use Rattle.wt_proto.specs.Responses.{status_code, code_in, status_of, response_with, response_of, status_fields}
-use Rattle.wt_proto.proofs.ValueLaws.{value_of_other}
+use Rattle.wt_wire.specs.HeaderList.{Fields, with_field, value_of}
+use Rattle.wt_wire.specs.Status.{status_code}
+use Rattle.wt_proto.specs.Responses.{code_in, status_of, response_with, response_of, status_fields}
+use Rattle.wt_wire.proofs.ValueLaws.{value_of_other}
 
 response_with_code : (fields : Fields) (o : Option ℕ) → is_some o ≡ true → response_with fields o ≡ Ok fields
 response_with_code fields None h = absurd cc

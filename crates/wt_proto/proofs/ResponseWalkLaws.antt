@@ -1,12 +1,13 @@
 -- The walk up to a response is steady, and stays once it is more than waiting.
 use Rattle.std.proofs.Common.{◌≡◌, ℕ, ◌+◌, ◌-◌, true, List, ◌++◌, take, drop, Option, Some, None, refl, sym, ap, ◌∙◌}
-use Rattle.wt_proto.specs.declared.side.StreamEnd.{StreamEnd}
-use Rattle.wt_proto.specs.declared.side.StreamEnd.TheVariants.{Running}
+use Rattle.wt_wire.specs.declared.side.StreamEnd.{StreamEnd}
+use Rattle.wt_wire.specs.declared.side.StreamEnd.TheVariants.{Running}
 use Rattle.wt_proto.specs.declared.response_walk.ResponseWalk.{ResponseWalk}
 use Rattle.wt_proto.specs.declared.walk.Step.TheVariants.{Goes, Stops}
 use Rattle.wt_proto.specs.ResponseWalk.{response_decides, response_judged, response_walk_of, headers_response, is_answered, or_waiting}
-use Rattle.wt_proto.specs.FieldSection.{headers_of}
-use Rattle.wt_proto.specs.Frames.{Headers, first_judged, frame_at, unread}
+use Rattle.wt_wire.specs.FieldSection.{headers_of}
+use Rattle.wt_wire.specs.Frames.{Headers, frame_at, unread}
+use Rattle.wt_proto.specs.FrameSteps.{first_judged}
 use Rattle.wt_proto.proofs.Steady.{IsSteady}
 use Rattle.wt_proto.specs.Walk.{Reached, walked}
 use Rattle.wt_proto.proofs.FirstLaws.{first-effect, first-headers, first-next}

@@ -1,10 +1,10 @@
 -- The walk over a session's stream is steady.
 use Rattle.std.proofs.Common.{◌≡◌, ℕ, true, List, ◌++◌, Option, Some, None, refl, sym, ap, ◌∙◌}
 use Rattle.wt_proto.specs.declared.session_walk.SessionWalk.{SessionWalk}
-use Rattle.wt_proto.specs.declared.side.StreamEnd.{StreamEnd}
-use Rattle.wt_proto.specs.declared.side.StreamEnd.TheVariants.{Running}
+use Rattle.wt_wire.specs.declared.side.StreamEnd.{StreamEnd}
+use Rattle.wt_wire.specs.declared.side.StreamEnd.TheVariants.{Running}
 use Rattle.wt_proto.specs.Capsule.{close_value_at}
-use Rattle.wt_proto.specs.Frames as frames
+use Rattle.wt_wire.specs.Frames as frames
 use Rattle.wt_proto.proofs.Steady.{taken, IsSteady}
 use Rattle.wt_proto.specs.SessionWalk.{is_over, on_capsule, session_decides, session_effect, session_end, session_outcome, session_walk_of}
 use Rattle.wt_proto.specs.Walk.{Reached, walked}

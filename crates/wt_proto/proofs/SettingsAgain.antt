@@ -4,11 +4,11 @@ use Rattle.std.proofs.lemmas.List.{drop_at}
 use Rattle.wt_proto.specs.declared.settings.SettingId.{SettingId}
 use Rattle.wt_proto.specs.declared.settings.SettingId.TheVariants.{QPackMaxTableCapacity, MaxFieldSectionSize, QPackBlockedStreams, EnableConnectProtocol, H3Datagram, EnableWebTransport, WebTransportMaxSessions}
 use Rattle.wt_proto.specs.declared.settings.Settings.{Settings}
-use Rattle.wt_proto.specs.Varint.{varint_at, varint_bytes}
+use Rattle.wt_wire.specs.Varint.{varint_at, varint_bytes}
 use Rattle.wt_proto.specs.Settings.{pair_at, and_id, and_value, pairs_from, go_on, with_pair, setting, with_setting, no_settings, settings_of, setting_bytes, settings_bytes, IsSmall, AreSmall}
 use Rattle.wt_proto.proofs.PairLaws.{pair_in_front}
-use Rattle.wt_proto.proofs.VarintAgain.{varint_again}
-use Rattle.wt_proto.proofs.VarintLaws.{varint_at-within}
+use Rattle.wt_wire.proofs.VarintAgain.{varint_again}
+use Rattle.wt_wire.proofs.VarintLaws.{varint_at-within}
 
 abbrev number : SettingId → ℕ
 number QPackMaxTableCapacity = 0x01

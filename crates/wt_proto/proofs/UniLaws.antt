@@ -1,11 +1,11 @@
 -- A verdict of a unidirectional stream that isn't Incomplete stays; what is written in front of a stream is read again.
 use Rattle.std.proofs.Common.{◌≡◌, ℕ, true, List, ◌++◌, drop, Option, Some, None, refl, arith}
 use Rattle.std.proofs.lemmas.List.{drop-append-le}
-use Rattle.wt_proto.specs.declared.side.StreamEnd.{StreamEnd}
-use Rattle.wt_proto.specs.declared.side.StreamEnd.TheVariants.{Running}
-use Rattle.wt_proto.specs.Varint.{varint_at}
+use Rattle.wt_wire.specs.declared.side.StreamEnd.{StreamEnd}
+use Rattle.wt_wire.specs.declared.side.StreamEnd.TheVariants.{Running}
+use Rattle.wt_wire.specs.Varint.{varint_at}
 use Rattle.wt_proto.specs.Uni.{uni_verdict_of, with_type, with_session, is_final}
-use Rattle.wt_proto.proofs.VarintLaws.{varint_at-more, varint_at-within}
+use Rattle.wt_wire.proofs.VarintLaws.{varint_at-more, varint_at-within}
 
 -- the session's id, once it is there
 with_session-stays : (at : ℕ) (xs ys : List ℕ) (end : StreamEnd) (s : Option (ℕ × ℕ)) → varint_at xs ≡ s → is_final (with_session Running at s) ≡ true →

@@ -1,10 +1,10 @@
 -- Capsules (RFC 9297 section 3.2), and the one that closes a session (draft-ietf-webtrans-http3 section 5).
 use Rattle.std.specs.Prelude.{ℕ, ◌-◌, ◌==◌, nat_lt, List, length, take, drop, Option, Some, None, Result, Ok, Err, if◌then◌else◌}
 use Rattle.wt_proto.specs.SessionClose.{SessionClose}
-use Rattle.wt_proto.specs.declared.error.ErrorCode.{ErrorCode}
-use Rattle.wt_proto.specs.declared.error.ErrorCode.TheVariants.{Message}
-use Rattle.wt_proto.specs.Varint.{varint_at, big_endian}
-use Rattle.wt_proto.specs.Utf8.{is_text}
+use Rattle.wt_wire.specs.declared.error.ErrorCode.{ErrorCode}
+use Rattle.wt_wire.specs.declared.error.ErrorCode.TheVariants.{Message}
+use Rattle.wt_wire.specs.Varint.{varint_at, big_endian}
+use Rattle.wt_wire.specs.Utf8.{is_text}
 
 -- a type, a length and a value of that length at the front: the value, where it is whole and the type is CLOSE_WEBTRANSPORT_SESSION
 abbrev pub capsule_with_size : ℕ → List ℕ → Option (ℕ × ℕ) → Option (List ℕ)

@@ -1,14 +1,15 @@
 -- The walk over the peer's control stream behind its type, over all bytes and the end (RFC 9114, sections 6.2.1 and 7.2.4).
 use Rattle.std.specs.Prelude.{ℕ, List, Option, Some, None, Result, Ok, Err, if◌then◌else◌}
 use Rattle.wt_proto.specs.declared.control_walk.ControlWalk.{ControlWalk}
-use Rattle.wt_proto.specs.declared.error.ErrorCode.{ErrorCode}
-use Rattle.wt_proto.specs.declared.error.ErrorCode.TheVariants.{FrameUnexpected, ExcessiveLoad, MissingSettings, ClosedCriticalStream}
+use Rattle.wt_wire.specs.declared.error.ErrorCode.{ErrorCode}
+use Rattle.wt_wire.specs.declared.error.ErrorCode.TheVariants.{FrameUnexpected, ExcessiveLoad, MissingSettings, ClosedCriticalStream}
 use Rattle.wt_proto.specs.declared.settings.Settings.{Settings}
-use Rattle.wt_proto.specs.declared.side.StreamEnd.{StreamEnd}
-use Rattle.wt_proto.specs.declared.side.StreamEnd.TheVariants.{Running, Fin, Reset}
+use Rattle.wt_wire.specs.declared.side.StreamEnd.{StreamEnd}
+use Rattle.wt_wire.specs.declared.side.StreamEnd.TheVariants.{Running, Fin, Reset}
 use Rattle.wt_proto.specs.declared.walk.Step.{Step}
 use Rattle.wt_proto.specs.declared.walk.Step.TheVariants.{Goes, Stops}
-use Rattle.wt_proto.specs.Frames as frames
+use Rattle.wt_wire.specs.Frames as frames
+use Rattle.wt_proto.specs.FrameSteps.{decided}
 use Rattle.wt_proto.specs.Settings.{settings_of}
 use Rattle.wt_proto.specs.Walk.{Reached, walked}
 
@@ -40,7 +41,7 @@ control_effect settings size (frames.Signal id) = Stops FrameUnexpected size
 control_effect settings size (frames.Skipped kind) = on_skipped settings size kind
 
 unfoldable pub control_decides : Option Settings → List ℕ → Step (Option Settings) ErrorCode
-control_decides settings bytes = frames.decided (control_effect settings) (frames.frame_at frames.unread bytes)
+control_decides settings bytes = decided (control_effect settings) (frames.frame_at frames.unread bytes)
 
 -- the control stream never ends
 abbrev pub control_fault : StreamEnd → Option ErrorCode → Option ErrorCode

@@ -1,8 +1,8 @@
 -- HTTP/3 datagrams (RFC 9297 section 2.1).
 use Rattle.std.specs.Prelude.{ℕ, ◌^◌, nat_lt, List, ◌++◌, drop, Option, Some, None, Result, Ok, Err, if◌then◌else◌}
-use Rattle.wt_proto.specs.declared.error.ErrorCode.{ErrorCode}
-use Rattle.wt_proto.specs.declared.error.ErrorCode.TheVariants.{Datagram}
-use Rattle.wt_proto.specs.Varint.{varint_at, varint_bytes}
+use Rattle.wt_wire.specs.declared.error.ErrorCode.{ErrorCode}
+use Rattle.wt_wire.specs.declared.error.ErrorCode.TheVariants.{Datagram}
+use Rattle.wt_wire.specs.Varint.{varint_at, varint_bytes}
 
 -- a quarter stream id of at most 2 ^ 60 - 1, and the payload; a cut or greater id is H3_DATAGRAM_ERROR
 abbrev pub behind_quarter : List ℕ → Option (ℕ × ℕ) → Result (ℕ × List ℕ) ErrorCode

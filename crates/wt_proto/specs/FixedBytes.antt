@@ -1,13 +1,13 @@
 -- What goes out in the same bytes each time.
 use Rattle.std.specs.Prelude.{List, ℕ, ◌++◌, Some, None}
-use Rattle.wt_proto.specs.declared.frame.FrameKind.TheVariants as kinds
+use Rattle.wt_wire.specs.declared.frame.FrameKind.TheVariants as kinds
 use Rattle.wt_proto.specs.declared.settings.Settings.{Settings}
-use Rattle.wt_proto.specs.FieldSection.{section_bytes}
-use Rattle.wt_proto.specs.FrameBytes.{frame_bytes}
-use Rattle.wt_proto.specs.HeaderList.{Fields}
+use Rattle.wt_wire.specs.FieldSection.{section_bytes}
+use Rattle.wt_wire.specs.FrameBytes.{frame_bytes}
+use Rattle.wt_wire.specs.HeaderList.{Fields}
 use Rattle.wt_proto.specs.Responses.{status_fields}
 use Rattle.wt_proto.specs.Settings.{settings_bytes}
-use Rattle.wt_proto.specs.Varint.{varint_bytes}
+use Rattle.wt_wire.specs.Varint.{varint_bytes}
 
 -- the settings that this side sends
 abbrev pub own_settings : Settings

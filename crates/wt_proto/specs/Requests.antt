@@ -3,7 +3,7 @@ use Rattle.std.specs.Prelude.{ℕ, [], ◌∷◌, ◌||◌, ◌&&◌, Bool, fals
 use Rattle.std.specs.Str.{bytes_eq}
 use Rattle.wt_proto.specs.declared.session.HeadersParseError.{HeadersParseError}
 use Rattle.wt_proto.specs.declared.session.HeadersParseError.TheVariants.{MethodNotConnect, Other}
-use Rattle.wt_proto.specs.HeaderList.{Fields, value_of}
+use Rattle.wt_wire.specs.HeaderList.{Fields, value_of}
 
 -- a value is there, and it is this text
 abbrev pub is_value : List ℕ → Option (List ℕ) → Bool

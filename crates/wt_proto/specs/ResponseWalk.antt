@@ -1,16 +1,17 @@
 -- The walk over a client's session stream from its first byte, over all bytes and the end (RFC 9114, sections 4.1 and 4.3.2; RFC 9220, section 3).
 use Rattle.std.specs.Prelude.{ℕ, List, Bool, true, false, Option, Some, None, Result, Ok, Err}
-use Rattle.wt_proto.specs.declared.error.ErrorCode.{ErrorCode}
-use Rattle.wt_proto.specs.declared.error.ErrorCode.TheVariants.{FrameUnexpected, ExcessiveLoad, Message}
+use Rattle.wt_wire.specs.declared.error.ErrorCode.{ErrorCode}
+use Rattle.wt_wire.specs.declared.error.ErrorCode.TheVariants.{FrameUnexpected, ExcessiveLoad, Message}
 use Rattle.wt_proto.specs.declared.response_walk.ResponseWalk.{ResponseWalk}
 use Rattle.wt_proto.specs.declared.response_walk.ResponseWalk.TheVariants.{Waiting, Response, Ended, Fault}
 use Rattle.wt_proto.specs.declared.session.BadStatus.{BadStatus}
-use Rattle.wt_proto.specs.declared.side.StreamEnd.{StreamEnd}
-use Rattle.wt_proto.specs.declared.side.StreamEnd.TheVariants.{Running, Fin, Reset}
+use Rattle.wt_wire.specs.declared.side.StreamEnd.{StreamEnd}
+use Rattle.wt_wire.specs.declared.side.StreamEnd.TheVariants.{Running, Fin, Reset}
 use Rattle.wt_proto.specs.declared.walk.Step.{Step}
-use Rattle.wt_proto.specs.FieldSection.{headers_of}
-use Rattle.wt_proto.specs.Frames as frames
-use Rattle.wt_proto.specs.HeaderList.{Fields}
+use Rattle.wt_wire.specs.FieldSection.{headers_of}
+use Rattle.wt_wire.specs.Frames as frames
+use Rattle.wt_proto.specs.FrameSteps.{decided, first_judged}
+use Rattle.wt_wire.specs.HeaderList.{Fields}
 use Rattle.wt_proto.specs.Responses.{response_of}
 use Rattle.wt_proto.specs.Walk.{walked}
 
@@ -33,7 +34,7 @@ response_judged (frames.Signal id) at = Fault FrameUnexpected
 response_judged (frames.Skipped kind) at = Fault FrameUnexpected
 
 unfoldable pub response_decides : ℕ → List ℕ → Step ℕ ResponseWalk
-response_decides at bytes = frames.decided (frames.first_judged response_judged at) (frames.frame_at frames.unread bytes)
+response_decides at bytes = decided (first_judged response_judged at) (frames.frame_at frames.unread bytes)
 
 abbrev pub or_waiting : StreamEnd → Option ResponseWalk → ResponseWalk
 or_waiting end (Some walk) = walk

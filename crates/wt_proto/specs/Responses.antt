@@ -1,25 +1,9 @@
 -- Responses: a list of fields with a status code (RFC 9114 section 4.3.2, RFC 9110 section 15).
-use Rattle.std.specs.Prelude.{ℕ, [], ◌∷◌, ◌+◌, ◌-◌, ◌*◌, ◌&&◌, Bool, nat_lt, List, Option, Some, None, Result, Ok, Err, codes, if◌then◌else◌}
+use Rattle.std.specs.Prelude.{ℕ, [], ◌∷◌, List, Option, Some, None, Result, Ok, Err, codes, if◌then◌else◌}
 use Rattle.wt_proto.specs.declared.session.BadStatus.{BadStatus}
-use Rattle.wt_proto.specs.HeaderList.{Fields, value_of, with_field}
+use Rattle.wt_wire.specs.HeaderList.{Fields, value_of, with_field}
+use Rattle.wt_wire.specs.Status.{status_code}
 use Rattle.std.specs.Str.{bytes_eq}
-
-abbrev pub is_digit : ℕ → Bool
-is_digit b = nat_lt 47 b && nat_lt b 58
-
--- the number of three decimal digits from 100 to 599
-abbrev pub code_of_digits : ℕ → ℕ → ℕ → Option ℕ
-code_of_digits a b c = if nat_lt 48 a && nat_lt a 54 && is_digit b && is_digit c then Some (100 * (a - 48) + 10 * (b - 48) + (c - 48)) else None
-
-abbrev pub status_code : List ℕ → Option ℕ
-status_code [] = None
-status_code (a ∷ []) = None
-status_code (a ∷ b ∷ []) = None
-status_code (a ∷ b ∷ c ∷ []) = code_of_digits a b c
-status_code (a ∷ b ∷ c ∷ d ∷ text) = None
-
-abbrev pub is_successful : ℕ → Bool
-is_successful code = nat_lt 199 code && nat_lt code 300
 
 -- the status code of a response
 abbrev pub code_in : Option (List ℕ) → Option ℕ

@@ -1,16 +1,17 @@
 -- The walk over a session's stream behind the frame that made the session stand, over all bytes and the end (draft-ietf-webtrans-http3, section 5; RFC 9297, section 3.2).
 use Rattle.std.specs.Prelude.{ℕ, List, [], Bool, true, false, Option, Some, None, Result, Ok, Err}
 use Rattle.wt_proto.specs.declared.capsule.CloseWebTransportSession.{CloseWebTransportSession}
-use Rattle.wt_proto.specs.declared.error.ErrorCode.{ErrorCode}
-use Rattle.wt_proto.specs.declared.error.ErrorCode.TheVariants.{FrameUnexpected, ExcessiveLoad, ClosedCriticalStream}
+use Rattle.wt_wire.specs.declared.error.ErrorCode.{ErrorCode}
+use Rattle.wt_wire.specs.declared.error.ErrorCode.TheVariants.{FrameUnexpected, ExcessiveLoad, ClosedCriticalStream}
 use Rattle.wt_proto.specs.declared.session_walk.SessionWalk.{SessionWalk}
 use Rattle.wt_proto.specs.declared.session_walk.SessionWalk.TheVariants as walks
-use Rattle.wt_proto.specs.declared.side.StreamEnd.{StreamEnd}
-use Rattle.wt_proto.specs.declared.side.StreamEnd.TheVariants.{Running, Fin, Reset}
+use Rattle.wt_wire.specs.declared.side.StreamEnd.{StreamEnd}
+use Rattle.wt_wire.specs.declared.side.StreamEnd.TheVariants.{Running, Fin, Reset}
 use Rattle.wt_proto.specs.declared.walk.Step.{Step}
 use Rattle.wt_proto.specs.declared.walk.Step.TheVariants.{Goes, Stops}
 use Rattle.wt_proto.specs.Capsule.{close_value_at, close_of}
-use Rattle.wt_proto.specs.Frames as frames
+use Rattle.wt_wire.specs.Frames as frames
+use Rattle.wt_proto.specs.FrameSteps.{decided}
 use Rattle.wt_proto.specs.Walk.{Reached, walked}
 
 -- a capsule that closes the session, or is a fault
@@ -36,7 +37,7 @@ session_effect state size (frames.Signal id) = Stops (walks.Fault FrameUnexpecte
 session_effect state size (frames.Skipped kind) = Goes tt size
 
 unfoldable pub session_decides : Unit {0} → List ℕ → Step (Unit {0}) SessionWalk
-session_decides state bytes = frames.decided (session_effect state) (frames.frame_at frames.unread bytes)
+session_decides state bytes = decided (session_effect state) (frames.frame_at frames.unread bytes)
 
 -- a clean end between frames closes the session with code 0 and an empty reason; every other end is a fault
 abbrev pub session_at_end : StreamEnd → Bool → SessionWalk

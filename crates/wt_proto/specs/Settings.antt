@@ -3,9 +3,9 @@ use Rattle.std.specs.Prelude.{ℕ, zero, suc, ◌+◌, ◌-◌, ◌==◌, ◌||�
 use Rattle.wt_proto.specs.declared.settings.SettingId.{SettingId}
 use Rattle.wt_proto.specs.declared.settings.SettingId.TheVariants.{QPackMaxTableCapacity, MaxFieldSectionSize, QPackBlockedStreams, EnableConnectProtocol, H3Datagram, EnableWebTransport, WebTransportMaxSessions}
 use Rattle.wt_proto.specs.declared.settings.Settings.{Settings}
-use Rattle.wt_proto.specs.declared.error.ErrorCode.{ErrorCode}
-use Rattle.wt_proto.specs.declared.error.ErrorCode.TheVariants as errors
-use Rattle.wt_proto.specs.Varint.{varint_at, varint_bytes}
+use Rattle.wt_wire.specs.declared.error.ErrorCode.{ErrorCode}
+use Rattle.wt_wire.specs.declared.error.ErrorCode.TheVariants as errors
+use Rattle.wt_wire.specs.Varint.{varint_at, varint_bytes}
 
 -- the known settings: RFC 9204 section 5, RFC 9114 section 7.2.4.1, RFC 9220 section 3, RFC 9297 section 2.1.1, and two of draft-ietf-webtrans-http3
 abbrev pub known_setting : ℕ → Option SettingId

@@ -4,8 +4,8 @@ use Rattle.wt_proto.specs.declared.stream_header.StreamKind.{StreamKind}
 use Rattle.wt_proto.specs.declared.stream_header.StreamKind.TheVariants.{Control, QPackEncoder, QPackDecoder, WebTransport, Exercise}
 use Rattle.wt_proto.specs.declared.verdict.Verdict.{Verdict}
 use Rattle.wt_proto.specs.declared.verdict.Verdict.TheVariants as verdicts
-use Rattle.wt_proto.specs.Frames.{is_exercise}
-use Rattle.wt_proto.specs.Varint.{varint_bytes}
+use Rattle.wt_wire.specs.Frames.{is_exercise}
+use Rattle.wt_wire.specs.Varint.{varint_bytes}
 
 -- the type on the wire
 abbrev pub stream_type : StreamKind → ℕ

@@ -1,11 +1,11 @@
 -- The verdict of a peer's unidirectional stream, over all its bytes and its end (RFC 9114, section 6.2; RFC 9204, section 4.2; draft-ietf-webtrans-http3, section 4.2).
 use Rattle.std.specs.Prelude.{ℕ, ◌+◌, ◌%◌, List, drop, Option, Some, None, ◌==◌, if◌then◌else◌, Bool, true, false}
-use Rattle.wt_proto.specs.declared.error.ErrorCode.TheVariants.{Id}
-use Rattle.wt_proto.specs.declared.side.StreamEnd.{StreamEnd}
-use Rattle.wt_proto.specs.declared.side.StreamEnd.TheVariants.{Running, Fin, Reset}
+use Rattle.wt_wire.specs.declared.error.ErrorCode.TheVariants.{Id}
+use Rattle.wt_wire.specs.declared.side.StreamEnd.{StreamEnd}
+use Rattle.wt_wire.specs.declared.side.StreamEnd.TheVariants.{Running, Fin, Reset}
 use Rattle.wt_proto.specs.declared.verdict.Verdict.{Verdict}
 use Rattle.wt_proto.specs.declared.verdict.Verdict.TheVariants.{Incomplete, WebTransport, Control, Encoder, Decoder, Request, Refused, Dropped, Fault}
-use Rattle.wt_proto.specs.Varint.{varint_at}
+use Rattle.wt_wire.specs.Varint.{varint_at}
 
 -- the bytes end inside the header: more may come, or never
 abbrev pub cut : StreamEnd → Verdict

@@ -1,18 +1,18 @@
 //! The verdict of a bidirectional stream.
 ghost use Rattle.std.specs.Prelude.{◌≡◌, ◌<◌, ◌≤◌, ◌+◌, ◌^◌, IfOk, length};
 ghost use Rattle.wt_proto.specs.Bi.{bi_decides, bi_verdict_of, headers_verdict, or_cut, parsed_verdict};
-ghost use Rattle.wt_proto.specs.FieldSection.{headers_of};
+ghost use Rattle.wt_wire.specs.FieldSection.{headers_of};
 ghost use Rattle.wt_proto.specs.Requests.{request_of};
 
-use crate::error::{ErrorCode, OutOfMemory};
-use crate::front::{Front, read_front};
-use crate::headers::Headers;
 use crate::session::{HeadersParseError, SessionRequest};
-use crate::side::StreamEnd;
-use crate::varint::read_varint;
 use crate::verdict::{Verdict, cut_by, of_session};
 use crate::walk::Step;
 use std::alloc::Global;
+use wt_wire::error::{ErrorCode, OutOfMemory};
+use wt_wire::front::{Front, read_front};
+use wt_wire::headers::Headers;
+use wt_wire::side::StreamEnd;
+use wt_wire::varint::read_varint;
 
 /// What a request in front of this offset says.
 fn of_request(headers: Headers, at: usize) -> Verdict

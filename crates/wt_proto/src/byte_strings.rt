@@ -1,9 +1,9 @@
 //! Byte strings that go out the same each time, each a function whose contract is an equation: the
 //! bytes are those that the writers give.
-#![tactic(auto, unfolding(crate::specs::Varint::varint_bytes, crate::specs::PrefixedInteger::prefixed_bytes, crate::specs::PrefixedInteger::prefixed_at, crate::specs::PrefixedInteger::continuation_at, crate::specs::FieldSection::string_at, crate::specs::FieldSection::line_at, crate::specs::FieldSection::lines_from, crate::specs::Utf8::is_text_from, crate::specs::Requests::request_of))]
+#![tactic(auto, unfolding(wt_wire::specs::Varint::varint_bytes, wt_wire::specs::PrefixedInteger::prefixed_bytes, wt_wire::specs::PrefixedInteger::prefixed_at, wt_wire::specs::PrefixedInteger::continuation_at, wt_wire::specs::FieldSection::string_at, wt_wire::specs::FieldSection::line_at, wt_wire::specs::FieldSection::lines_from, wt_wire::specs::Utf8::is_text_from, crate::specs::Requests::request_of))]
 
 ghost use Rattle.std.specs.Prelude.{◌≡◌, ◌∷◌, [], Ok, codes};
-ghost use Rattle.wt_proto.specs.FieldSection.{headers_of, section_bytes};
+ghost use Rattle.wt_wire.specs.FieldSection.{headers_of, section_bytes};
 ghost use Rattle.wt_proto.specs.FixedBytes.{headers_frame_bytes, own_control_bytes, response_bytes};
 ghost use Rattle.wt_proto.specs.Requests.{request_fields, request_of};
 

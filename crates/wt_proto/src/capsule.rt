@@ -3,15 +3,15 @@
 ghost use Rattle.std.specs.Prelude.{◌≡◌, ◌<◌, ◌≤◌, ◌^◌, length, IfOk, IfErr};
 ghost use Rattle.std.specs.Option.{option_copied};
 ghost use Rattle.wt_proto.specs.Capsule.{capsule_with_size, close_of, close_value_at};
-ghost use Rattle.wt_proto.specs.Varint.{varint_at};
-ghost use Rattle.wt_proto.specs.declared.error.ErrorCode.TheVariants as errors;
+ghost use Rattle.wt_wire.specs.Varint.{varint_at};
+ghost use Rattle.wt_wire.specs.declared.error.ErrorCode.TheVariants as errors;
 
-use crate::error::{ErrorCode, OutOfMemory};
-use crate::text::Text;
-use crate::utf8::from_utf8;
-use crate::varint::{VarInt, read_varint};
 use std::alloc::Global;
 use std::marker::Model;
+use wt_wire::error::{ErrorCode, OutOfMemory};
+use wt_wire::text::Text;
+use wt_wire::utf8::from_utf8;
+use wt_wire::varint::{VarInt, read_varint};
 
 /// What a capsule CLOSE_WEBTRANSPORT_SESSION says (draft-ietf-webtrans-http3, section 5).
 /// Contracts see a record of the code and the reason.

@@ -2,14 +2,14 @@
 ghost use Rattle.std.specs.Prelude.{◌≡◌, ◌≤◌, ◌<◌, ◌^◌, ℕ, Bool, length, Ok, None};
 ghost use Rattle.wt_proto.specs.ControlWalk.{control_decides, control_end, control_walk_of, on_settings, on_skipped};
 
-use crate::error::{ErrorCode, OutOfMemory};
-use crate::exercise::is_exercise;
-use crate::front::{Front, read_front};
 use crate::settings::Settings;
-use crate::side::StreamEnd;
-use crate::varint::VarInt;
 use crate::walk::Step;
 use std::alloc::Global;
+use wt_wire::error::{ErrorCode, OutOfMemory};
+use wt_wire::exercise::is_exercise;
+use wt_wire::front::{Front, read_front};
+use wt_wire::side::StreamEnd;
+use wt_wire::varint::VarInt;
 
 /// What the peer's control stream said up to now: its settings, and the fault with which it ended.
 /// Settings that came before a fault stay.

@@ -1,13 +1,13 @@
 //! HTTP/3 datagrams (RFC 9297, section 2.1).
 ghost use Rattle.std.specs.Prelude.{◌≡◌, ◌++◌, length, IfErr, OnOk, Ok};
 ghost use Rattle.wt_proto.specs.Datagram.{behind_quarter, datagram_bytes, datagram_of};
-ghost use Rattle.wt_proto.specs.Varint.{varint_at, varint_bytes};
-ghost use Rattle.wt_proto.specs.declared.error.ErrorCode.TheVariants as errors;
+ghost use Rattle.wt_wire.specs.Varint.{varint_at, varint_bytes};
+ghost use Rattle.wt_wire.specs.declared.error.ErrorCode.TheVariants as errors;
 
-use crate::error::{ErrorCode, OutOfMemory};
-use crate::ids::QStreamId;
-use crate::varint::{read_varint, write_varint};
 use std::marker::Model;
+use wt_wire::error::{ErrorCode, OutOfMemory};
+use wt_wire::ids::QStreamId;
+use wt_wire::varint::{read_varint, write_varint};
 
 /// An HTTP/3 datagram (RFC 9297, section 2.1): the quarter of the id of the stream that it belongs
 /// to, and a payload. Contracts see the pair of these.
@@ -65,7 +65,7 @@ impl<'a> H3Datagram<'a> {
     }
 
     /// How many bytes stand before the payload.
-    #[tactic(auto, unfolding(crate::specs::Varint::varint_bytes))]
+    #[tactic(auto, unfolding(wt_wire::specs::Varint::varint_bytes))]
     pub fn header_size(id: QStreamId) -> usize
         ensures { result ≡ length (varint_bytes id) }
     {

@@ -6,8 +6,8 @@ ghost use Rattle.wt_proto.specs.ResponseWalk.{is_answered, response_walk_of};
 ghost use Rattle.wt_proto.specs.SessionWalk.{is_over, session_walk_of};
 ghost use Rattle.wt_proto.specs.Uni.{is_final, uni_verdict_of};
 ghost use Rattle.wt_proto.specs.declared.settings.Settings.{Settings};
-ghost use Rattle.wt_proto.specs.declared.side.StreamEnd.{StreamEnd};
-ghost use Rattle.wt_proto.specs.declared.side.StreamEnd.TheVariants.{Running};
+ghost use Rattle.wt_wire.specs.declared.side.StreamEnd.{StreamEnd};
+ghost use Rattle.wt_wire.specs.declared.side.StreamEnd.TheVariants.{Running};
 
 /// A verdict of a unidirectional stream that isn't Incomplete stays under more bytes and under an
 /// end.

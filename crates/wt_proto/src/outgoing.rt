@@ -2,10 +2,10 @@
 ghost use Rattle.std.specs.Prelude.{◌≡◌, IfOk};
 ghost use Rattle.wt_proto.specs.FixedBytes.{own_control_bytes};
 
-use crate::error::OutOfMemory;
 use crate::settings::Settings;
 use crate::stream_header::StreamHeader;
 use std::alloc::Global;
+use wt_wire::error::OutOfMemory;
 
 /// What this side's control stream begins with: its type, and the frame of its settings
 /// (RFC 9114, section 6.2.1).

@@ -1,16 +1,16 @@
 //! The walk over a client's session stream up to the response.
 ghost use Rattle.std.specs.Prelude.{◌≡◌, ◌<◌, ◌+◌, ◌^◌, IfOk, None, length};
-ghost use Rattle.wt_proto.specs.FieldSection.{headers_of};
+ghost use Rattle.wt_wire.specs.FieldSection.{headers_of};
 ghost use Rattle.wt_proto.specs.ResponseWalk.{headers_response, or_waiting, parsed_response, response_decides, response_walk_of};
 ghost use Rattle.wt_proto.specs.Responses.{response_of};
 
-use crate::error::{ErrorCode, OutOfMemory};
-use crate::front::{Front, read_front};
-use crate::headers::Headers;
 use crate::session::SessionResponse;
-use crate::side::StreamEnd;
 use crate::walk::Step;
 use std::alloc::Global;
+use wt_wire::error::{ErrorCode, OutOfMemory};
+use wt_wire::front::{Front, read_front};
+use wt_wire::headers::Headers;
+use wt_wire::side::StreamEnd;
 
 /// What a server answered up to now.
 #[derive(Debug, Drop)]

@@ -1,8 +1,8 @@
 //! What the definitions say of bytes that come from outside: worked rows, each a function whose
 //! contract is the answers.
-#![tactic(auto, unfolding(crate::specs::Varint::varint_at, crate::specs::Varint::varint_bytes, crate::specs::Uni::uni_verdict_of, crate::specs::Frames::frame_at, crate::specs::Bi::bi_decides, crate::specs::Bi::bi_verdict_of, crate::specs::ControlWalk::control_decides, crate::specs::ControlWalk::control_walk_of, crate::specs::SessionWalk::session_decides, crate::specs::SessionWalk::session_walk_of, crate::specs::ResponseWalk::response_decides, crate::specs::ResponseWalk::response_walk_of, crate::specs::Settings::pairs_from, crate::specs::Settings::pair_at, crate::specs::Settings::with_pair, crate::specs::Capsule::close_value_at, crate::specs::PrefixedInteger::prefixed_at, crate::specs::PrefixedInteger::prefixed_bytes, crate::specs::PrefixedInteger::continuation_at, crate::specs::FieldSection::string_at, crate::specs::FieldSection::line_at, crate::specs::FieldSection::lines_from, crate::specs::Utf8::is_text_from, crate::specs::Requests::request_of, crate::specs::Responses::response_of))]
+#![tactic(auto, unfolding(wt_wire::specs::Varint::varint_at, wt_wire::specs::Varint::varint_bytes, crate::specs::Uni::uni_verdict_of, wt_wire::specs::Frames::frame_at, crate::specs::Bi::bi_decides, crate::specs::Bi::bi_verdict_of, crate::specs::ControlWalk::control_decides, crate::specs::ControlWalk::control_walk_of, crate::specs::SessionWalk::session_decides, crate::specs::SessionWalk::session_walk_of, crate::specs::ResponseWalk::response_decides, crate::specs::ResponseWalk::response_walk_of, crate::specs::Settings::pairs_from, crate::specs::Settings::pair_at, crate::specs::Settings::with_pair, crate::specs::Capsule::close_value_at, wt_wire::specs::PrefixedInteger::prefixed_at, wt_wire::specs::PrefixedInteger::prefixed_bytes, wt_wire::specs::PrefixedInteger::continuation_at, wt_wire::specs::FieldSection::string_at, wt_wire::specs::FieldSection::line_at, wt_wire::specs::FieldSection::lines_from, wt_wire::specs::Utf8::is_text_from, crate::specs::Requests::request_of, crate::specs::Responses::response_of))]
 
-ghost use Rattle.std.specs.Prelude.{◌≡◌, ◌∷◌, ◌^◌, ◌-◌, [], Some, None, codes};
+ghost use Rattle.std.specs.Prelude.{◌≡◌, ◌∷◌, [], Some, None, codes};
 ghost use Rattle.wt_proto.specs.Bi.{bi_verdict_of};
 ghost use Rattle.wt_proto.specs.ControlWalk.{control_walk_of};
 ghost use Rattle.wt_proto.specs.FixedBytes.{headers_frame_bytes, response_bytes};
@@ -12,24 +12,11 @@ ghost use Rattle.wt_proto.specs.Responses.{status_fields};
 ghost use Rattle.wt_proto.specs.SessionWalk.{session_walk_of};
 ghost use Rattle.wt_proto.specs.Settings.{no_settings};
 ghost use Rattle.wt_proto.specs.Uni.{uni_verdict_of};
-ghost use Rattle.wt_proto.specs.Varint.{varint_at, varint_bytes};
-ghost use Rattle.wt_proto.specs.declared.error.ErrorCode.TheVariants as errors;
+ghost use Rattle.wt_wire.specs.declared.error.ErrorCode.TheVariants as errors;
 ghost use Rattle.wt_proto.specs.declared.response_walk.ResponseWalk.TheVariants as responses;
 ghost use Rattle.wt_proto.specs.declared.session_walk.SessionWalk.TheVariants as sessions;
-ghost use Rattle.wt_proto.specs.declared.side.StreamEnd.TheVariants.{Running, Fin};
+ghost use Rattle.wt_wire.specs.declared.side.StreamEnd.TheVariants.{Running, Fin};
 ghost use Rattle.wt_proto.specs.declared.verdict.Verdict.TheVariants as verdicts;
-
-/// Spellings of integers, at the bounds of each length (RFC 9000, section 16 and appendix A.1).
-pub fn spellings()
-    ensures one { varint_bytes 63 ≡ 0x3f ∷ [] }
-    ensures two_least { varint_bytes 64 ≡ 0x40 ∷ 0x40 ∷ [] }
-    ensures two_most { varint_bytes 16383 ≡ 0x7f ∷ 0xff ∷ [] }
-    ensures four_least { varint_bytes 16384 ≡ 0x80 ∷ 0x00 ∷ 0x40 ∷ 0x00 ∷ [] }
-    ensures eight_most { varint_bytes (2 ^ 62 - 1) ≡ 0xff ∷ 0xff ∷ 0xff ∷ 0xff ∷ 0xff ∷ 0xff ∷ 0xff ∷ 0xff ∷ [] }
-    ensures longer { varint_at (0x40 ∷ 0x25 ∷ []) ≡ Some (37, 2) }
-    ensures eight { varint_at (0xc2 ∷ 0x19 ∷ 0x7c ∷ 0x5e ∷ 0xff ∷ 0x14 ∷ 0xe8 ∷ 0x8c ∷ []) ≡ Some (151288809941952652, 8) }
-    ensures cut { varint_at (0x9d ∷ 0x7f ∷ 0x3e ∷ []) ≡ None }
-{}
 
 /// Verdicts of unidirectional streams.
 pub fn uni_rows()

@@ -4,18 +4,18 @@ ghost use Rattle.std.specs.Option.{option_copied};
 ghost use Rattle.std.specs.Str.{bytes_eq};
 ghost use Rattle.wt_proto.specs.Requests.{is_for_session, is_reserved, is_value, request_fields, request_of, request_with};
 ghost use Rattle.wt_proto.specs.Responses.{response_of, status_fields, status_of, with_added};
-ghost use Rattle.wt_proto.specs.FieldSection.{AreShort, headers_of, section_bytes};
-ghost use Rattle.wt_proto.specs.HeaderList.{value_of, with_field};
-ghost use Rattle.wt_proto.specs.declared.frame.FrameKind.TheVariants as kinds;
+ghost use Rattle.wt_wire.specs.FieldSection.{AreShort, headers_of, section_bytes};
+ghost use Rattle.wt_wire.specs.HeaderList.{value_of, with_field};
+ghost use Rattle.wt_wire.specs.declared.frame.FrameKind.TheVariants as kinds;
 ghost use Rattle.wt_proto.specs.declared.session.HeadersParseError.TheVariants as errors;
 
-use crate::error::OutOfMemory;
-use crate::frame::Frame;
-use crate::header_list::HeaderList;
-use crate::headers::Headers;
-use crate::status::StatusCode;
 use std::alloc::Global;
 use std::marker::Model;
+use wt_wire::error::OutOfMemory;
+use wt_wire::frame::Frame;
+use wt_wire::header_list::HeaderList;
+use wt_wire::headers::Headers;
+use wt_wire::status::StatusCode;
 
 /// Why fields aren't a request for a session.
 #[derive(Clone, Copy, Debug, PartialEq, Eq)]

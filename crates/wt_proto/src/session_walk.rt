@@ -4,13 +4,13 @@ ghost use Rattle.wt_proto.specs.SessionWalk.{on_capsule, session_at_end, session
 ghost use Rattle.wt_proto.specs.Capsule.{close_value_at};
 
 use crate::capsule::{CloseWebTransportSession, find_close};
-use crate::error::{ErrorCode, OutOfMemory};
-use crate::front::{Front, read_front};
-use crate::side::StreamEnd;
-use crate::text::Text;
-use crate::varint::VarInt;
 use crate::walk::Step;
 use std::alloc::Global;
+use wt_wire::error::{ErrorCode, OutOfMemory};
+use wt_wire::front::{Front, read_front};
+use wt_wire::side::StreamEnd;
+use wt_wire::text::Text;
+use wt_wire::varint::VarInt;
 
 /// What a session's stream said up to now.
 #[derive(Debug, PartialEq, Eq, Drop)]

@@ -3,15 +3,15 @@ ghost use Rattle.std.specs.Prelude.{◌≡◌, ◌↔◌, ◌≤◌, ◌++◌, l
 ghost use Rattle.std.specs.Option.{option_map};
 ghost use Rattle.wt_proto.specs.Settings.{AreSmall, IsSmall, Pair, known_setting, no_settings, pair_at, pairs_from, setting, setting_bytes, settings_bytes, settings_of, with_pair, with_setting};
 ghost use Rattle.wt_proto.specs.FixedBytes.{own_settings};
-ghost use Rattle.wt_proto.specs.declared.error.ErrorCode.TheVariants as errors;
-ghost use Rattle.wt_proto.specs.declared.frame.FrameKind.TheVariants as kinds;
+ghost use Rattle.wt_wire.specs.declared.error.ErrorCode.TheVariants as errors;
+ghost use Rattle.wt_wire.specs.declared.frame.FrameKind.TheVariants as kinds;
 ghost use Rattle.wt_proto.specs.declared.settings.SettingId.TheVariants as ids;
 
-use crate::error::{ErrorCode, OutOfMemory};
-use crate::frame::Frame;
-use crate::varint::{VarInt, read_varint, write_varint};
 use std::alloc::Global;
 use std::marker::Model;
+use wt_wire::error::{ErrorCode, OutOfMemory};
+use wt_wire::frame::Frame;
+use wt_wire::varint::{VarInt, read_varint, write_varint};
 
 /// The settings that are known here.
 #[derive(Clone, Copy, Debug, PartialEq, Eq)]

@@ -2,13 +2,13 @@
 ghost use Rattle.std.specs.Prelude.{◌≡◌, ◌++◌, ◌<◌, ◌^◌, OnOk, Some, None, List, ℕ};
 ghost use Rattle.wt_proto.specs.StreamHeader.{header_bytes, header_kind, header_verdict, kind_of_type, stream_type};
 ghost use Rattle.wt_proto.specs.Uni.{uni_verdict_of};
-ghost use Rattle.wt_proto.specs.declared.side.StreamEnd.{StreamEnd};
+ghost use Rattle.wt_wire.specs.declared.side.StreamEnd.{StreamEnd};
 
-use crate::error::OutOfMemory;
-use crate::exercise::is_exercise;
-use crate::ids::{SessionId, StreamId};
-use crate::varint::{VarInt, write_varint};
 use std::marker::Model;
+use wt_wire::error::OutOfMemory;
+use wt_wire::exercise::is_exercise;
+use wt_wire::ids::{SessionId, StreamId};
+use wt_wire::varint::{VarInt, write_varint};
 
 /// What a unidirectional stream is for.
 #[derive(Clone, Copy, Debug, PartialEq, Eq)]

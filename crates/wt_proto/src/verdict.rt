@@ -2,11 +2,11 @@
 ghost use Rattle.std.specs.Prelude.{◌≡◌};
 ghost use Rattle.wt_proto.specs.Uni.{uni_verdict_of, session_verdict, cut};
 
-use crate::error::ErrorCode;
-use crate::ids::{SessionId, StreamId};
 use crate::session::SessionRequest;
-use crate::side::StreamEnd;
-use crate::varint::{VarInt, read_varint};
+use wt_wire::error::ErrorCode;
+use wt_wire::ids::{SessionId, StreamId};
+use wt_wire::side::StreamEnd;
+use wt_wire::varint::{VarInt, read_varint};
 
 /// What the front of a peer's stream says. A number is the offset of the first byte behind what was
 /// read.

@@ -1,76 +1,20 @@
-//! What no clause says: that each call that takes memory gives its answer where memory is ample,
-//! and how values are shown.
+//! What no clause says: that each call that takes memory gives its answer where memory is ample.
 use crate::alpn::WEBTRANSPORT_ALPN;
-use crate::bi::bi_verdict;
 use crate::control_walk::{ControlWalk, control_walk};
-use crate::error::{ErrorCode, OutOfMemory};
-use crate::frame::{Frame, FrameKind};
-use crate::ids::{SessionId, StreamId};
 use crate::outgoing::control_stream_head;
-use crate::response_walk::{ResponseWalk, response_walk};
-use crate::session_walk::{SessionWalk, session_walk};
-use crate::side::StreamEnd;
 use crate::stream_header::StreamHeader;
-use crate::varint::{VarInt, write_varint};
-use crate::verdict::Verdict;
 use std::test::Fail;
-
-const REQUEST: &[u8] =
-    b"\x01\x40\x50\x00\x00\x27\x03:authority\x01h\x27\x00:method\x07CONNECT\x25:path\x01/\x27\x02:protocol\x0cwebtransport\x27\x00:scheme\x05https";
-
-const RESPONSE: &[u8] = b"\x01\x0f\x00\x00\x27\x00:status\x03200";
+use wt_wire::error::OutOfMemory;
+use wt_wire::ids::{SessionId, StreamId};
+use wt_wire::side::StreamEnd;
+use wt_wire::varint::VarInt;
 
 const OWN_SETTINGS: &[u8] =
     b"\x00\x04\x16\x01\x00\x07\x00\x08\x01\x33\x01\xab\x60\x37\x42\x01\xc0\x00\x00\x00\xc6\x71\x70\x6a\x01";
 
-const CLOSE: &[u8] = b"\x00\x0a\x68\x43\x07\x00\x00\x00\x07bye";
-
 fn session_four() -> Result<SessionId, &'static str> {
     let id = StreamId::new(VarInt::from_u32(4));
     SessionId::try_from_session_stream(id).ok_or("no session")
-}
-
-#[test]
-fn integers_are_written(rt: HostRuntime) -> Result<(), Fail> {
-    let mut out = Vec::new(rt.alloc());
-    write_varint(VarInt::MAX, &mut out)?;
-    write_varint(VarInt::from_u32(16384), &mut out)?;
-    assert_eq!(rt;
-        out.as_slice(),
-        b"\xff\xff\xff\xff\xff\xff\xff\xff\x80\x00\x40\x00".as_slice()
-    );
-    Ok(())
-}
-
-#[test]
-fn values_are_shown(rt: HostRuntime) -> Result<(), Fail> {
-    assert_eq!(rt; ErrorCode::Id.to_string(rt.alloc())?.as_str(), "Id");
-    assert_eq!(rt; session_four()?.to_string(rt.alloc())?.as_str(), "4");
-    Ok(())
-}
-
-#[test]
-fn want_of_memory_is_shown(rt: HostRuntime) -> Result<(), Fail> {
-    assert_eq!(rt;
-        OutOfMemory.to_string(rt.alloc())?.as_str(),
-        "out of memory"
-    );
-    assert_eq!(rt; WEBTRANSPORT_ALPN.as_slice(), b"h3".as_slice());
-    Ok(())
-}
-
-fn end_of_request(verdict: Verdict) -> Option<usize> {
-    match verdict {
-        Verdict::Request(_, at) => Some(at),
-        _ => None,
-    }
-}
-
-#[test]
-fn requests_are_read(rt: HostRuntime) -> Result<(), Fail> {
-    let verdict = bi_verdict(rt.alloc(), REQUEST, StreamEnd::Running)?;
-    assert_eq!(rt; end_of_request(verdict), Some(83));
-    Ok(())
 }
 
 fn has_settings(walk: Result<ControlWalk, OutOfMemory>) -> bool {
@@ -84,36 +28,6 @@ fn has_settings(walk: Result<ControlWalk, OutOfMemory>) -> bool {
 fn settings_are_read(rt: HostRuntime) -> Result<(), Fail> {
     let walk = control_walk(rt.alloc(), &OWN_SETTINGS[1..], StreamEnd::Running);
     assert!(rt; has_settings(walk));
-    Ok(())
-}
-
-fn is_bye(walk: SessionWalk) -> bool {
-    match walk {
-        SessionWalk::Closed(code, reason) => {
-            code.into_inner() == 7 && reason.as_str().as_bytes() == b"bye".as_slice()
-        }
-        _ => false,
-    }
-}
-
-#[test]
-fn closes_are_read(rt: HostRuntime) -> Result<(), Fail> {
-    let walk = session_walk(rt.alloc(), CLOSE, StreamEnd::Running)?;
-    assert!(rt; is_bye(walk));
-    Ok(())
-}
-
-fn end_of_response(walk: ResponseWalk) -> Option<usize> {
-    match walk {
-        ResponseWalk::Response(_, at) => Some(at),
-        _ => None,
-    }
-}
-
-#[test]
-fn responses_are_read(rt: HostRuntime) -> Result<(), Fail> {
-    let walk = response_walk(rt.alloc(), RESPONSE, StreamEnd::Running)?;
-    assert_eq!(rt; end_of_response(walk), Some(17));
     Ok(())
 }
 
@@ -132,33 +46,6 @@ fn headers_are_written(rt: HostRuntime) -> Result<(), Fail> {
 }
 
 #[test]
-fn frames_are_written(rt: HostRuntime) -> Result<(), Fail> {
-    let mut out = Vec::new(rt.alloc());
-    let frame = Frame::new_data(rt.alloc(), b"ab".as_slice())?;
-    frame.write(&mut out)?;
-    assert_eq!(rt; out.as_slice(), b"\x00\x02ab".as_slice());
-    Ok(())
-}
-
-#[test]
-fn signals_are_written(rt: HostRuntime) -> Result<(), Fail> {
-    let mut out = Vec::new(rt.alloc());
-    let signal = Frame::new_webtransport(rt.alloc(), session_four()?);
-    signal.write(&mut out)?;
-    assert_eq!(rt; out.as_slice(), b"\x40\x41\x04".as_slice());
-    Ok(())
-}
-
-#[test]
-fn frames_of_each_kind_are_made(rt: HostRuntime) -> Result<(), Fail> {
-    let headers = Frame::new_headers(rt.alloc(), b"".as_slice())?;
-    let settings = Frame::new_settings(rt.alloc(), b"".as_slice())?;
-    let exercise = Frame::new_exercise(rt.alloc(), VarInt::from_u32(0x21), b"".as_slice())?;
-    assert_eq!(rt; headers.kind(), FrameKind::Headers);
-    assert_eq!(rt; settings.kind(), FrameKind::Settings);
-    assert_eq!(rt;
-        exercise.kind(),
-        FrameKind::Exercise(VarInt::from_u32(0x21))
-    );
-    Ok(())
+fn the_protocol_is_named(rt: HostRuntime) {
+    assert_eq!(rt; WEBTRANSPORT_ALPN.as_slice(), b"h3".as_slice());
 }

@@ -1,10 +1,10 @@
 -- What the transport's facts say: the streams, their contents and ends, credit, and what may come next (RFC 9000).
 use Rattle.std.specs.Prelude.{ℕ, suc, ◌/◌, ◌%◌, ◌^◌, List, [], ◌∷◌, ◌++◌, Option, Some, None, Bool, true, false, nat_lt, ◌==◌, ◌||◌, ◌&&◌, not, if◌then◌else◌}
 use Rattle.std.specs.List.{list_any}
-use Rattle.wt_proto.specs.declared.side.Side.{Side}
-use Rattle.wt_proto.specs.declared.side.Side.TheVariants.{Client, Server}
-use Rattle.wt_proto.specs.declared.side.StreamEnd.{StreamEnd}
-use Rattle.wt_proto.specs.declared.side.StreamEnd.TheVariants.{Running, Fin, Reset}
+use Rattle.wt_wire.specs.declared.side.Side.{Side}
+use Rattle.wt_wire.specs.declared.side.Side.TheVariants.{Client, Server}
+use Rattle.wt_wire.specs.declared.side.StreamEnd.{StreamEnd}
+use Rattle.wt_wire.specs.declared.side.StreamEnd.TheVariants.{Running, Fin, Reset}
 use Rattle.wt_seam.specs.declared.action.Action.{Action}
 use Rattle.wt_seam.specs.declared.action.Action.TheVariants as actions
 use Rattle.wt_seam.specs.History.{Event, Connected, PeerUni, PeerBi, Byte, Came, Out, Did, Past, came, outs}

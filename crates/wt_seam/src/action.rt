@@ -4,8 +4,8 @@ ghost use Rattle.std.specs.Prelude.{◌≡◌, ◌↔◌, ◌++◌, ◌∷◌, [
 use crate::piece::Piece;
 use std::alloc::Global;
 use std::marker::Model;
-use wt_proto::error::OutOfMemory;
-use wt_proto::ids::StreamId;
+use wt_wire::error::OutOfMemory;
+use wt_wire::ids::StreamId;
 
 /// What the transport is told to do.
 #[derive(Debug, Drop)]

@@ -4,9 +4,9 @@ use crate::piece::Piece;
 use crate::turn::{Call, DatagramFact, Turn, Turns};
 use std::alloc::Global;
 use std::process::Abort;
-use wt_proto::header_list::HeaderList;
-use wt_proto::ids::StreamId;
-use wt_proto::varint::VarInt;
+use wt_wire::header_list::HeaderList;
+use wt_wire::ids::StreamId;
+use wt_wire::varint::VarInt;
 
 fn stream(id: u32) -> StreamId {
     StreamId::new(VarInt::from_u32(id))

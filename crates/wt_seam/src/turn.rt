@@ -4,9 +4,9 @@ ghost use Rattle.std.specs.Prelude.{◌≡◌, ◌↔◌, ◌++◌, ◌∷◌, [
 use crate::piece::Piece;
 use std::alloc::Global;
 use std::marker::Model;
-use wt_proto::error::OutOfMemory;
-use wt_proto::header_list::HeaderList;
-use wt_proto::ids::StreamId;
+use wt_wire::error::OutOfMemory;
+use wt_wire::header_list::HeaderList;
+use wt_wire::ids::StreamId;
 
 /// What the transport tells about datagrams (RFC 9221).
 #[derive(Clone, Copy, PartialEq, Eq, Debug)]
@@ -51,7 +51,7 @@ impl Call {
     }
 
     /// Whether both are the same call with the same fields.
-    #[tactic(auto, using(wt_proto::proofs::EqualityLaws::fields_decide))]
+    #[tactic(auto, using(wt_wire::proofs::EqualityLaws::fields_decide))]
     pub fn is_equal(&self, other: &Call) -> bool
         ensures { IsTrue result ↔ (self.now ≡ other.now) }
     {

@@ -2,8 +2,8 @@
 use Rattle.std.proofs.Common.{arith, ◌≡◌, ◌≤◌, ℕ, zero, suc, true, false, cond, List, [], ◌∷◌, length, take, refl, sym, subst, ap, ◌∙◌}
 use Rattle.std.specs.Prelude.{Some, None, not, Result, Ok, Err}
 use Rattle.std.specs.List.{list_any}
-use Rattle.wt_proto.specs.declared.side.Side.{Side}
-use Rattle.wt_proto.specs.declared.side.Side.TheVariants.{Client, Server}
+use Rattle.wt_wire.specs.declared.side.Side.{Side}
+use Rattle.wt_wire.specs.declared.side.Side.TheVariants.{Client, Server}
 use Rattle.wt_core.specs.declared.answer.Answer.{Answer}
 use Rattle.wt_trace.specs.declared.script.Script.{Script}
 use Rattle.wt_trace.specs.declared.script.ScriptRefused.{ScriptRefused}

@@ -1,6 +1,6 @@
 -- Recorded sessions: what the definitions give is what was recorded. Made by tools/equations.
 use Rattle.std.proofs.Common.{◌≡◌, List, [], ◌∷◌, refl, Some}
-use Rattle.wt_proto.specs.declared.side.Side.TheVariants.{Server}
+use Rattle.wt_wire.specs.declared.side.Side.TheVariants.{Server}
 use Rattle.wt_seam.specs.declared.turn.DatagramFact.TheVariants as facts
 use Rattle.wt_seam.specs.declared.turn.Call.TheVariants as calls
 use Rattle.wt_seam.specs.declared.turn.Turn.{Turn}
@@ -12,14 +12,14 @@ use Rattle.wt_core.specs.declared.answer.Reply.TheVariants as replies
 use Rattle.wt_core.specs.declared.answer.Answer.{Answer}
 use Rattle.wt_proto.specs.Bi.{bi_decides, bi_verdict_of}
 use Rattle.wt_proto.specs.ControlWalk.{control_decides, control_walk_of}
-use Rattle.wt_proto.specs.FieldSection.{string_at, line_at, lines_from}
-use Rattle.wt_proto.specs.Frames.{frame_at}
-use Rattle.wt_proto.specs.PrefixedInteger.{continuation_at, prefixed_at, prefixed_bytes}
+use Rattle.wt_wire.specs.FieldSection.{string_at, line_at, lines_from}
+use Rattle.wt_wire.specs.Frames.{frame_at}
+use Rattle.wt_wire.specs.PrefixedInteger.{continuation_at, prefixed_at, prefixed_bytes}
 use Rattle.wt_proto.specs.Requests.{request_of}
 use Rattle.wt_proto.specs.Settings.{with_pair, pair_at, pairs_from}
 use Rattle.wt_proto.specs.Uni.{uni_verdict_of}
-use Rattle.wt_proto.specs.Utf8.{is_text_from}
-use Rattle.wt_proto.specs.Varint.{varint_at, varint_bytes}
+use Rattle.wt_wire.specs.Utf8.{is_text_from}
+use Rattle.wt_wire.specs.Varint.{varint_at, varint_bytes}
 use Rattle.wt_core.specs.Built.{one_request}
 use Rattle.wt_core.specs.Driver.{seen, moment}
 use Rattle.wt_core.specs.Next.{called, run, Run, Stop, Finished, AtUnlawful, AtUnbuilt}

@@ -1,7 +1,7 @@
 -- A run goes on from the answers so far.
 use Rattle.std.proofs.Common.{◌≡◌, Bool, true, false, List, [], ◌∷◌, ◌++◌, length, take, refl, sym, subst, ap, ◌∙◌, append-nil, append_assoc}
 use Rattle.std.specs.Prelude.{IsTrue, ◌&&◌}
-use Rattle.wt_proto.specs.declared.side.Side.{Side}
+use Rattle.wt_wire.specs.declared.side.Side.{Side}
 use Rattle.wt_seam.specs.declared.turn.Turn.{Turn}
 use Rattle.wt_core.specs.declared.answer.Answer.{Answer}
 use Rattle.wt_seam.specs.History.{Past}

@@ -11,7 +11,7 @@ use Rattle.wt_seam.specs.declared.turn.Call.TheVariants as calls
 use Rattle.wt_seam.specs.declared.turn.DatagramFact.{DatagramFact}
 use Rattle.wt_seam.specs.declared.turn.Turn.{Turn}
 use Rattle.wt_seam.specs.declared.turn.Turn.TheVariants as turns
-use Rattle.wt_proto.specs.HeaderList.{Fields}
+use Rattle.wt_wire.specs.HeaderList.{Fields}
 use Rattle.wt_core.specs.Calls.{total_read}
 use Rattle.wt_core.specs.Driver.{hands_out}
 use Rattle.wt_trace.specs.Exchanges.{Exchange, brought, opened_unis, opened_bis, was_given, session_of, was_accepted, read_from, with_piece, with_uni_opened, with_bi_opened, tells_request, with_session, tells_uni, with_read}

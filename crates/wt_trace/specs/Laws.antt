@@ -1,11 +1,11 @@
 -- What holds of every list of turns and its answers, in the words of turns and answers alone.
 use Rattle.std.specs.Prelude.{◌≡◌, ◌≢◌, ℕ, List, [], ◌∷◌, ◌++◌, take, Option, Some, None, Bool, true, false, ◌==◌, ◌&&◌, not, IsTrue, Result, Ok, Err}
-use Rattle.wt_proto.specs.declared.side.Side.{Side}
-use Rattle.wt_proto.specs.declared.side.StreamEnd.TheVariants.{Running}
+use Rattle.wt_wire.specs.declared.side.Side.{Side}
+use Rattle.wt_wire.specs.declared.side.StreamEnd.TheVariants.{Running}
 use Rattle.wt_proto.specs.declared.verdict.Verdict.TheVariants as verdicts
 use Rattle.wt_proto.specs.Bi.{bi_verdict_of}
 use Rattle.wt_proto.specs.FixedBytes.{own_control_bytes}
-use Rattle.wt_proto.specs.HeaderList.{Fields}
+use Rattle.wt_wire.specs.HeaderList.{Fields}
 use Rattle.wt_proto.specs.Uni.{uni_verdict_of}
 use Rattle.wt_seam.specs.declared.action.Action.{Action}
 use Rattle.wt_seam.specs.declared.action.Action.TheVariants as actions

@@ -1,8 +1,8 @@
 -- The turns that a script spells (this repository's own grammar).
 use Rattle.std.specs.Prelude.{ℕ, ◌+◌, ◌^◌, ◌==◌, Bool, true, List, [], ◌∷◌, ◌++◌, codes, Option, Some, None, Result, Ok, Err, if◌then◌else◌}
 use Rattle.std.specs.Option.{option_map}
-use Rattle.wt_proto.specs.declared.side.Side.{Side}
-use Rattle.wt_proto.specs.declared.side.Side.TheVariants.{Server}
+use Rattle.wt_wire.specs.declared.side.Side.{Side}
+use Rattle.wt_wire.specs.declared.side.Side.TheVariants.{Server}
 use Rattle.wt_seam.specs.declared.turn.Call.{Call}
 use Rattle.wt_seam.specs.declared.turn.Call.TheVariants as calls
 use Rattle.wt_seam.specs.declared.turn.DatagramFact.{DatagramFact}

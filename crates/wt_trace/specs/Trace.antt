@@ -1,6 +1,6 @@
 -- What a run of turns answers.
 use Rattle.std.specs.Prelude.{◌≡◌, List, length, Result, Ok, Err}
-use Rattle.wt_proto.specs.declared.side.Side.{Side}
+use Rattle.wt_wire.specs.declared.side.Side.{Side}
 use Rattle.wt_seam.specs.declared.turn.Turn.{Turn}
 use Rattle.wt_core.specs.declared.answer.Answer.{Answer}
 use Rattle.wt_trace.specs.declared.trace.TraceError.{TraceError}

@@ -10,10 +10,10 @@ ghost use Rattle.wt_trace.specs.Print.{hex_text, field_text, read_text, reply_te
 
 use std::alloc::Global;
 use wt_core::answer::{Answer, Reply};
-use wt_proto::error::OutOfMemory;
-use wt_proto::header_list::HeaderList;
-use wt_proto::ids::{SessionId, StreamId};
-use wt_proto::text::Text;
+use wt_wire::error::OutOfMemory;
+use wt_wire::header_list::HeaderList;
+use wt_wire::ids::{SessionId, StreamId};
+use wt_wire::text::Text;
 use wt_seam::action::Action;
 use wt_seam::piece::Piece;
 

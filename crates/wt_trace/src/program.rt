@@ -15,7 +15,7 @@ use crate::script::{Script, read_script};
 use crate::trace::{TraceError, run_trace};
 use std::alloc::Global;
 use wt_core::answer::Answer;
-use wt_proto::error::OutOfMemory;
+use wt_wire::error::OutOfMemory;
 
 /// The greatest script, in bytes.
 const SCRIPT_LIMIT: usize = 16_777_216;

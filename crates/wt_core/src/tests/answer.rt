@@ -2,8 +2,8 @@ use super::vocabulary::{add_send, piece, stream};
 use crate::answer::{Answer, Answers, Reply};
 use std::alloc::Global;
 use std::process::Abort;
-use wt_proto::header_list::HeaderList;
-use wt_proto::ids::SessionId;
+use wt_wire::header_list::HeaderList;
+use wt_wire::ids::SessionId;
 use wt_seam::action::Actions;
 
 fn request(rt: &impl Abort, alloc: Global) -> Reply {

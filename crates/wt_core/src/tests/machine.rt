@@ -4,7 +4,7 @@ use crate::answer::{Answer, Answers, Reply};
 use crate::machine::Core;
 use std::alloc::Global;
 use std::process::Abort;
-use wt_proto::side::Side;
+use wt_wire::side::Side;
 use wt_seam::action::{Action, Actions};
 use wt_seam::turn::{Call, DatagramFact, Turn, Turns};
 

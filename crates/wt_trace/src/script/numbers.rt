@@ -11,9 +11,9 @@ ghost use Rattle.wt_trace.specs.Script.{count_of, id_of, fact_of};
 use crate::script::words::is_name;
 use hex::FromHexError;
 use std::alloc::Global;
-use wt_proto::error::OutOfMemory;
-use wt_proto::ids::StreamId;
-use wt_proto::varint::VarInt;
+use wt_wire::error::OutOfMemory;
+use wt_wire::ids::StreamId;
+use wt_wire::varint::VarInt;
 use wt_seam::piece::Piece;
 use wt_seam::turn::DatagramFact;
 

@@ -3,8 +3,8 @@ use crate::script::read_script;
 use crate::tests::vocabulary::{piece, stream};
 use std::alloc::Global;
 use std::process::Abort;
-use wt_proto::header_list::HeaderList;
-use wt_proto::side::Side;
+use wt_wire::header_list::HeaderList;
+use wt_wire::side::Side;
 use wt_seam::turn::{Call, DatagramFact, Turn};
 
 fn spells(rt: &impl Abort, alloc: Global, line: &str, turn: Turn) {

@@ -3,7 +3,7 @@ use crate::trace::{TraceError, run_trace};
 use std::alloc::Global;
 use std::process::Abort;
 use wt_core::answer::{Answers, Reply};
-use wt_proto::side::Side;
+use wt_wire::side::Side;
 use wt_seam::turn::{DatagramFact, Turn, Turns};
 
 fn connected(credit: u64) -> Turn {

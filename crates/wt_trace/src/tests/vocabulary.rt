@@ -1,9 +1,9 @@
 //! Values that the tests are written in.
 use std::alloc::Global;
 use std::process::Abort;
-use wt_proto::header_list::HeaderList;
-use wt_proto::ids::{SessionId, StreamId};
-use wt_proto::varint::VarInt;
+use wt_wire::header_list::HeaderList;
+use wt_wire::ids::{SessionId, StreamId};
+use wt_wire::varint::VarInt;
 use wt_seam::action::{Action, Actions};
 use wt_seam::piece::Piece;
 

@@ -1,4 +1,4 @@
-use Rattle.wt_proto.specs.Varint.{varint_at}
+use Rattle.wt_wire.specs.Varint.{varint_at}
 use Rattle.wt_proto.proofs.WalkLaws.{if_ok_same}
 use Rattle.wt_proto.proofs.BiLaws.{bi-headers}
 use Rattle.wt_proto.proofs.bi.bi_step.Goals as goal

@@ -1,4 +1,4 @@
-use Rattle.wt_proto.specs.Frames.{unread}
+use Rattle.wt_wire.specs.Frames.{unread}
 use Rattle.wt_proto.proofs.WalkLaws.{if_ok_same}
 use Rattle.wt_proto.proofs.ResponseWalkLaws.{response-headers}
 use Rattle.wt_proto.proofs.response_walk.response_step.Goals as goal

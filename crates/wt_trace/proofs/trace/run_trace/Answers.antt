@@ -1,5 +1,5 @@
 use Rattle.std.proofs.Common.{◌≡◌, ◌≤◌, ℕ, List, [], length, take}
-use Rattle.wt_proto.specs.declared.side.Side.{Side}
+use Rattle.wt_wire.specs.declared.side.Side.{Side}
 use Rattle.wt_seam.specs.declared.turn.Turn.{Turn}
 use Rattle.wt_trace.specs.Exchanges.{Exchange, exchanges}
 use Rattle.std.specs.Prelude.{IsTrue}

@@ -1,5 +1,5 @@
 use Rattle.std.proofs.Common.{arith, ◌≡◌, ◌<◌, ◌+◌, ◌∷◌, ◌++◌, [], List, drop, drop-cons, sym, ◌∙◌, length, length-append, suc, ap, add-one, true, subst}
-use Rattle.wt_proto.specs.declared.side.Side.{Side}
+use Rattle.wt_wire.specs.declared.side.Side.{Side}
 use Rattle.wt_core.specs.declared.answer.Answer.{Answer}
 use Rattle.wt_seam.specs.declared.turn.Turn.{Turn}
 use Rattle.wt_core.specs.Built.{is_built}

@@ -1,9 +1,0 @@
-use Rattle.std.proofs.Common.{◌++◌, ◌∷◌, sym, ap, ◌∙◌}
-use Rattle.wt_proto.specs.FieldSection.{line_bytes}
-use Rattle.wt_proto.proofs.WrittenSections.{lines_more}
-use Rattle.wt_proto.proofs.field_section.write_section.Goals as goal
-
-pub loop-place-preserved : goal.loop-place-preserved
-loop-place-preserved c =
-    c.in_ok-write_line.ensures ∙ ap (λ bs. bs ++ line_bytes (c.at.result.0.now, c.at.result.1.now)) c.loop-place.invariant
-    ∙ ap (λ bs. 0 ∷ 0 ∷ bs) (sym (lines_more c.args.list.now c.loop-place.place _ c.at.ensures))

@@ -1,7 +1,0 @@
-use Rattle.std.proofs.Common.{◌≡◌, ◌∷◌, take}
-use Rattle.std.specs.List.{flat_map}
-use Rattle.wt_proto.specs.FieldSection.{line_bytes}
-use Rattle.wt_proto.proofs.field_section.write_section.Given as goal
-
-abbrev pub invariant-loop-place : goal.invariant-loop-place
-invariant-loop-place l = l.out.items ≡ 0 ∷ 0 ∷ flat_map line_bytes (take l.place l.list)

@@ -1,6 +1,0 @@
-use Rattle.std.proofs.Common.{◌≡◌, drop}
-use Rattle.wt_proto.specs.HeaderList.{value_of}
-use Rattle.wt_proto.proofs.header_list.value_at.Given as goal
-
-abbrev pub invariant-loop-field : goal.invariant-loop-field
-invariant-loop-field l = value_of l.name l.fields ≡ value_of l.name (drop l.field-index l.fields)

@@ -1,0 +1,13 @@
+pub mod VarintAgain
+pub mod VarintLaws
+pub mod FrameAgain
+pub mod OrderLaws
+pub mod SearchLaws
+pub mod EqualityLaws
+pub mod TextLaws
+pub mod SevenBits
+pub mod WrittenIntegers
+pub mod WrittenSections
+pub mod LineLaws
+pub mod ValueLaws
+pub mod SectionAgain

@@ -1,0 +1,25 @@
+-- How a socket address is shown: RFC 3986 section 3.2.2 for the brackets.
+use Rattle.std.specs.Prelude.{ℕ, ◌/◌, ◌%◌, ◌^◌, List, ◌++◌, codes, false}
+use Rattle.std.specs.Fmt.{decimal, digits}
+use Rattle.wt_wire.specs.declared.addr.Addr.{Addr}
+use Rattle.wt_wire.specs.declared.addr.Addr.TheVariants.{V4, V6}
+
+-- plain hexadecimal, in lower case and without leading zeros
+abbrev pub hexadecimal : ℕ → List ℕ
+hexadecimal n = digits 16 false n
+
+-- four numbers with dots, the highest byte first
+abbrev pub dotted : ℕ → List ℕ
+dotted ip = decimal (ip / 2 ^ 24) ++ codes "." ++ decimal (ip / 2 ^ 16 % 256) ++ codes "." ++ decimal (ip / 2 ^ 8 % 256) ++ codes "." ++ decimal (ip % 256)
+
+-- four groups of sixteen bits with colons, the highest first
+abbrev pub four_groups : ℕ → List ℕ
+four_groups half =
+    hexadecimal (half / 2 ^ 48) ++ codes ":" ++ hexadecimal (half / 2 ^ 32 % 65536) ++ codes ":" ++ hexadecimal (half / 2 ^ 16 % 65536) ++ codes ":" ++ hexadecimal (half % 65536)
+
+abbrev pub eight_groups : ℕ → List ℕ
+eight_groups ip = four_groups (ip / 2 ^ 64) ++ codes ":" ++ four_groups (ip % 2 ^ 64)
+
+abbrev pub shown_address : Addr → List ℕ
+shown_address (V4 ip port) = dotted ip ++ codes ":" ++ decimal port
+shown_address (V6 ip port) = codes "[" ++ eight_groups ip ++ codes "]:" ++ decimal port

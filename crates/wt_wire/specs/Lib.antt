@@ -1,0 +1,13 @@
+pub mod Varint
+pub mod Ids
+pub mod Codes
+pub mod Frames
+pub mod Front
+pub mod FrameBytes
+pub mod Utf8
+pub mod HeaderList
+pub mod Equality
+pub mod PrefixedInteger
+pub mod FieldSection
+pub mod Status
+pub mod Addresses
