@@ -1,12 +1,10 @@
 -- Status codes of HTTP (RFC 9110 section 15).
 use Rattle.std.specs.Prelude.{ℕ, [], ◌∷◌, ◌+◌, ◌-◌, ◌*◌, ◌&&◌, Bool, nat_lt, List, Option, Some, None, if◌then◌else◌}
-
-abbrev pub is_digit : ℕ → Bool
-is_digit b = nat_lt 47 b && nat_lt b 58
+use Rattle.std.specs.Char.{is_ascii_digit}
 
 -- the number of three decimal digits from 100 to 599
 abbrev pub code_of_digits : ℕ → ℕ → ℕ → Option ℕ
-code_of_digits a b c = if nat_lt 48 a && nat_lt a 54 && is_digit b && is_digit c then Some (100 * (a - 48) + 10 * (b - 48) + (c - 48)) else None
+code_of_digits a b c = if nat_lt 48 a && nat_lt a 54 && is_ascii_digit b && is_ascii_digit c then Some (100 * (a - 48) + 10 * (b - 48) + (c - 48)) else None
 
 abbrev pub status_code : List ℕ → Option ℕ
 status_code [] = None

@@ -1,6 +1,6 @@
 //! Status codes of HTTP (RFC 9110, section 15).
 ghost use Rattle.std.specs.Prelude.{◌≡◌, ◌<◌, ◌≤◌, IfSome};
-ghost use Rattle.wt_wire.specs.Status.{is_digit, is_successful, status_code};
+ghost use Rattle.wt_wire.specs.Status.{is_successful, status_code};
 
 use std::marker::Model;
 
@@ -20,12 +20,6 @@ impl Model for StatusCode {
     ghost inverse = { λ n. record { 0 = n } };
 }
 
-fn is_digit(byte: u8) -> bool
-    ensures { result ≡ is_digit byte }
-{
-    byte > 47 && byte < 58
-}
-
 impl StatusCode {
     /// The code that the text spells; `None` exactly where it isn't three decimal digits from 100
     /// to 599.
@@ -37,7 +31,7 @@ impl StatusCode {
             return None;
         };
         let (a, b, c) = (*a, *b, *c);
-        if a > 48 && a < 54 && is_digit(b) && is_digit(c) {
+        if a > 48 && a < 54 && b.is_ascii_digit() && c.is_ascii_digit() {
             let tens = u16::from(a - 48) * 100 + u16::from(b - 48) * 10;
             return Some(StatusCode(tens + u16::from(c - 48)));
         }
