@@ -3,11 +3,11 @@ ghost use Rattle.std.specs.Prelude.{◌≡◌, ◌↔◌, ◌++◌, ◌∷◌, [
 
 use std::alloc::Global;
 use std::marker::Model;
+use wt_seam::action::Actions;
+use wt_seam::piece::Piece;
 use wt_wire::error::OutOfMemory;
 use wt_wire::header_list::HeaderList;
 use wt_wire::ids::{SessionId, StreamId};
-use wt_seam::action::Actions;
-use wt_seam::piece::Piece;
 
 /// The reply to one turn.
 #[derive(PartialEq, Eq, Debug, Drop)]

@@ -3,8 +3,8 @@ ghost use Rattle.std.specs.Prelude.{◌≡◌, ◌++◌};
 ghost use Rattle.wt_core.specs.Built.{are_along, empty_control, is_built_call, is_prefix, is_readable, one_request, session_header};
 
 use crate::streams::behind;
-use wt_wire::ids::StreamId;
 use wt_seam::turn::Call;
+use wt_wire::ids::StreamId;
 
 /// The one request that may come: for a session at the path `/` of the authority `h`.
 #[tactic(auto, using(crate::proofs::Readable::request_is))]

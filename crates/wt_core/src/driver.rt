@@ -9,11 +9,11 @@ use crate::streams::{Stream, behind};
 use std::alloc::Global;
 use wt_proto::bi::bi_verdict;
 use wt_proto::control_walk::control_walk;
+use wt_proto::verdict::{Verdict, uni_verdict};
+use wt_seam::piece::Piece;
 use wt_wire::error::OutOfMemory;
 use wt_wire::ids::SessionId;
 use wt_wire::side::StreamEnd;
-use wt_proto::verdict::{Verdict, uni_verdict};
-use wt_seam::piece::Piece;
 
 /// Whether these are the bytes of a control stream on which SETTINGS came.
 fn brings_settings(alloc: Global, contents: &[u8]) -> Result<bool, OutOfMemory>

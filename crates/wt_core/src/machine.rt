@@ -17,13 +17,13 @@ use crate::streams::{
 };
 use std::alloc::Global;
 use std::marker::Model;
-use wt_wire::error::OutOfMemory;
-use wt_wire::ids::StreamId;
 use wt_proto::outgoing::control_stream_head;
-use wt_wire::side::Side;
 use wt_seam::action::{Action, Actions};
 use wt_seam::piece::Piece;
 use wt_seam::turn::{Call, Turn};
+use wt_wire::error::OutOfMemory;
+use wt_wire::ids::StreamId;
+use wt_wire::side::Side;
 
 /// What a core keeps of its connection.
 #[derive(Debug, Drop)]

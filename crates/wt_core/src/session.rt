@@ -7,12 +7,12 @@ use crate::answer::Reply;
 use crate::driver::{next_uni, unread};
 use crate::streams::Stream;
 use std::alloc::Global;
-use wt_wire::error::OutOfMemory;
-use wt_wire::ids::{SessionId, StreamId};
 use wt_proto::session::SessionResponse;
-use wt_wire::varint::VarInt;
 use wt_proto::verdict::Verdict;
 use wt_seam::piece::Piece;
+use wt_wire::error::OutOfMemory;
+use wt_wire::ids::{SessionId, StreamId};
+use wt_wire::varint::VarInt;
 
 /// How far the handshake is.
 #[derive(Clone, Copy, Debug)]

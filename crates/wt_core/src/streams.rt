@@ -4,11 +4,11 @@ ghost use Rattle.wt_seam.specs.Seam.{is_among, own_uni, peer_bi, peer_uni};
 ghost use Rattle.wt_core.specs.Step.{fresh, grown, uni_at, bi_at};
 
 use std::alloc::Global;
+use wt_seam::piece::Piece;
 use wt_wire::error::OutOfMemory;
 use wt_wire::ids::StreamId;
 use wt_wire::side::Side;
 use wt_wire::varint::VarInt;
-use wt_seam::piece::Piece;
 
 /// A unidirectional stream of the peer.
 #[derive(Debug, Drop)]

@@ -4,10 +4,7 @@ use Rattle.std.specs.Prelude.{ℕ, suc, List, [], ◌∷◌, ◌++◌, length, d
 use Rattle.std.specs.List.{list_any}
 use Rattle.wt_wire.specs.declared.side.Side.{Side}
 use Rattle.wt_wire.specs.declared.side.StreamEnd.TheVariants.{Running}
-use Rattle.wt_proto.specs.declared.verdict.Verdict.{Verdict}
-use Rattle.wt_proto.specs.declared.verdict.Verdict.TheVariants as verdicts
 use Rattle.wt_proto.specs.Bi.{bi_verdict_of}
-use Rattle.wt_proto.specs.ControlWalk.{control_walk_of}
 use Rattle.wt_proto.specs.Uni.{uni_verdict_of}
 use Rattle.wt_core.specs.declared.answer.Answer.{Answer}
 use Rattle.wt_core.specs.declared.answer.Reply.{Reply}
@@ -17,7 +14,7 @@ use Rattle.wt_seam.specs.declared.turn.Turn.{Turn}
 use Rattle.wt_seam.specs.declared.turn.Turn.TheVariants as turns
 use Rattle.wt_core.specs.Calls.{names, offset_of}
 use Rattle.wt_core.specs.Driver.{control_came, ids}
-use Rattle.wt_seam.specs.Seam.{is_some, peer_uni, peer_bi}
+use Rattle.wt_seam.specs.Seam.{peer_uni, peer_bi}
 use Rattle.wt_core.specs.Session.{is_request}
 
 pub record Exchange : Type 0 where

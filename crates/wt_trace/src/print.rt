@@ -10,12 +10,12 @@ ghost use Rattle.wt_trace.specs.Print.{hex_text, field_text, read_text, reply_te
 
 use std::alloc::Global;
 use wt_core::answer::{Answer, Reply};
+use wt_seam::action::Action;
+use wt_seam::piece::Piece;
 use wt_wire::error::OutOfMemory;
 use wt_wire::header_list::HeaderList;
 use wt_wire::ids::{SessionId, StreamId};
 use wt_wire::text::Text;
-use wt_seam::action::Action;
-use wt_seam::piece::Piece;
 
 /// The line of an answer, without its line feed.
 pub fn print_answer(alloc: Global, answer: &Answer) -> Result<Text, OutOfMemory>

@@ -10,9 +10,9 @@ mod words;
 use crate::script::lines::read_turn;
 use crate::script::words::is_name;
 use std::alloc::Global;
+use wt_seam::turn::Turns;
 use wt_wire::error::OutOfMemory;
 use wt_wire::side::Side;
-use wt_seam::turn::Turns;
 
 /// What a script says.
 #[derive(Debug, Drop)]

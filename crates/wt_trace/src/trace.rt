@@ -8,9 +8,9 @@ ghost use Rattle.wt_trace.specs.Trace.{IsTrace};
 use std::alloc::Global;
 use wt_core::answer::Answers;
 use wt_core::machine::Core;
+use wt_seam::turn::Turn;
 use wt_wire::error::OutOfMemory;
 use wt_wire::side::Side;
-use wt_seam::turn::Turn;
 
 /// Why a list of turns has no answer to each.
 #[derive(Debug, Drop)]

@@ -2,9 +2,9 @@ use super::vocabulary::{add_send, piece, stream};
 use crate::answer::{Answer, Answers, Reply};
 use std::alloc::Global;
 use std::process::Abort;
+use wt_seam::action::Actions;
 use wt_wire::header_list::HeaderList;
 use wt_wire::ids::SessionId;
-use wt_seam::action::Actions;
 
 fn request(rt: &impl Abort, alloc: Global) -> Reply {
     let id = SessionId::try_from_session_stream(stream(0)).expect(rt, "no session's id");

@@ -4,9 +4,9 @@ use crate::answer::{Answer, Answers, Reply};
 use crate::machine::Core;
 use std::alloc::Global;
 use std::process::Abort;
-use wt_wire::side::Side;
 use wt_seam::action::{Action, Actions};
 use wt_seam::turn::{Call, DatagramFact, Turn, Turns};
+use wt_wire::side::Side;
 
 /// What goes out first on this end's control stream.
 const OWN_CONTROL: [u8; 25] = [

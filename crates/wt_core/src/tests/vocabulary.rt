@@ -1,10 +1,10 @@
 //! Values that the tests are written in.
 use std::alloc::Global;
 use std::process::Abort;
-use wt_wire::ids::StreamId;
-use wt_wire::varint::VarInt;
 use wt_seam::action::{Action, Actions};
 use wt_seam::piece::Piece;
+use wt_wire::ids::StreamId;
+use wt_wire::varint::VarInt;
 
 pub fn stream(id: u32) -> StreamId {
     StreamId::new(VarInt::from_u32(id))

@@ -7,9 +7,9 @@ ghost use Rattle.wt_trace.specs.Script.{alone, connected_of, bytes_turn_of, read
 use crate::script::numbers::{read_bytes, read_count, read_fact, read_id};
 use crate::script::words::{cut_word, four_words_of, is_end, is_name, two_words_of};
 use std::alloc::Global;
+use wt_seam::turn::{Call, Turn};
 use wt_wire::error::OutOfMemory;
 use wt_wire::header_list::HeaderList;
-use wt_seam::turn::{Call, Turn};
 
 /// The turn that a line spells; None exactly where the line is none of the script's lines of a turn
 /// or a call.

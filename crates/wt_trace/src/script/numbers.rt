@@ -11,11 +11,11 @@ ghost use Rattle.wt_trace.specs.Script.{count_of, id_of, fact_of};
 use crate::script::words::is_name;
 use hex::FromHexError;
 use std::alloc::Global;
+use wt_seam::piece::Piece;
+use wt_seam::turn::DatagramFact;
 use wt_wire::error::OutOfMemory;
 use wt_wire::ids::StreamId;
 use wt_wire::varint::VarInt;
-use wt_seam::piece::Piece;
-use wt_seam::turn::DatagramFact;
 
 fn are_digits(word: &[u8]) -> bool
     ensures { result ≡ all_ascii_digits word.now }

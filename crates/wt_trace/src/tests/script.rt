@@ -3,9 +3,9 @@ use crate::script::read_script;
 use crate::tests::vocabulary::{piece, stream};
 use std::alloc::Global;
 use std::process::Abort;
+use wt_seam::turn::{Call, DatagramFact, Turn};
 use wt_wire::header_list::HeaderList;
 use wt_wire::side::Side;
-use wt_seam::turn::{Call, DatagramFact, Turn};
 
 fn spells(rt: &impl Abort, alloc: Global, line: &str, turn: Turn) {
     let read = read_turn(alloc, line.as_bytes()).expect(rt, "no memory");

@@ -3,8 +3,8 @@ use crate::trace::{TraceError, run_trace};
 use std::alloc::Global;
 use std::process::Abort;
 use wt_core::answer::{Answers, Reply};
-use wt_wire::side::Side;
 use wt_seam::turn::{DatagramFact, Turn, Turns};
+use wt_wire::side::Side;
 
 fn connected(credit: u64) -> Turn {
     Turn::Connected {

@@ -1,11 +1,11 @@
 //! Values that the tests are written in.
 use std::alloc::Global;
 use std::process::Abort;
+use wt_seam::action::{Action, Actions};
+use wt_seam::piece::Piece;
 use wt_wire::header_list::HeaderList;
 use wt_wire::ids::{SessionId, StreamId};
 use wt_wire::varint::VarInt;
-use wt_seam::action::{Action, Actions};
-use wt_seam::piece::Piece;
 
 pub fn stream(id: u32) -> StreamId {
     StreamId::new(VarInt::from_u32(id))
