@@ -54,7 +54,8 @@ fn front_with_header(bytes: &[u8], kind: VarInt, header: usize, size: VarInt) ->
     }
 }
 
-/// The frame at the front of the bytes (RFC 9114, section 7.1): what is told of it lies within them.
+/// The frame at the front of the bytes (RFC 9114, section 7.1); what is told of it lies within
+/// them.
 #[tactic(auto, unfolding(crate::specs::Frames::frame_at))]
 pub fn read_front(bytes: &[u8]) -> Front
     ensures frame { (id_at : List ℕ → Option (ℕ × ℕ)) → shown id_at bytes.now result ≡ frame_at id_at bytes.now }

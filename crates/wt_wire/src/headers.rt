@@ -49,8 +49,8 @@ impl Headers {
         Headers::with_payload(alloc, frame.payload())
     }
 
-    /// Reads the payload of a HEADERS frame as a field section. The error is `Decompression`, where it
-    /// isn't one of literal field lines with literal names (RFC 9204, section 4.5).
+    /// Reads the payload of a HEADERS frame as a field section, as `with_frame` does of a frame. The
+    /// error is `Decompression`.
     pub fn with_payload(
         alloc: Global,
         payload: &[u8],

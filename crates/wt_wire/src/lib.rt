@@ -1,5 +1,6 @@
-//! The parts of which the bytes of WebTransport over HTTP/3 are made: integers, ids, codes, texts, lists of fields and
-//! frames, each read and written; and the names of ends, addresses and lookups.
+//! The parts of which the bytes of WebTransport over HTTP/3 are made, read and written: integers,
+//! ids, codes, texts, lists of fields and frames; and what crates that don't stand on each other
+//! name: ends, addresses and lookups.
 #![tactic(auto)]
 
 pub mod addr;
