@@ -4,7 +4,7 @@ use crate::certificate::{CertFacts, Curve, KeyKind};
 use crate::client::ClientConfig;
 use crate::digest::{Sha256Digest, Sha256DigestFmt};
 use crate::dns::DnsResolver;
-use crate::idle::IdleTimeout;
+use crate::idle::{IdleTimeout, InvalidIdleTimeout};
 use crate::laws;
 use crate::server::ServerConfig;
 use crate::tls::{Opaque, TlsChoice};
@@ -235,46 +235,43 @@ fn pinned(alloc: Global) -> Result<ServerHashVerification, Fail> {
     Ok(ServerHashVerification::new(alloc, hashes)?)
 }
 
+/// What the check of the bytes `abc` answers at this moment.
+fn checked(
+    pins: &ServerHashVerification,
+    facts: Option<&CertFacts>,
+    now: u64,
+) -> Result<(), PinRefusal> {
+    pins.verify_facts(b"abc", facts, now)
+}
+
+fn checks_two_weeks(rt: &impl Abort, pins: &ServerHashVerification) {
+    let two_weeks = facts(1_210_600);
+    assert_eq!(rt; checked(pins, Some(&two_weeks), 1000), Ok(()));
+    assert_eq!(rt; checked(pins, Some(&two_weeks), 1_210_600), Ok(()));
+    let early = checked(pins, Some(&two_weeks), 999);
+    assert_eq!(rt; early, Err(PinRefusal::NotValidYet));
+    let late = checked(pins, Some(&two_weeks), 1_210_601);
+    assert_eq!(rt; late, Err(PinRefusal::Expired));
+    let another = pins.verify_facts(b"abd", Some(&two_weeks), 1000);
+    assert_eq!(rt; another, Err(PinRefusal::UnknownIssuer));
+}
+
+fn checks_moments(rt: &impl Abort, pins: &ServerHashVerification) {
+    let longer = checked(pins, Some(&facts(1_210_601)), 1000);
+    assert_eq!(rt; longer, Err(PinRefusal::UnknownIssuer));
+    assert_eq!(rt; checked(pins, Some(&facts(1000)), 1000), Ok(()));
+    assert_eq!(rt; checked(pins, None, 1000), Err(PinRefusal::BadEncoding));
+    let last = checked(pins, None, 253_402_300_799);
+    assert_eq!(rt; last, Err(PinRefusal::BadEncoding));
+    let beyond = checked(pins, None, 253_402_300_800);
+    assert_eq!(rt; beyond, Err(PinRefusal::MomentOutOfRange));
+}
+
 #[test]
 fn the_pinned_check_answers_in_its_order(rt: HostRuntime) -> Result<(), Fail> {
     let pins = pinned(rt.alloc())?;
-    let two_weeks = facts(1_210_600);
-    assert_eq!(rt; pins.verify_facts(b"abc", Some(&two_weeks), 1000), Ok(()));
-    assert_eq!(rt;
-        pins.verify_facts(b"abc", Some(&two_weeks), 1_210_600),
-        Ok(())
-    );
-    assert_eq!(rt;
-        pins.verify_facts(b"abc", Some(&two_weeks), 999),
-        Err(PinRefusal::NotValidYet)
-    );
-    assert_eq!(rt;
-        pins.verify_facts(b"abc", Some(&two_weeks), 1_210_601),
-        Err(PinRefusal::Expired)
-    );
-    let longer = facts(1_210_601);
-    assert_eq!(rt;
-        pins.verify_facts(b"abc", Some(&longer), 1000),
-        Err(PinRefusal::UnknownIssuer)
-    );
-    assert_eq!(rt;
-        pins.verify_facts(b"abc", None, 1000),
-        Err(PinRefusal::BadEncoding)
-    );
-    assert_eq!(rt;
-        pins.verify_facts(b"abc", None, 253_402_300_799),
-        Err(PinRefusal::BadEncoding)
-    );
-    assert_eq!(rt;
-        pins.verify_facts(b"abc", None, 253_402_300_800),
-        Err(PinRefusal::MomentOutOfRange)
-    );
-    assert_eq!(rt;
-        pins.verify_facts(b"abd", Some(&two_weeks), 1000),
-        Err(PinRefusal::UnknownIssuer)
-    );
-    let moment = facts(1000);
-    assert_eq!(rt; pins.verify_facts(b"abc", Some(&moment), 1000), Ok(()));
+    checks_two_weeks(&rt, &pins);
+    checks_moments(&rt, &pins);
     Ok(())
 }
 
@@ -299,35 +296,54 @@ fn the_pinned_check_wants_a_p256_key(rt: HostRuntime) -> Result<(), Fail> {
     Ok(())
 }
 
+fn with_idle_time(millis: Option<u128>) -> Result<ClientConfig, InvalidIdleTimeout> {
+    let builder = ClientConfig::builder()
+        .with_bind_default()
+        .with_native_certs();
+    Ok(builder.max_idle_timeout(millis)?.build())
+}
+
 #[test]
-fn idle_times_end_at_2_62(rt: HostRuntime) -> Result<(), Fail> {
-    let alloc = rt.alloc();
-    let chosen = ClientConfig::builder()
-        .with_bind_default()
-        .with_native_certs()
-        .max_idle_timeout(Some(4_611_686_018_427_387_903))?
-        .build();
-    let IdleTimeout::Millis(millis) = chosen.idle() else {
-        return Err(Fail::from("no idle time"));
-    };
-    assert_eq!(rt; millis.into_inner(), 4_611_686_018_427_387_903);
-    let refused = ClientConfig::builder()
-        .with_bind_default()
-        .with_native_certs()
-        .max_idle_timeout(Some(4_611_686_018_427_387_904));
-    let Err(refusal) = refused else {
-        return Err(Fail::from("no refusal"));
-    };
+fn idle_times_end_at_2_62(rt: HostRuntime) {
+    let greatest = 4_611_686_018_427_387_903;
+    match with_idle_time(Some(greatest)) {
+        Ok(config) => match config.idle() {
+            IdleTimeout::Millis(millis) => assert_eq!(rt;
+                millis.into_inner(),
+                4_611_686_018_427_387_903
+            ),
+            _ => panic!(rt; "no idle time"),
+        },
+        Err(_) => panic!(rt; "refused"),
+    }
+    assert!(rt; with_idle_time(Some(greatest + 1)).is_err());
+}
+
+fn shows_refusal(rt: &impl Abort, alloc: Global, refusal: InvalidIdleTimeout) {
     let text = "idle timeout value configuration is invalid";
-    assert_eq!(rt; refusal.to_string(alloc)?.as_str(), text);
-    assert_eq!(rt; format!(in alloc; "{refusal:?}")?.as_str(), text);
-    let endless = ServerConfig::builder()
+    let displayed = refusal.to_string(alloc).expect(rt, "no memory");
+    assert_eq!(rt; displayed.as_str(), text);
+    let debugged = format!(in alloc; "{refusal:?}").expect(rt, "no memory");
+    assert_eq!(rt; debugged.as_str(), text);
+}
+
+#[test]
+fn long_idle_times_are_refused(rt: HostRuntime) {
+    match with_idle_time(Some(4_611_686_018_427_387_904)) {
+        Err(refusal) => shows_refusal(&rt, rt.alloc(), refusal),
+        Ok(_) => panic!(rt; "taken"),
+    }
+}
+
+#[test]
+fn idle_times_may_be_endless(rt: HostRuntime) {
+    let builder = ServerConfig::builder()
         .with_bind_default(0)
-        .with_identity(Opaque(0))
-        .max_idle_timeout(None)?
-        .build();
-    assert_eq!(rt; endless.idle(), IdleTimeout::Infinite);
-    Ok(())
+        .with_identity(Opaque(0));
+    match builder.max_idle_timeout(None) {
+        Ok(builder) => assert_eq!(rt; builder.build().idle(), IdleTimeout::Infinite),
+        Err(_) => panic!(rt; "refused"),
+    }
 }
 
 fn is_v6(bind: &BindAddressConfig, address: u128, at: u16) -> bool {
@@ -383,6 +399,11 @@ fn a_client_keeps_pins(rt: HostRuntime) -> Result<(), Fail> {
     Ok(())
 }
 
+const HOME: Addr = Addr::V4 {
+    ip: 0x7f00_0001,
+    port: 443,
+};
+
 /// Knows one host.
 #[derive(Drop)]
 struct OneHost(Addr);
@@ -402,28 +423,41 @@ impl DnsResolver for OneHost {
     }
 }
 
+fn finds(rt: &impl Abort, alloc: Global, config: &ClientConfig, host: &str, found: Option<Lookup>) {
+    let answer = config.lookup(alloc, host).expect(rt, "no memory");
+    assert_eq!(rt; answer, found);
+}
+
+fn knows_home(rt: &impl Abort, alloc: Global, config: &mut ClientConfig) {
+    match Box::new(alloc, OneHost(HOME)) {
+        Ok(resolver) => config.set_dns_resolver(resolver),
+        Err(_) => panic!(rt; "no memory"),
+    }
+}
+
 #[test]
-fn a_client_asks_its_resolver(rt: HostRuntime) -> Result<(), Fail> {
+fn a_client_asks_its_resolver(rt: HostRuntime) {
     let alloc = rt.alloc();
-    let home = Addr::V4 {
-        ip: 0x7f00_0001,
-        port: 443,
-    };
     let mut config = ClientConfig::default();
     assert!(rt; is_v6(config.bind(), 0, 0));
     assert!(rt; matches!(config.tls(), TlsChoice::Native));
-    assert_eq!(rt; config.lookup(alloc, "h:443")?, None);
-    config.set_dns_resolver(Box::new(alloc, OneHost(home))?);
-    assert_eq!(rt; config.lookup(alloc, "h:443")?, Some(Lookup::Found(home)));
-    assert_eq!(rt; config.lookup(alloc, "i:443")?, Some(Lookup::NotFound));
+    finds(&rt, alloc, &config, "h:443", None);
+    knows_home(&rt, alloc, &mut config);
+    finds(&rt, alloc, &config, "h:443", Some(Lookup::Found(HOME)));
+    finds(&rt, alloc, &config, "i:443", Some(Lookup::NotFound));
+}
+
+#[test]
+fn a_client_is_built_with_a_resolver(rt: HostRuntime) {
+    let alloc = rt.alloc();
+    let resolver = Box::new(alloc, OneHost(HOME)).expect(&rt, "no memory");
     let built = ClientConfig::builder()
         .with_bind_config(IpBindConfig::InAddrAnyDual)
         .with_custom_tls_and_transport(Opaque(1), Opaque(2))
-        .dns_resolver(Box::new(alloc, OneHost(home))?)
+        .dns_resolver(resolver)
         .keep_alive_interval(Some(5))
         .build();
-    assert_eq!(rt; built.lookup(alloc, "h:443")?, Some(Lookup::Found(home)));
+    finds(&rt, alloc, &built, "h:443", Some(Lookup::Found(HOME)));
     assert_eq!(rt; built.transport(), Some(Opaque(2)));
     assert_eq!(rt; built.keep_alive(), Some(5));
-    Ok(())
 }

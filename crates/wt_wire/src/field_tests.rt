@@ -8,11 +8,21 @@ use crate::headers::Headers;
 use crate::lookup::{ConnectOutcome, Lookup};
 use crate::text::Text;
 use crate::utf8::from_utf8;
-use std::test::Fail;
+use std::alloc::Global;
+use std::process::Abort;
 
-fn headers_of(rt: &HostRuntime, payload: &[u8]) -> Result<Result<Headers, ErrorCode>, Fail> {
-    let frame = Frame::new_headers(rt.alloc(), payload)?;
-    Ok(Headers::with_frame(rt.alloc(), &frame)?)
+fn frame_of(rt: &impl Abort, alloc: Global, payload: &[u8]) -> Frame {
+    match Frame::new_headers(alloc, payload) {
+        Ok(frame) => frame,
+        Err(_) => panic!(rt; "no memory"),
+    }
+}
+
+fn headers_in(rt: &impl Abort, alloc: Global, frame: &Frame) -> Headers {
+    match Headers::with_frame(alloc, frame) {
+        Ok(Ok(headers)) => headers,
+        _ => panic!(rt; "refused"),
+    }
 }
 
 /// Payloads that aren't field sections of literal lines with literal names.
@@ -31,62 +41,89 @@ const REFUSED: [&[u8]; 12] = [
     b"\x00\x00\x21a\x01\xed\xa0\x80",
 ];
 
-#[test]
-fn field_sections_are_refused(rt: HostRuntime) -> Result<(), Fail> {
-    for payload in REFUSED {
-        let answer = headers_of(&rt, payload)?;
-        assert_eq!(rt; answer.err(), Some(ErrorCode::Decompression));
+fn is_refused(rt: &impl Abort, alloc: Global, payload: &[u8]) {
+    let frame = frame_of(rt, alloc, payload);
+    match Headers::with_frame(alloc, &frame) {
+        Ok(Err(code)) => assert_eq!(rt; code, ErrorCode::Decompression),
+        _ => panic!(rt; "taken"),
     }
-    Ok(())
 }
 
 #[test]
-fn fields_are_ordered(rt: HostRuntime) -> Result<(), Fail> {
-    let headers = headers_of(
-        &rt,
-        b"\x00\x00\x21b\x011\x21a\x012\x22:z\x013\x21b\x014".as_slice(),
-    )?;
-    let headers = headers.ok().ok_or("refused")?;
-    assert_eq!(rt; headers.list().len(), 3);
-    assert_eq!(rt; headers.list().at(0), (":z", "3"));
-    assert_eq!(rt; headers.list().at(1), ("a", "2"));
-    assert_eq!(rt; headers.list().at(2), ("b", "4"));
+fn field_sections_are_refused(rt: HostRuntime) {
+    for payload in REFUSED {
+        is_refused(&rt, rt.alloc(), payload);
+    }
+}
+
+fn are_ordered(rt: &impl Abort, list: &HeaderList) {
+    assert_eq!(rt; list.len(), 3);
+    assert_eq!(rt; list.at(0), (":z", "3"));
+    assert_eq!(rt; list.at(1), ("a", "2"));
+    assert_eq!(rt; list.at(2), ("b", "4"));
+}
+
+#[test]
+fn fields_are_ordered(rt: HostRuntime) {
+    let payload = b"\x00\x00\x21b\x011\x21a\x012\x22:z\x013\x21b\x014";
+    let frame = frame_of(&rt, rt.alloc(), payload);
+    let headers = headers_in(&rt, rt.alloc(), &frame);
+    are_ordered(&rt, headers.list());
     assert_eq!(rt; headers.get("b"), Some("4"));
     assert_eq!(rt; headers.get("c"), None);
-    Ok(())
+}
+
+fn long_text(rt: &impl Abort, alloc: Global) -> String {
+    let mut long = String::new(alloc);
+    for _ in 0..3000 {
+        long.push_str("ab").expect(rt, "no memory");
+    }
+    long
+}
+
+fn long_headers(rt: &impl Abort, alloc: Global) -> Headers {
+    let long = long_text(rt, alloc);
+    let mut headers = Headers::new(alloc);
+    let named = headers.insert("name-of-seven", long.as_str());
+    named.expect(rt, "no memory");
+    let valued = headers.insert(long.as_str(), "");
+    valued.expect(rt, "no memory");
+    headers
+}
+
+fn written(rt: &impl Abort, headers: &Headers) -> Frame {
+    match headers.generate_frame() {
+        Ok(frame) => frame,
+        Err(_) => panic!(rt; "no memory"),
+    }
 }
 
 #[test]
-fn long_texts_are_read_back(rt: HostRuntime) -> Result<(), Fail> {
-    let mut long = String::new(rt.alloc());
-    for _ in 0..3000 {
-        long.push_str("ab")?;
-    }
-    let mut headers = Headers::new(rt.alloc());
-    headers.insert("name-of-seven", long.as_str())?;
-    headers.insert(long.as_str(), "")?;
-    let frame = headers.generate_frame()?;
-    let again = Headers::with_frame(rt.alloc(), &frame)?
-        .ok()
-        .ok_or("refused")?;
+fn long_texts_are_read_back(rt: HostRuntime) {
+    let headers = long_headers(&rt, rt.alloc());
+    let frame = written(&rt, &headers);
+    let again = headers_in(&rt, rt.alloc(), &frame);
     assert!(rt; again.list().is_equal(headers.list()));
     assert!(rt; again.list() == headers.list());
-    Ok(())
+}
+
+fn list_of(rt: &impl Abort, alloc: Global, name: &str, value: &str) -> HeaderList {
+    let mut list = HeaderList::new(alloc);
+    assert!(rt; list.is_empty());
+    list.set(name, "1").expect(rt, "no memory");
+    list.set(name, value).expect(rt, "no memory");
+    list
 }
 
 #[test]
-fn lists_are_copied(rt: HostRuntime) -> Result<(), Fail> {
-    let mut list = HeaderList::new(rt.alloc());
-    assert!(rt; list.is_empty());
-    list.set("b", "1")?;
-    list.set("b", "2")?;
-    let copy = list.copy()?;
+fn lists_are_copied(rt: HostRuntime) {
+    let list = list_of(&rt, rt.alloc(), "b", "2");
+    let copy = list.copy().expect(&rt, "no memory");
     assert_eq!(rt; copy, list);
     assert_eq!(rt; copy.get("b"), Some("2"));
-    list.set("", "")?;
-    assert!(rt; copy != list);
-    assert_eq!(rt; list.into_vec().len(), 2);
-    Ok(())
+    let other = list_of(&rt, rt.alloc(), "", "2");
+    assert!(rt; copy != other);
+    assert_eq!(rt; list.into_vec().len(), 1);
 }
 
 /// Bytes that are no UTF-8.
@@ -98,53 +135,72 @@ const NO_TEXTS: [&[u8]; 5] = [
     b"\xe2\x82",
 ];
 
-#[test]
-fn texts_are_utf8(rt: HostRuntime) -> Result<(), Fail> {
-    for bytes in NO_TEXTS {
-        assert_eq!(rt; from_utf8(bytes), None);
-    }
-    let text = from_utf8(b"a\xc3\xa4\xe2\x82\xac\xf0\x9f\x98\x80".as_slice()).ok_or("no text")?;
-    let text = Text::from_text(rt.alloc(), text)?;
-    assert!(rt; text.copy()?.is_equal(&text));
-    assert!(rt; Text::from_string(text.copy()?.into_string()).is_equal(&text));
-    assert_eq!(rt; text.copy()?.as_str(), "a\u{e4}\u{20ac}\u{1f600}");
-    Ok(())
+fn text(rt: &impl Abort, alloc: Global, text: &str) -> Text {
+    Text::from_text(alloc, text).expect(rt, "no memory")
 }
 
 #[test]
-fn addresses_are_shown(rt: HostRuntime) -> Result<(), Fail> {
+fn texts_are_utf8(rt: HostRuntime) {
+    for bytes in NO_TEXTS {
+        assert_eq!(rt; from_utf8(bytes), None);
+    }
+    let shown = "a\u{e4}\u{20ac}\u{1f600}";
+    assert_eq!(rt;
+        from_utf8(b"a\xc3\xa4\xe2\x82\xac\xf0\x9f\x98\x80"),
+        Some(shown)
+    );
+}
+
+#[test]
+fn texts_are_copied(rt: HostRuntime) {
+    let text = text(&rt, rt.alloc(), "a\u{e4}");
+    let copy = text.copy().expect(&rt, "no memory");
+    assert!(rt; copy.is_equal(&text));
+    assert_eq!(rt; copy.as_str(), "a\u{e4}");
+    assert!(rt; Text::from_string(copy.into_string()).is_equal(&text));
+}
+
+fn is_shown(rt: &impl Abort, alloc: Global, address: Addr, shown: &str) {
+    let text = address.to_string(alloc).expect(rt, "no memory");
+    assert_eq!(rt; text.as_str(), shown);
+}
+
+#[test]
+fn addresses_are_shown(rt: HostRuntime) {
     let four = Addr::V4 {
         ip: 0x7f00_00ff,
         port: 4433,
     };
-    assert_eq!(rt; four.to_string(rt.alloc())?.as_str(), "127.0.0.255:4433");
     let six = Addr::V6 {
         ip: 0x2001_0db8_0000_0000_0000_00ff_fe00_0001,
         port: 1,
     };
-    assert_eq!(rt;
-        six.to_string(rt.alloc())?.as_str(),
-        "[2001:db8:0:0:0:ff:fe00:1]:1"
-    );
+    is_shown(&rt, rt.alloc(), four, "127.0.0.255:4433");
+    is_shown(&rt, rt.alloc(), six, "[2001:db8:0:0:0:ff:fe00:1]:1");
     assert!(rt; !four.is_equal(&six));
-    Ok(())
+}
+
+fn lookup_is_copied(rt: &impl Abort, alloc: Global, lookup: Lookup) {
+    let copy = lookup.copy(alloc).expect(rt, "no memory");
+    assert!(rt; copy.is_equal(&lookup));
+    assert_eq!(rt; copy, lookup);
+}
+
+fn outcome_is_copied(rt: &impl Abort, alloc: Global, outcome: ConnectOutcome) {
+    let copy = outcome.copy(alloc).expect(rt, "no memory");
+    assert!(rt; copy.is_equal(&outcome));
+    assert_eq!(rt; copy, outcome);
 }
 
 #[test]
-fn answers_are_copied(rt: HostRuntime) -> Result<(), Fail> {
+fn answers_are_copied(rt: HostRuntime) {
+    let alloc = rt.alloc();
     let address = Addr::V4 { ip: 1, port: 2 };
-    let fault = Lookup::Fault(Text::from_text(rt.alloc(), "no")?);
-    assert!(rt; fault.copy(rt.alloc())?.is_equal(&fault));
-    assert_eq!(rt; fault.copy(rt.alloc())?, fault);
-    assert!(rt; !fault.is_equal(&Lookup::NotFound));
-    assert_eq!(rt;
-        Lookup::Found(address).copy(rt.alloc())?,
-        Lookup::Found(address)
-    );
-    let name = ConnectOutcome::InvalidServerName(Text::from_text(rt.alloc(), "n")?);
-    assert!(rt; name.copy(rt.alloc())?.is_equal(&name));
-    assert_eq!(rt; name.copy(rt.alloc())?, name);
-    let outcome = ConnectOutcome::InvalidRemoteAddress(address);
-    assert!(rt; outcome.copy(rt.alloc())? != ConnectOutcome::Proceed);
-    Ok(())
+    let no = text(&rt, alloc, "no");
+    lookup_is_copied(&rt, alloc, Lookup::Fault(no));
+    lookup_is_copied(&rt, alloc, Lookup::Found(address));
+    assert!(rt; !Lookup::Found(address).is_equal(&Lookup::NotFound));
+    let name = text(&rt, alloc, "n");
+    outcome_is_copied(&rt, alloc, ConnectOutcome::InvalidServerName(name));
+    outcome_is_copied(&rt, alloc, ConnectOutcome::InvalidRemoteAddress(address));
 }
