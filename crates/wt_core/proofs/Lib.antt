@@ -10,3 +10,4 @@ pub mod Start
 pub mod ReplayCalls
 pub mod Standing
 pub mod Turned
+pub mod Recorded

@@ -8,4 +8,3 @@ pub mod EachTurn
 pub mod AllTurns
 pub mod Cutting
 pub mod LawsHold
-pub mod Recorded

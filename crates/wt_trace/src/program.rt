@@ -116,10 +116,42 @@ fn answer<S: Source, K: Sink>(
     ensures sink_same { OnOk result (K.faults sink.new ≡ K.faults sink.old) }
     ensures cause { IfErr result (Cuts (S.faults source.old) (S.faults source.new) (K.faults sink.old) (K.faults sink.new) (K.took sink.new ≡ K.took sink.old)) }
 {
-    if !asks_trace(words) {
-        write_all(sink, b"usage: trace\n")?;
-        return Ok(1);
+    if asks_trace(words) {
+        answer_trace(alloc, source, sink)
+    } else {
+        answer_usage(sink)
     }
+}
+
+/// Tells how the program is asked.
+fn answer_usage<K: Sink>(sink: &mut K) -> Result<u8, CutShort>
+    ensures status { IfOk result (λ status. status ≡ 1) }
+    ensures text { OnOk result (Appends (K.took sink.old) (K.took sink.new) usage.text) }
+    ensures part { AppendsPart (K.took sink.old) (K.took sink.new) usage.text }
+    ensures same { OnOk result (K.faults sink.new ≡ K.faults sink.old) }
+    ensures cause { IfErr result (λ cut. (cut ≡ CutShort.SinkFailed) × Rose (K.faults sink.old) (K.faults sink.new)) }
+{
+    write_all(sink, b"usage: trace\n")?;
+    Ok(1)
+}
+
+/// Answers what the source has left.
+fn answer_trace<S: Source, K: Sink>(
+    alloc: Global,
+    source: &mut S,
+    sink: &mut K,
+) -> Result<u8, CutShort>
+    ensures status { IfOk result (λ status. IfSome (S.left source.old) (λ input. status ≡ (input_outcome input).status)) }
+    ensures text { OnOk result (IfSome (S.left source.old) (λ input. Appends (K.took sink.old) (K.took sink.new) (input_outcome input).text)) }
+    ensures input { IfOk result (AnswersInput (S.left source.old) (S.left source.new) (K.took sink.old) (K.took sink.new)) }
+    ensures reads { ReadsFew (S.left source.old) (S.left source.new) }
+    ensures part { IfSome (S.left source.old) (λ input. AppendsPart (K.took sink.old) (K.took sink.new) (input_outcome input).text) }
+    ensures end { IfOk result (λ status. IsTrue (tells_script status) → IsAtEnd (S.left source.new)) }
+    ensures told { IfOk result (λ status. IsTrue (tells_input status)) }
+    ensures source_same { OnOk result (S.faults source.new ≡ S.faults source.old) }
+    ensures sink_same { OnOk result (K.faults sink.new ≡ K.faults sink.old) }
+    ensures cause { IfErr result (Cuts (S.faults source.old) (S.faults source.new) (K.faults sink.old) (K.faults sink.new) (K.took sink.new ≡ K.took sink.old)) }
+{
     let input = read_input(alloc, source)?;
     answer_input(alloc, input.as_slice(), sink)
 }
