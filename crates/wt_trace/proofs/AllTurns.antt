@@ -5,8 +5,8 @@ use Rattle.std.specs.List.{list_any}
 use Rattle.wt_wire.specs.declared.side.Side.{Side}
 use Rattle.wt_wire.specs.declared.side.Side.TheVariants.{Client, Server}
 use Rattle.wt_core.specs.declared.answer.Answer.{Answer}
-use Rattle.wt_trace.specs.declared.script.Script.{Script}
-use Rattle.wt_trace.specs.declared.script.ScriptRefused.{ScriptRefused}
+use Rattle.wt_script.specs.declared.script.Script.{Script}
+use Rattle.wt_script.specs.declared.script.ScriptRefused.{ScriptRefused}
 use Rattle.wt_trace.specs.declared.trace.TraceError.{TraceError}
 use Rattle.wt_trace.specs.declared.trace.TraceError.TheVariants as errors
 use Rattle.wt_seam.specs.declared.turn.Turn.{Turn}

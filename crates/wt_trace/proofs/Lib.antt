@@ -1,6 +1,3 @@
-pub mod PrintLaws
-pub mod NumberLaws
-pub mod ScriptLaws
 pub mod OutsideLaws
 pub mod RunLaws
 pub mod Tells

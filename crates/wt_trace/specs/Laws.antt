@@ -18,8 +18,8 @@ use Rattle.wt_seam.specs.declared.turn.Turn.TheVariants as turns
 use Rattle.wt_trace.specs.declared.trace.TraceError.{TraceError}
 use Rattle.wt_trace.specs.declared.trace.TraceError.TheVariants as errors
 use Rattle.wt_trace.specs.Exchanges.{Exchange, exchanges, brought, opened_unis, opened_bis, was_given, session_of, was_accepted, read_from, settings_came, request_waits, stream_waits, behind_header, unread_of}
-use Rattle.wt_trace.specs.declared.script.Script.{Script}
-use Rattle.wt_trace.specs.declared.script.ScriptRefused.{ScriptRefused}
+use Rattle.wt_script.specs.declared.script.Script.{Script}
+use Rattle.wt_script.specs.declared.script.ScriptRefused.{ScriptRefused}
 use Rattle.wt_seam.specs.History.{Past, deeds}
 use Rattle.wt_core.specs.Next.{run, run_from, next, then_turn, joined, past_of}
 use Rattle.wt_seam.specs.Seam.{is_among, own_uni, peer_bi, peer_uni}

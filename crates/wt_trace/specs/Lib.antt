@@ -1,7 +1,3 @@
-pub mod Print
-pub mod Words
-pub mod Numbers
-pub mod Script
 pub mod Exchanges
 pub mod Laws
 pub mod Outside

@@ -5,13 +5,13 @@ use Rattle.std.specs.Io.KnownBytes.{Appends, Consumes}
 use Rattle.wt_core.specs.declared.answer.Answer.{Answer}
 use Rattle.wt_trace.specs.declared.program.CutShort.{CutShort}
 use Rattle.wt_trace.specs.declared.program.CutShort.TheVariants.{SourceFailed, SinkFailed, OutOfMemory}
-use Rattle.wt_trace.specs.declared.script.Script.{Script}
-use Rattle.wt_trace.specs.declared.script.ScriptRefused.{ScriptRefused}
+use Rattle.wt_script.specs.declared.script.Script.{Script}
+use Rattle.wt_script.specs.declared.script.ScriptRefused.{ScriptRefused}
 use Rattle.wt_core.specs.Next.{Run, run, Stop, Finished, AtUnlawful, AtUnbuilt}
 use Rattle.wt_trace.specs.Outside.{Rose}
-use Rattle.wt_trace.specs.Print.{print}
-use Rattle.wt_trace.specs.Script.{script_of}
-use Rattle.wt_trace.specs.Words.{is_word}
+use Rattle.wt_script.specs.Print.{print}
+use Rattle.wt_script.specs.Script.{script_of}
+use Rattle.wt_script.specs.Words.{is_word}
 
 -- the words ask for a trace
 abbrev pub is_trace : List (List ℕ) → Bool

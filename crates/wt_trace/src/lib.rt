@@ -4,9 +4,7 @@
 #![tactic(auto)]
 
 pub mod outside;
-pub mod print;
 pub mod program;
-pub mod script;
 #[cfg(test)]
 mod tests;
 pub mod trace;

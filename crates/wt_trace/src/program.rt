@@ -4,17 +4,17 @@ ghost use Rattle.std.specs.Fmt.{decimal};
 ghost use Rattle.std.specs.Io.KnownBytes.{Consumes, Appends, Keeps, IsAtEnd};
 ghost use Rattle.wt_core.specs.Next.{run};
 ghost use Rattle.wt_trace.specs.Outside.{Rose, AppendsPart};
-ghost use Rattle.wt_trace.specs.Print.{answer_line, print};
+ghost use Rattle.wt_script.specs.Print.{answer_line, print};
 ghost use Rattle.wt_trace.specs.Laws.{ScriptKeepsLaws};
 ghost use Rattle.wt_trace.specs.Program.{is_trace, is_cut_short, tells_script, tells_input, script_limit, usage, refused_at, run_outcome, input_outcome, outcome, ReadsFew, AnswersInput, cut_status, Cuts, CutsReading, CutsWriting};
-ghost use Rattle.wt_trace.specs.Script.{script_of};
+ghost use Rattle.wt_script.specs.Script.{script_of};
 
 use crate::outside::{Sink, Source};
-use crate::print::{push_answer, push_number};
-use crate::script::{Script, read_script};
 use crate::trace::{TraceError, run_trace};
 use std::alloc::Global;
 use wt_core::answer::Answer;
+use wt_script::print::push_answer;
+use wt_script::script::{Script, read_script};
 use wt_wire::error::OutOfMemory;
 
 /// The greatest script, in bytes.
@@ -234,7 +234,7 @@ fn number_line(
 {
     let mut text = String::new(alloc);
     text.push_str(before)?;
-    push_number(alloc, &mut text, number)?;
+    text.push_str(number.to_string(alloc)?.as_str())?;
     text.push_str(behind)?;
     Ok(text)
 }

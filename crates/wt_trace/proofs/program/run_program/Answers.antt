@@ -1,4 +1,4 @@
-use Rattle.wt_trace.specs.Script.{script_of}
+use Rattle.wt_script.specs.Script.{script_of}
 use Rattle.wt_trace.proofs.AllTurns.{script-keeps}
 use Rattle.wt_trace.proofs.program.run_program.Goals as goal
 

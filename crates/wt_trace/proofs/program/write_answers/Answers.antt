@@ -1,4 +1,4 @@
-use Rattle.wt_trace.specs.Print.{answer_line}
+use Rattle.wt_script.specs.Print.{answer_line}
 use Rattle.wt_trace.proofs.OutsideLaws.{part_of_list}
 use Rattle.wt_trace.proofs.program.write_answers.Goals as goal
 

@@ -1,6 +1,6 @@
 use Rattle.std.proofs.Common.{◌≡◌, take}
 use Rattle.std.specs.Io.KnownBytes.{Appends}
-use Rattle.wt_trace.specs.Print.{print}
+use Rattle.wt_script.specs.Print.{print}
 use Rattle.wt_trace.proofs.program.write_answers.Given as goal
 
 abbrev pub invariant-loop-answer : goal.invariant-loop-answer

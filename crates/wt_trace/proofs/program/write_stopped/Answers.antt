@@ -1,7 +1,7 @@
 use Rattle.std.proofs.Common.{◌++◌}
 use Rattle.std.specs.Prelude.{codes}
 use Rattle.std.specs.Fmt.{decimal}
-use Rattle.wt_trace.specs.Print.{print}
+use Rattle.wt_script.specs.Print.{print}
 use Rattle.wt_trace.proofs.OutsideLaws.{part_longer, part_then, part_whole}
 use Rattle.wt_trace.proofs.program.write_stopped.Goals as goal
 

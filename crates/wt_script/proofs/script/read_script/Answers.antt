@@ -1,0 +1,36 @@
+use Rattle.std.proofs.Common.{◌+◌, ◌-◌, [], take, drop, ap, sym, ◌∙◌, arith}
+use Rattle.std.specs.Prelude.{Ok}
+use Rattle.wt_script.specs.Words.{lines_from}
+use Rattle.wt_script.specs.Script.{read_lines}
+use Rattle.wt_script.proofs.ScriptLaws.{at_line_end, in_line, next_line, refused_here}
+use Rattle.wt_script.proofs.script.read_script.Goals as goal
+use Rattle.wt_script.proofs.script.read_script.Goals.{then-byte-eq10+in_ok-take_line+else-not-branch, else-byte-eq10}
+
+pub returns-then-not-branch : goal.returns-then-not-branch
+returns-then-not-branch c =
+    let script = c.args.script.now in
+    let line = take (c.loop-at.at - c.loop-at.start) (drop c.loop-at.start script) in
+    let lines = lines_from [] (drop (c.loop-at.at + 1) script) in
+    let none = rw c.if-not-branch.true at c.in_ok-take_line.ensures in
+    sym (refused_here c.loop-at.number c.loop-at.draft line lines none)
+    ∙ ap (read_lines c.loop-at.number (Ok c.loop-at.draft)) (sym (at_line_end line script c.loop-at.at c.loop-at-test.true c.if-byte-eq10.true))
+    ∙ c.loop-at.invariant.joined
+
+pub loop-at-preserved : goal.loop-at-preserved
+loop-at-preserved c = elim c.if-byte-eq10.branch [
+  | then-byte-eq10+in_ok-take_line+else-not-branch w ↦
+      let line = take (c.loop-at.at - c.loop-at.start) (drop c.loop-at.start c.args.script.now) in
+      let taken = rw w.if-not-branch.false at w.in_ok-take_line.ensures in
+      rw (w.draft-is, w.number-is, w.start-is) (record {
+        joined = next_line c.args.script.now line c.loop-at.at c.loop-at.number c.loop-at.draft w.take_line.new.self c.loop-at-test.true w.if-byte-eq10.true taken ∙ c.loop-at.invariant.joined;
+        begun = omega arith;
+        counted = omega arith;
+      })
+  | else-byte-eq10 w ↦
+      let same = in_line c.args.script.now c.loop-at.start c.loop-at.at c.loop-at.invariant.begun c.loop-at-test.true w.if-byte-eq10.false in
+      rw (w.draft-is, w.number-is, w.start-is) (record {
+        joined = ap (read_lines c.loop-at.number (Ok c.loop-at.draft)) (sym same) ∙ c.loop-at.invariant.joined;
+        begun = omega arith;
+        counted = omega arith;
+      })
+]

@@ -1,0 +1,144 @@
+//! Scripts: a side and its turns, a line each.
+ghost use Rattle.std.specs.Prelude.{◌≡◌, ◌+◌, ◌<◌, ◌^◌, [], IfOk, Some, None, Ok, if◌then◌else◌};
+ghost use Rattle.wt_script.specs.Words.{lines_from};
+ghost use Rattle.wt_script.specs.Script.{side_of, empty_draft, with_line, with_side, with_turn, turn_of, finished, read_lines, script_of};
+
+pub mod lines;
+mod numbers;
+mod words;
+
+use crate::script::lines::read_turn;
+use crate::script::words::is_name;
+use std::alloc::Global;
+use wt_seam::turn::Turns;
+use wt_wire::error::OutOfMemory;
+use wt_wire::side::Side;
+
+/// What a script says.
+#[derive(Debug, Drop)]
+pub struct Script {
+    /// The side that answers.
+    pub side: Side,
+    /// The turns, in order.
+    pub turns: Turns,
+}
+
+/// A script is refused for this line, counted from 1: the first that isn't in the grammar, or the one
+/// behind the last where no line tells the side.
+#[derive(Clone, Copy, PartialEq, Eq, Debug)]
+pub struct ScriptRefused {
+    pub line: u64,
+}
+
+/// What the lines so far say.
+#[derive(Debug, Drop)]
+struct Draft {
+    side: Option<Side>,
+    turns: Turns,
+}
+
+impl Draft {
+    fn new(alloc: Global) -> Draft
+        ensures { result ≡ empty_draft }
+    {
+        Draft {
+            side: None,
+            turns: Turns::new(alloc),
+        }
+    }
+
+    /// Takes a line; false where it isn't in the grammar.
+    fn take_line(&mut self, alloc: Global, line: &[u8]) -> Result<bool, OutOfMemory>
+        ensures { IfOk result (λ taken. with_line self.old line.now ≡ (if taken then Some self.new else None)) }
+    {
+        match line {
+            [] => Ok(true),
+            [b'#', ..] => Ok(true),
+            _ => match self.side {
+                None => Ok(self.take_side(line)),
+                Some(_) => self.take_turn(alloc, line),
+            },
+        }
+    }
+
+    fn take_side(&mut self, line: &[u8]) -> bool
+        ensures { with_side self.old (side_of line.now) ≡ (if result then Some self.new else None) }
+    {
+        if is_name(line, b"server") {
+            self.side = Some(Side::Server);
+            true
+        } else {
+            false
+        }
+    }
+
+    fn take_turn(&mut self, alloc: Global, line: &[u8]) -> Result<bool, OutOfMemory>
+        ensures { IfOk result (λ taken. with_turn self.old (turn_of line.now) ≡ (if taken then Some self.new else None)) }
+    {
+        match read_turn(alloc, line)? {
+            Some(turn) => {
+                self.turns.push(turn)?;
+                Ok(true)
+            }
+            None => Ok(false),
+        }
+    }
+
+    /// The script, or its refusal at this line where no line told the side.
+    fn finish(self, number: u64) -> Result<Script, ScriptRefused>
+        ensures { result ≡ finished number self self.side }
+    {
+        match self.side {
+            Some(side) => Ok(Script {
+                side,
+                turns: self.turns,
+            }),
+            None => Err(ScriptRefused { line: number }),
+        }
+    }
+}
+
+/// Reads the last line, which lacks its line feed, where there is one.
+fn end_script(
+    alloc: Global,
+    draft: Draft,
+    number: u64,
+    line: &[u8],
+) -> Result<Result<Script, ScriptRefused>, OutOfMemory>
+    requires { number + 1 < 2 ^ 64 }
+    ensures { IfOk result (λ r. r ≡ read_lines number (Ok draft) (lines_from line.now [])) }
+{
+    let mut draft = draft;
+    if line.is_empty() {
+        return Ok(draft.finish(number));
+    }
+    if draft.take_line(alloc, line)? {
+        Ok(draft.finish(number + 1))
+    } else {
+        Ok(Err(ScriptRefused { line: number }))
+    }
+}
+
+/// Reads a script: lines that end with a line feed, which the last may lack. An empty line and one
+/// that begins with `#` are left out, and counted. The first other line is `server`, each further one
+/// is a turn.
+pub fn read_script(
+    alloc: Global,
+    script: &[u8],
+) -> Result<Result<Script, ScriptRefused>, OutOfMemory>
+    ensures { IfOk result (λ r. r ≡ script_of script.now) }
+{
+    let mut draft = Draft::new(alloc);
+    let mut number: u64 = 1;
+    let mut start = 0;
+    for (at, byte) in script.iter().enumerate() {
+        if *byte == b'\n' {
+            if !draft.take_line(alloc, &script[start..at])? {
+                return Ok(Err(ScriptRefused { line: number }));
+            }
+            number += 1;
+            start = at + 1;
+        }
+    }
+    end_script(alloc, draft, number, &script[start..])
+}
