@@ -1,3 +1,5 @@
+pub mod HeaderLaws
 pub mod NumberLaws
-pub mod ScriptLaws
 pub mod PrintLaws
+pub mod ScriptLaws
+pub mod UrlLaws

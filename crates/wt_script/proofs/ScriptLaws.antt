@@ -3,24 +3,20 @@ use Rattle.std.proofs.Common.{arith, ◌≡◌, ℕ, ◌+◌, ◌-◌, ◌<◌, 
 use Rattle.std.proofs.Math.Seq.{take-suc}
 use Rattle.std.proofs.lemmas.List.{drop_more, get_or-drop}
 use Rattle.std.proofs.lemmas.Bool.{ne_eqb}
-use Rattle.std.specs.Prelude.{Some, None, Ok, Err, ◌==◌, if◌then◌else◌}
-use Rattle.wt_script.specs.declared.script.Draft.{Draft}
+use Rattle.std.specs.Prelude.{Option, Some, None, Result, Ok, Err, ◌==◌, if◌then◌else◌}
+use Rattle.wt_script.specs.declared.script.Script.{Script}
 use Rattle.wt_script.specs.declared.script.ScriptRefused.{ScriptRefused}
+use Rattle.wt_script.specs.Lines.{Lines}
 use Rattle.wt_script.specs.Words.{lines_from}
-use Rattle.wt_script.specs.Script.{read_lines, or_refused, with_line}
+use Rattle.wt_script.specs.Script.{read_lines, with_line}
 
-pub refused_stays : (number : ℕ) (refused : ScriptRefused) (lines : List (List ℕ)) → read_lines number (Err refused) lines ≡ Err refused
-refused_stays number refused [] = refl
-refused_stays number refused (line ∷ lines) = refused_stays (number + 1) refused lines
+pub refused_here : (number : ℕ) (before : Lines) (line : List ℕ) (lines : List (List ℕ)) → with_line before line ≡ None
+    → read_lines number before (line ∷ lines) ≡ Err (record { line = number })
+refused_here number before line lines e = ap (λ (next : Option Lines). elim next [ Some next ↦ read_lines (number + 1) next lines | None ↦ Err (record { line = number }) ]) e
 
-pub refused_here : (number : ℕ) (draft : Draft) (line : List ℕ) (lines : List (List ℕ)) → with_line draft line ≡ None
-    → read_lines number (Ok draft) (line ∷ lines) ≡ Err (record { line = number })
-refused_here number draft line lines e =
-    ap (λ d. read_lines (number + 1) (or_refused number d) lines) e ∙ refused_stays (number + 1) (record { line = number }) lines
-
-pub taken_here : (number : ℕ) (draft next : Draft) (line : List ℕ) (lines : List (List ℕ)) → with_line draft line ≡ Some next
-    → read_lines number (Ok draft) (line ∷ lines) ≡ read_lines (number + 1) (Ok next) lines
-taken_here number draft next line lines e = ap (λ d. read_lines (number + 1) (or_refused number d) lines) e
+pub taken_here : (number : ℕ) (before next : Lines) (line : List ℕ) (lines : List (List ℕ)) → with_line before line ≡ Some next
+    → read_lines number before (line ∷ lines) ≡ read_lines (number + 1) next lines
+taken_here number before next line lines e = ap (λ (next : Option Lines). elim next [ Some next ↦ read_lines (number + 1) next lines | None ↦ Err (record { line = number }) ]) e
 
 pub at_line_end : (line script : List ℕ) (i : ℕ) → i < length script → get_or script i 0 ≡ 10
     → lines_from line (drop i script) ≡ line ∷ lines_from [] (drop (i + 1) script)
@@ -49,12 +45,12 @@ in_line script start i begun within other =
     ∙ ap (λ l. lines_from l rest) (sym (longer script start i begun within))
 
 -- behind a line that is taken the next one begins
-pub next_line : (script line : List ℕ) (i number : ℕ) (draft next : Draft) → i < length script → get_or script i 0 ≡ 10
-    → with_line draft line ≡ Some next
-    → read_lines (number + 1) (Ok next) (lines_from (take (i + 1 - (i + 1)) (drop (i + 1) script)) (drop (i + 1) script))
-    ≡ read_lines number (Ok draft) (lines_from line (drop i script))
-next_line script line i number draft next within feed taken =
+pub next_line : (script line : List ℕ) (i number : ℕ) (before next : Lines) → i < length script → get_or script i 0 ≡ 10
+    → with_line before line ≡ Some next
+    → read_lines (number + 1) next (lines_from (take (i + 1 - (i + 1)) (drop (i + 1) script)) (drop (i + 1) script))
+    ≡ read_lines number before (lines_from line (drop i script))
+next_line script line i number before next within feed taken =
     let none : i + 1 - (i + 1) ≡ 0 = omega arith in
-    ap (λ n. read_lines (number + 1) (Ok next) (lines_from (take n (drop (i + 1) script)) (drop (i + 1) script))) none
-    ∙ sym (taken_here number draft next line (lines_from [] (drop (i + 1) script)) taken)
-    ∙ ap (read_lines number (Ok draft)) (sym (at_line_end line script i within feed))
+    ap (λ n. read_lines (number + 1) next (lines_from (take n (drop (i + 1) script)) (drop (i + 1) script))) none
+    ∙ sym (taken_here number before next line (lines_from [] (drop (i + 1) script)) taken)
+    ∙ ap (read_lines number before) (sym (at_line_end line script i within feed))

@@ -1,140 +1,98 @@
--- The turns that a script spells (this repository's own grammar).
-use Rattle.std.specs.Prelude.{ℕ, ◌+◌, ◌^◌, ◌==◌, Bool, true, List, [], ◌∷◌, ◌++◌, codes, Option, Some, None, Result, Ok, Err, if◌then◌else◌}
-use Rattle.std.specs.Option.{option_map}
+-- The turn that a line spells, and the side and the turns that a script spells (this repository's own grammar).
+use Rattle.std.specs.Prelude.{ℕ, ◌+◌, ◌==◌, Bool, true, false, List, [], ◌∷◌, ◌++◌, codes, Option, Some, None, Result, Ok, Err, if◌then◌else◌}
+use Rattle.std.specs.Option.{option_map, option_or, option_and_then}
 use Rattle.wt_wire.specs.declared.side.Side.{Side}
-use Rattle.wt_wire.specs.declared.side.Side.TheVariants.{Server}
-use Rattle.wt_seam.specs.declared.turn.Call.{Call}
-use Rattle.wt_seam.specs.declared.turn.Call.TheVariants as calls
-use Rattle.wt_seam.specs.declared.turn.DatagramFact.{DatagramFact}
-use Rattle.wt_seam.specs.declared.turn.DatagramFact.TheVariants as facts
-use Rattle.wt_seam.specs.declared.turn.Turn.{Turn}
-use Rattle.wt_seam.specs.declared.turn.Turn.TheVariants as turns
-use Rattle.wt_script.specs.declared.script.Draft.{Draft}
+use Rattle.wt_wire.specs.declared.side.Side.TheVariants.{Client, Server}
+use Rattle.wt_turn.specs.declared.call.Call.{Call}
+use Rattle.wt_turn.specs.declared.call.Call.TheVariants as calls
+use Rattle.wt_turn.specs.declared.turn.Turn.{Turn}
+use Rattle.wt_turn.specs.declared.turn.Turn.TheVariants as turns
 use Rattle.wt_script.specs.declared.script.Script.{Script}
 use Rattle.wt_script.specs.declared.script.ScriptRefused.{ScriptRefused}
-use Rattle.wt_script.specs.Numbers.{number, bytes_of}
-use Rattle.wt_script.specs.Words.{is_word, words, lines, two_words, four_words}
+use Rattle.wt_script.specs.Calls.{call_of}
+use Rattle.wt_script.specs.Events.{event_of}
+use Rattle.wt_script.specs.Lines.{Lines}
+use Rattle.wt_script.specs.Words.{is_word, words, lines}
 
--- a number of 64 bits
-abbrev pub count_of : List ℕ → Option ℕ
-count_of word = number (2 ^ 64) word
-
--- the id of a stream
-abbrev pub id_of : List ℕ → Option ℕ
-id_of word = number (2 ^ 62) word
-
--- what the transport tells about datagrams
-abbrev pub fact_of : List ℕ → Option DatagramFact
-fact_of word =
-    if is_word word (codes "off") then Some facts.Disabled else
-    (if is_word word (codes "unsupported") then Some facts.Unsupported else option_map facts.Limit (count_of word))
-
-abbrev pub connected_with : Option ℕ → Option ℕ → Option ℕ → Option DatagramFact → Option Turn
-connected_with (Some uni) (Some bi) (Some credit) (Some fact) = Some (turns.Connected uni bi credit fact)
-connected_with uni bi credit fact = None
-
-abbrev pub connected_of : Option (List ℕ × List ℕ × List ℕ × List ℕ) → Option Turn
-connected_of None = None
-connected_of (Some (uni, bi, credit, fact)) = connected_with (count_of uni) (count_of bi) (count_of credit) (fact_of fact)
-
-abbrev pub bytes_with : Option ℕ → Option (List ℕ) → Option Turn
-bytes_with (Some id) (Some piece) = Some (turns.Bytes id piece)
-bytes_with id piece = None
-
-abbrev pub bytes_turn_of : Option (List ℕ × List ℕ) → Option Turn
-bytes_turn_of None = None
-bytes_turn_of (Some (id, piece)) = bytes_with (id_of id) (bytes_of piece)
-
-abbrev pub read_with : Option ℕ → Option ℕ → Option Call
-read_with (Some id) (Some size) = Some (calls.Read id size)
-read_with id size = None
-
-abbrev pub read_call_of : Option (List ℕ × List ℕ) → Option Call
-read_call_of None = None
-read_call_of (Some (id, size)) = read_with (id_of id) (count_of size)
-
--- a line of one word
-abbrev pub alone : {T : Type 0} → List (List ℕ) → T → Option T
-alone [] t = Some t
-alone (field ∷ fields) t = None
-
--- the event of the transport by its name and its fields
-abbrev pub event_of : List ℕ → List (List ℕ) → Option Turn
-event_of name fields =
-    if is_word name (codes "connected") then connected_of (four_words fields) else
-    (if is_word name (codes "peer_uni") then alone fields turns.PeerUni else
-    (if is_word name (codes "peer_bi") then alone fields turns.PeerBi else
-    (if is_word name (codes "bytes") then bytes_turn_of (two_words fields) else None)))
-
--- the call of the application by its name and its fields
-abbrev pub call_of : List ℕ → List (List ℕ) → Option Call
-call_of name fields =
-    if is_word name (codes "incoming") then alone fields calls.Incoming else
-    (if is_word name (codes "accept") then alone fields (calls.Accept []) else
-    (if is_word name (codes "accept_uni") then alone fields calls.AcceptUni else
-    (if is_word name (codes "read") then read_call_of (two_words fields) else None)))
-
-abbrev pub event_or_call : Option Turn → Option Call → Option Turn
-event_or_call (Some turn) call = Some turn
-event_or_call None call = option_map turns.Call call
-
+-- the turn that a name and its fields spell
 abbrev pub turn_of_words : List (List ℕ) → Option Turn
 turn_of_words [] = None
-turn_of_words (name ∷ fields) = event_or_call (event_of name fields) (call_of name fields)
+turn_of_words (name ∷ fields) = option_or (event_of name fields) (option_map turns.Call (call_of name fields))
 
 -- the turn that a line spells
 abbrev pub turn_of : List ℕ → Option Turn
 turn_of line = turn_of_words (words line)
+
+-- the side that a line spells
+abbrev pub side_of : List ℕ → Option Side
+side_of line = if is_word line (codes "server") then Some Server else (if is_word line (codes "client") then Some Client else None)
+
+-- ---- what a script may hold so far
+
+-- the calls that a script may hold
+abbrev pub is_offered_call : Call → Bool
+is_offered_call calls.Incoming = true
+is_offered_call (calls.Accept []) = true
+is_offered_call calls.AcceptUni = true
+is_offered_call (calls.Read id size) = true
+is_offered_call _ = false
+
+-- the turns that a script may hold; the line of each other one refuses it
+abbrev pub is_offered : Turn → Bool
+is_offered (turns.Connected uni bi credit datagrams) = true
+is_offered turns.PeerUni = true
+is_offered turns.PeerBi = true
+is_offered (turns.Bytes id piece) = true
+is_offered (turns.Call call) = is_offered_call call
+is_offered _ = false
+
+-- the sides that a script may tell
+abbrev pub is_offered_side : Side → Bool
+is_offered_side Server = true
+is_offered_side Client = false
+
+-- what passes a test
+abbrev pub only : {T : Type 0} → (T → Bool) → T → Option T
+only test t = if test t then Some t else None
+
+-- ---- scripts
 
 -- an empty line and a line that begins with '#' are left out
 abbrev pub is_left_out : List ℕ → Bool
 is_left_out [] = true
 is_left_out (b ∷ line) = b == 35
 
-abbrev pub side_of : List ℕ → Option Side
-side_of line = if is_word line (codes "server") then Some Server else None
+-- the lines so far, and one that tells the side
+abbrev pub with_side : Lines → Side → Lines
+with_side before side = record { side = Some side; turns = before.turns }
 
-abbrev pub with_side : Draft → Option Side → Option Draft
-with_side draft None = None
-with_side draft (Some side) = Some (record { side = Some side; turns = draft.turns })
-
-abbrev pub with_turn : Draft → Option Turn → Option Draft
-with_turn draft None = None
-with_turn draft (Some turn) = Some (record { side = draft.side; turns = draft.turns ++ turn ∷ [] })
+-- the lines so far, and one that spells a turn
+abbrev pub with_turn : Lines → Turn → Lines
+with_turn before turn = record { side = before.side; turns = before.turns ++ turn ∷ [] }
 
 -- the first line that isn't left out tells the side, each further one is a turn
-abbrev pub with_words : Draft → Option Side → List ℕ → Option Draft
-with_words draft None line = with_side draft (side_of line)
-with_words draft (Some side) line = with_turn draft (turn_of line)
+abbrev pub with_words : Lines → Option Side → List ℕ → Option Lines
+with_words before None line = option_map (with_side before) (option_and_then (only is_offered_side) (side_of line))
+with_words before (Some side) line = option_map (with_turn before) (option_and_then (only is_offered) (turn_of line))
 
-abbrev pub with_line : Draft → List ℕ → Option Draft
-with_line draft line = if is_left_out line then Some draft else with_words draft draft.side line
-
-abbrev pub or_refused : ℕ → Option Draft → Result Draft ScriptRefused
-or_refused number None = Err (record { line = number })
-or_refused number (Some draft) = Ok draft
-
--- one more line, of this number; once a line is refused, the script is
-abbrev pub after_line : ℕ → Result Draft ScriptRefused → List ℕ → Result Draft ScriptRefused
-after_line number (Err refused) line = Err refused
-after_line number (Ok draft) line = or_refused number (with_line draft line)
+-- what one more line says; None where it is none of a script's
+abbrev pub with_line : Lines → List ℕ → Option Lines
+with_line before line = if is_left_out line then Some before else with_words before before.side line
 
 -- a script without a side is refused behind its last line
-abbrev pub finished : ℕ → Draft → Option Side → Result Script ScriptRefused
-finished number draft None = Err (record { line = number })
-finished number draft (Some side) = Ok (record { side = side; turns = draft.turns })
+abbrev pub finished : ℕ → List Turn → Option Side → Result Script ScriptRefused
+finished number turns None = Err (record { line = number })
+finished number turns (Some side) = Ok (record { side = side; turns = turns })
 
-abbrev pub end_of : ℕ → Result Draft ScriptRefused → Result Script ScriptRefused
-end_of number (Err refused) = Err refused
-end_of number (Ok draft) = finished number draft draft.side
+-- the lines one after another, the first of this number; the first that is none of a script's refuses it
+abbrev pub read_lines : ℕ → Lines → List (List ℕ) → Result Script ScriptRefused
+read_lines number before [] = finished number before.turns before.side
+read_lines number before (line ∷ lines) = elim (with_line before line) [ Some next ↦ read_lines (number + 1) next lines | None ↦ Err (record { line = number }) ]
 
-abbrev pub read_lines : ℕ → Result Draft ScriptRefused → List (List ℕ) → Result Script ScriptRefused
-read_lines number draft [] = end_of number draft
-read_lines number draft (line ∷ lines) = read_lines (number + 1) (after_line number draft line) lines
-
-abbrev pub empty_draft : Draft
-empty_draft = record { side = None; turns = [] }
+-- no line yet
+abbrev pub no_lines : Lines
+no_lines = record { side = None; turns = [] }
 
 -- the side and the turns of a script, or the first line that is refused
 abbrev pub script_of : List ℕ → Result Script ScriptRefused
-script_of script = read_lines 1 (Ok empty_draft) (lines script)
+script_of script = read_lines 1 no_lines (lines script)

@@ -1,16 +1,23 @@
 //! Scripts: a side and its turns, a line each.
 ghost use Rattle.std.specs.Prelude.{◌≡◌, ◌+◌, ◌<◌, ◌^◌, [], IfOk, Some, None, Ok, if◌then◌else◌};
+ghost use Rattle.std.specs.Option.{option_and_then, option_map};
 ghost use Rattle.wt_script.specs.Words.{lines_from};
-ghost use Rattle.wt_script.specs.Script.{side_of, empty_draft, with_line, with_side, with_turn, turn_of, finished, read_lines, script_of};
+ghost use Rattle.wt_script.specs.Script.{finished, is_offered, is_offered_call, is_offered_side, no_lines, only, read_lines, script_of, side_of, turn_of, with_line, with_side, with_turn};
 
+mod addresses;
+mod calls;
+mod events;
+mod headers;
 pub mod lines;
 mod numbers;
+mod pairs;
 mod words;
 
-use crate::script::lines::read_turn;
-use crate::script::words::is_name;
+use crate::script::lines::{read_side, read_turn};
 use std::alloc::Global;
-use wt_seam::turn::Turns;
+use std::marker::Model;
+use wt_turn::call::Call;
+use wt_turn::turn::{Turn, Turns};
 use wt_wire::error::OutOfMemory;
 use wt_wire::side::Side;
 
@@ -30,6 +37,37 @@ pub struct ScriptRefused {
     pub line: u64,
 }
 
+fn is_offered_call(call: &Call) -> bool
+    ensures { result ≡ is_offered_call call.now }
+{
+    match call {
+        Call::Incoming | Call::AcceptUni | Call::Read { .. } => true,
+        Call::Accept { headers } => headers.is_empty(),
+        _ => false,
+    }
+}
+
+/// Whether a script may hold the turn: it is built.
+fn is_offered(turn: &Turn) -> bool
+    ensures { result ≡ is_offered turn.now }
+{
+    match turn {
+        Turn::Connected { .. } | Turn::PeerUni | Turn::PeerBi | Turn::Bytes { .. } => true,
+        Turn::Call(call) => is_offered_call(call),
+        _ => false,
+    }
+}
+
+/// Whether a script may tell the side: it is built.
+fn is_offered_side(side: Side) -> bool
+    ensures { result ≡ is_offered_side side }
+{
+    match side {
+        Side::Server => true,
+        Side::Client => false,
+    }
+}
+
 /// What the lines so far say.
 #[derive(Debug, Drop)]
 struct Draft {
@@ -37,9 +75,17 @@ struct Draft {
     turns: Turns,
 }
 
+impl Model for Draft {
+    ghost use Rattle.wt_script.specs.Lines.{Lines};
+
+    ghost Value = { Lines };
+
+    ghost view = { λ d. record { side = d.side; turns = d.turns } };
+}
+
 impl Draft {
     fn new(alloc: Global) -> Draft
-        ensures { result ≡ empty_draft }
+        ensures { result ≡ no_lines }
     {
         Draft {
             side: None,
@@ -62,21 +108,25 @@ impl Draft {
     }
 
     fn take_side(&mut self, line: &[u8]) -> bool
-        ensures { with_side self.old (side_of line.now) ≡ (if result then Some self.new else None) }
+        ensures { option_map (with_side self.old) (option_and_then (only is_offered_side) (side_of line.now)) ≡ (if result then Some self.new else None) }
     {
-        if is_name(line, b"server") {
-            self.side = Some(Side::Server);
-            true
-        } else {
-            false
+        match read_side(line) {
+            Some(side) if is_offered_side(side) => {
+                self.side = Some(side);
+                true
+            }
+            _ => false,
         }
     }
 
     fn take_turn(&mut self, alloc: Global, line: &[u8]) -> Result<bool, OutOfMemory>
-        ensures { IfOk result (λ taken. with_turn self.old (turn_of line.now) ≡ (if taken then Some self.new else None)) }
+        ensures { IfOk result (λ taken. option_map (with_turn self.old) (option_and_then (only is_offered) (turn_of line.now)) ≡ (if taken then Some self.new else None)) }
     {
         match read_turn(alloc, line)? {
             Some(turn) => {
+                if !is_offered(&turn) {
+                    return Ok(false);
+                }
                 self.turns.push(turn)?;
                 Ok(true)
             }
@@ -86,7 +136,7 @@ impl Draft {
 
     /// The script, or its refusal at this line where no line told the side.
     fn finish(self, number: u64) -> Result<Script, ScriptRefused>
-        ensures { result ≡ finished number self self.side }
+        ensures { result ≡ finished number self.turns self.side }
     {
         match self.side {
             Some(side) => Ok(Script {
@@ -106,7 +156,7 @@ fn end_script(
     line: &[u8],
 ) -> Result<Result<Script, ScriptRefused>, OutOfMemory>
     requires { number + 1 < 2 ^ 64 }
-    ensures { IfOk result (λ r. r ≡ read_lines number (Ok draft) (lines_from line.now [])) }
+    ensures { IfOk result (λ r. r ≡ read_lines number draft (lines_from line.now [])) }
 {
     let mut draft = draft;
     if line.is_empty() {
@@ -120,8 +170,8 @@ fn end_script(
 }
 
 /// Reads a script: lines that end with a line feed, which the last may lack. An empty line and one
-/// that begins with `#` are left out, and counted. The first other line is `server`, each further one
-/// is a turn.
+/// that begins with `#` are left out, and counted. The first other line tells the side, each further
+/// one is a turn. The line of a side or a turn that isn't built is refused.
 pub fn read_script(
     alloc: Global,
     script: &[u8],

@@ -1,4 +1,4 @@
-//! What the contracts leave open: that memory suffices where there is enough.
+//! What the contracts leave open: that memory suffices where there is enough, and worked lines.
+mod errors;
 mod print;
 mod script;
-mod vocabulary;

@@ -1,20 +1,18 @@
-//! Numbers and bytes in a script.
-ghost use Rattle.std.specs.Prelude.{◌≡◌, ◌+◌, ◌-◌, ◌*◌, ◌<◌, ◌^◌, IsTrue, IfOk, Some, None};
+//! Numbers, bytes and texts in a script.
+ghost use Rattle.std.specs.Prelude.{◌≡◌, ◌+◌, ◌-◌, ◌*◌, ◌<◌, ◌≤◌, ◌^◌, IsTrue, IfOk, Some, None, pos, nat_lt, if◌then◌else◌};
 ghost use Rattle.std.specs.Option.{option_map, SomeIff};
-ghost use Rattle.wt_script.specs.Numbers.{is_decimal, value, number, bytes_of};
 ghost use Rattle.std.specs.Char.{is_ascii_digit};
 ghost use Rattle.std.specs.Str.{all_ascii_digits};
-ghost use Rattle.std.specs.Result.{result_ok};
-ghost use Rattle.hex.specs.Hex.{decode_of};
-ghost use Rattle.wt_script.specs.Script.{count_of, id_of, fact_of};
+ghost use Rattle.wt_script.specs.Numbers.{as_text, is_decimal, value, number, bytes_of, count_of, digits_of, id_of, minus, port_of, priority_of, text_of};
 
 use crate::script::words::is_name;
 use hex::FromHexError;
 use std::alloc::Global;
-use wt_seam::piece::Piece;
-use wt_seam::turn::DatagramFact;
+use wt_turn::piece::Piece;
 use wt_wire::error::OutOfMemory;
 use wt_wire::ids::StreamId;
+use wt_wire::text::Text;
+use wt_wire::utf8::from_utf8;
 use wt_wire::varint::VarInt;
 
 fn are_digits(word: &[u8]) -> bool
@@ -76,33 +74,65 @@ pub fn read_count(word: &[u8]) -> Option<u64>
     }
 }
 
+/// A number below a limit.
+fn read_number(limit: u64, word: &[u8]) -> Option<u64>
+    ensures { result ≡ number limit word.now }
+{
+    let number = read_count(word)?;
+    if number < limit { Some(number) } else { None }
+}
+
+/// A code.
+pub fn read_code(word: &[u8]) -> Option<VarInt>
+    ensures { result ≡ id_of word.now }
+{
+    let number = read_count(word)?;
+    VarInt::try_from_u64(number)
+}
+
 /// The id of a stream.
 pub fn read_id(word: &[u8]) -> Option<StreamId>
     ensures { result ≡ id_of word.now }
 {
-    let number = read_count(word)?;
-    let id = VarInt::try_from_u64(number)?;
+    let id = read_code(word)?;
     Some(StreamId::new(id))
 }
 
-/// What the transport tells about datagrams.
-pub fn read_fact(word: &[u8]) -> Option<DatagramFact>
-    ensures { result ≡ fact_of word.now }
+/// The port of an address.
+pub fn read_port(word: &[u8]) -> Option<u16>
+    ensures { result ≡ port_of word.now }
 {
-    if is_name(word, b"off") {
-        return Some(DatagramFact::Disabled);
-    }
-    if is_name(word, b"unsupported") {
-        return Some(DatagramFact::Unsupported);
-    }
-    match read_count(word) {
-        Some(limit) => Some(DatagramFact::Limit(limit)),
-        None => None,
+    let port = read_number(0x1_0000, word)?;
+    Some(port as u16)
+}
+
+/// The number below zero.
+fn negative(number: u64) -> i32
+    requires { number < 2 ^ 31 + 1 }
+    ensures { result ≡ minus number }
+{
+    (-(number as i64)) as i32
+}
+
+/// A signed number of 32 bits.
+pub fn read_priority(word: &[u8]) -> Option<i32>
+    ensures { result ≡ priority_of word.now }
+{
+    match word {
+        [b'-', digits @ ..] => {
+            let number = read_number(0x8000_0001, digits)?;
+            Some(negative(number))
+        }
+        _ => {
+            let number = read_number(0x8000_0000, word)?;
+            Some(number as i32)
+        }
     }
 }
 
-fn decode_digits(alloc: Global, word: &[u8]) -> Result<Option<Piece>, OutOfMemory>
-    ensures { IfOk result (λ piece. piece ≡ result_ok (decode_of word.now)) }
+/// The bytes of hexadecimal digits.
+pub fn read_digits(alloc: Global, word: &[u8]) -> Result<Option<Piece>, OutOfMemory>
+    ensures { IfOk result (λ piece. piece ≡ digits_of word.now) }
 {
     match hex::decode(alloc, word) {
         Ok(bytes) => Ok(Some(Piece::from_vec(bytes))),
@@ -121,5 +151,25 @@ pub fn read_bytes(alloc: Global, word: &[u8]) -> Result<Option<Piece>, OutOfMemo
     if is_name(word, b"-") {
         return Ok(Some(Piece::new(alloc)));
     }
-    decode_digits(alloc, word)
+    read_digits(alloc, word)
+}
+
+/// The bytes as a text, where they are UTF-8.
+pub fn text_of_bytes(alloc: Global, bytes: &[u8]) -> Result<Option<Text>, OutOfMemory>
+    ensures { IfOk result (λ text. text ≡ as_text bytes.now) }
+{
+    match from_utf8(bytes) {
+        Some(text) => Ok(Some(Text::from_text(alloc, text)?)),
+        None => Ok(None),
+    }
+}
+
+/// A text by its bytes in hexadecimal, `-` for none.
+pub fn read_text(alloc: Global, word: &[u8]) -> Result<Option<Text>, OutOfMemory>
+    ensures { IfOk result (λ text. text ≡ text_of word.now) }
+{
+    match read_bytes(alloc, word)? {
+        Some(bytes) => text_of_bytes(alloc, bytes.as_slice()),
+        None => Ok(None),
+    }
 }

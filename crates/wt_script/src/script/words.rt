@@ -1,63 +1,106 @@
-//! The words of a line.
+//! The words of a line, and the parts of a word.
 ghost use Rattle.std.specs.Prelude.{◌≡◌, ◌∷◌, [], List, ℕ, Some, None, MatchOption, MatchBool};
 ghost use Rattle.std.specs.Option.{option_map};
-ghost use Rattle.wt_script.specs.Words.{words, words_behind, two_words, four_words, is_word};
+ghost use Rattle.wt_script.specs.Words.{alone, is_word, one, parts, parts_behind, two, words};
 
-/// The first word, and what stands behind the blank after it.
-pub fn cut_word(line: &[u8]) -> (&[u8], Option<&[u8]>)
-    ensures { result.0.now ∷ words_behind (option_map (λ r. r.now) result.1) ≡ words line.now }
-{
-    for (at, byte) in line.iter().enumerate() {
-        if *byte == b' ' {
-            return (&line[..at], Some(&line[at + 1..]));
+use std::marker::Model;
+
+/// The parts of a line or of a word that are left. Contracts see the list of them.
+#[derive(Drop)]
+pub struct Parts<'a> {
+    separator: u8,
+    rest: Option<&'a [u8]>,
+}
+
+impl<'a> Model for Parts<'a> {
+    ghost use Rattle.std.specs.Prelude.{List, ℕ};
+    ghost use Rattle.std.specs.Option.{option_map};
+    ghost use Rattle.wt_script.specs.Words.{parts_behind};
+
+    ghost Value = { List (List ℕ) };
+
+    ghost view = { λ p. parts_behind p.separator (option_map (λ r. r.now) p.rest) };
+}
+
+impl<'a> Parts<'a> {
+    /// The parts of bytes, split at each separator.
+    pub fn of(separator: u8, bytes: &'a [u8]) -> Parts<'a>
+        ensures { result ≡ parts separator bytes.now }
+    {
+        Parts {
+            separator,
+            rest: Some(bytes),
         }
     }
-    (line, None)
-}
 
-/// The next word, and what stands behind the blank after it; None at the end of the line.
-fn next_word<'a>(rest: Option<&'a [u8]>) -> Option<(&'a [u8], Option<&'a [u8]>)>
-    ensures { MatchOption result (words_behind (option_map (λ r. r.now) rest.entry) ≡ [])
-        (λ p. p.0.now ∷ words_behind (option_map (λ r. r.now) p.1) ≡ words_behind (option_map (λ r. r.now) rest.entry)) }
-{
-    match rest {
-        None => None,
-        Some(rest) => Some(cut_word(rest)),
+    /// The words of a line.
+    pub fn of_line(line: &'a [u8]) -> Parts<'a>
+        ensures { result ≡ words line.now }
+    {
+        Parts::of(b' ', line)
+    }
+
+    /// The next part, and those behind it; None where none is left.
+    pub fn next(&self) -> Option<(&'a [u8], Parts<'a>)>
+        ensures { MatchOption result (self.now ≡ []) (λ p. self.now ≡ p.0.now ∷ p.1) }
+    {
+        let bytes = self.rest?;
+        let (part, rest) = cut(self.separator, bytes);
+        Some((
+            part,
+            Parts {
+                separator: self.separator,
+                rest,
+            },
+        ))
+    }
+
+    /// Whether no part is left.
+    pub fn is_empty(&self) -> bool
+        ensures { MatchBool result (self.now ≡ []) ((w : List ℕ) × (ws : List (List ℕ)) × (self.now ≡ w ∷ ws)) }
+    {
+        self.next().is_none()
+    }
+
+    /// The value, where no part is left.
+    pub fn alone<T: Drop>(&self, value: T) -> Option<T>
+        ensures { result ≡ alone value self.now }
+    {
+        if self.is_empty() { Some(value) } else { None }
+    }
+
+    /// The part, where there is exactly one.
+    pub fn one(&self) -> Option<&'a [u8]>
+        ensures { option_map (λ p. p.now) result ≡ one Some self.now }
+    {
+        let (part, rest) = self.next()?;
+        if rest.is_empty() { Some(part) } else { None }
+    }
+
+    /// Both parts, where there are exactly two.
+    pub fn two(&self) -> Option<(&'a [u8], &'a [u8])>
+        ensures { MatchOption result (two Some Some self.now ≡ None) (λ p. self.now ≡ p.0.now ∷ p.1.now ∷ []) }
+    {
+        let (first, rest) = self.next()?;
+        let (second, rest) = rest.next()?;
+        if rest.is_empty() {
+            Some((first, second))
+        } else {
+            None
+        }
     }
 }
 
-/// Whether no word is left.
-pub fn is_end(rest: Option<&[u8]>) -> bool
-    ensures { MatchBool result (words_behind (option_map (λ r. r.now) rest.entry) ≡ [])
-        ((w : List ℕ) × (ws : List (List ℕ)) × (words_behind (option_map (λ r. r.now) rest.entry) ≡ w ∷ ws)) }
+/// The first part, and what stands behind the separator after it.
+fn cut(separator: u8, bytes: &[u8]) -> (&[u8], Option<&[u8]>)
+    ensures { result.0.now ∷ parts_behind separator (option_map (λ r. r.now) result.1) ≡ parts separator bytes.now }
 {
-    next_word(rest).is_none()
-}
-
-/// The two words, where there are exactly two.
-pub fn two_words_of<'a>(rest: Option<&'a [u8]>) -> Option<(&'a [u8], &'a [u8])>
-    ensures { option_map (λ p. (p.0.now, p.1.now)) result ≡ two_words (words_behind (option_map (λ r. r.now) rest.entry)) }
-{
-    let (first, rest) = next_word(rest)?;
-    let (second, rest) = next_word(rest)?;
-    match next_word(rest) {
-        None => Some((first, second)),
-        Some(_) => None,
+    for (at, byte) in bytes.iter().enumerate() {
+        if *byte == separator {
+            return (&bytes[..at], Some(&bytes[at + 1..]));
+        }
     }
-}
-
-/// The four words, where there are exactly four.
-pub fn four_words_of<'a>(rest: Option<&'a [u8]>) -> Option<(&'a [u8], &'a [u8], &'a [u8], &'a [u8])>
-    ensures { option_map (λ p. (p.0.now, p.1.now, p.2.now, p.3.now)) result ≡ four_words (words_behind (option_map (λ r. r.now) rest.entry)) }
-{
-    let (first, rest) = next_word(rest)?;
-    let (second, rest) = next_word(rest)?;
-    let (third, rest) = next_word(rest)?;
-    let (fourth, rest) = next_word(rest)?;
-    match next_word(rest) {
-        None => Some((first, second, third, fourth)),
-        Some(_) => None,
-    }
+    (bytes, None)
 }
 
 /// Whether the word is this text.

@@ -1,11 +1,15 @@
+//! Scripts and their lines.
 use crate::script::lines::read_turn;
 use crate::script::read_script;
-use crate::tests::vocabulary::{piece, stream};
+use crate::tests::print::{piece, stream, text};
 use std::alloc::Global;
 use std::process::Abort;
-use wt_seam::turn::{Call, DatagramFact, Turn};
+use wt_turn::{Call, ConnectionClose, DatagramFact, LossReason, Turn};
+use wt_wire::addr::Addr;
 use wt_wire::header_list::HeaderList;
+use wt_wire::lookup::{ConnectOutcome, Lookup};
 use wt_wire::side::Side;
+use wt_wire::varint::VarInt;
 
 fn spells(rt: &impl Abort, alloc: Global, line: &str, turn: Turn) {
     let read = read_turn(alloc, line.as_bytes()).expect(rt, "no memory");
@@ -59,6 +63,70 @@ fn calls_are_read(rt: HostRuntime) {
 }
 
 #[test]
+fn losses_are_read(rt: HostRuntime) {
+    let alloc = rt.alloc();
+    let reason = LossReason::TimedOut;
+    spells(&rt, alloc, "loss timed_out", Turn::Loss { reason });
+    let reason = text(&rt, alloc, "é");
+    let reason = LossReason::TransportError { code: 1, reason };
+    spells(&rt, alloc, "loss transport 1 C3a9", Turn::Loss { reason });
+    let close = ConnectionClose::new(VarInt::from_u32(2), piece(&rt, alloc, b"\xff"));
+    let reason = LossReason::ConnectionClosed(close);
+    spells(&rt, alloc, "loss connection 2 ff", Turn::Loss { reason });
+}
+
+#[test]
+fn calls_on_streams_are_read(rt: HostRuntime) {
+    let alloc = rt.alloc();
+    let id = stream(7);
+    let bytes = piece(&rt, alloc, b"");
+    spells(
+        &rt,
+        alloc,
+        "write_all 7 -",
+        Turn::Call(Call::WriteAll { id, bytes }),
+    );
+    let low = Call::SetPriority {
+        id,
+        priority: -2147483648,
+    };
+    spells(&rt, alloc, "set_priority 7 -2147483648", Turn::Call(low));
+    let none = Call::SetPriority { id, priority: 0 };
+    spells(&rt, alloc, "set_priority 7 -0", Turn::Call(none));
+}
+
+#[test]
+fn header_fields_are_read(rt: HostRuntime) {
+    let alloc = rt.alloc();
+    let mut headers = HeaderList::new(alloc);
+    headers.set("x", "").expect(&rt, "no memory");
+    headers.set(":y", "z").expect(&rt, "no memory");
+    let line = "accept 78=79 3A79=7a 78=";
+    spells(&rt, alloc, line, Turn::Call(Call::Accept { headers }));
+}
+
+#[test]
+fn connects_are_read(rt: HostRuntime) {
+    let alloc = rt.alloc();
+    let connect = Call::Connect {
+        options: (text(&rt, alloc, "https://h"), HeaderList::new(alloc)),
+        lookup: Lookup::Found(Addr::V4 {
+            ip: 0x7f00_0001,
+            port: 65535,
+        }),
+        outcome: ConnectOutcome::InvalidRemoteAddress(Addr::V6 { ip: 0xab, port: 0 }),
+    };
+    let line = "connect https://h v4:7f000001:65535 address:v6:000000000000000000000000000000aB:0";
+    spells(&rt, alloc, line, Turn::Call(connect));
+    let connect = Call::Connect {
+        options: (text(&rt, alloc, "h"), HeaderList::new(alloc)),
+        lookup: Lookup::Fault(text(&rt, alloc, "")),
+        outcome: ConnectOutcome::InvalidServerName(text(&rt, alloc, "n")),
+    };
+    spells(&rt, alloc, "connect h fault:- name:6e", Turn::Call(connect));
+}
+
+#[test]
 fn other_lines_are_refused(rt: HostRuntime) {
     let lines = [
         "",
@@ -81,7 +149,19 @@ fn other_lines_are_refused(rt: HostRuntime) {
         "bytes 2 0g",
         "bytes 2 --",
         "bytes 4611686018427387904 00",
-        "accept 78=79",
+        "accept -=79",
+        "accept 78",
+        "accept 78=79=7a",
+        "set_priority 7 --1",
+        "set_priority 7 2147483648",
+        "loss transport 4611686018427387904 -",
+        "loss transport 1 ff",
+        "loss reset 1 -",
+        "connect h fault: proceed",
+        "connect h none name:",
+        "connect h v4:7f00001:1 proceed",
+        "connect h v4:7f000001:65536 proceed",
+        "connect h none",
         "read 6",
         "read 6 1 1",
         "read 6 x",
@@ -120,6 +200,8 @@ fn the_first_other_line_refuses_a_script(rt: HostRuntime) {
         ("server\nserver", 2),
         ("server\n\n#\nfoo\nbar\n", 4),
         ("server\r\n", 1),
+        ("server\nforbidden", 2),
+        ("server\naccept 78=79", 2),
     ];
     for (text, line) in cases {
         refuses(&rt, rt.alloc(), text, line);

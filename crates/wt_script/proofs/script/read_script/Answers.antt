@@ -1,5 +1,4 @@
 use Rattle.std.proofs.Common.{◌+◌, ◌-◌, [], take, drop, ap, sym, ◌∙◌, arith}
-use Rattle.std.specs.Prelude.{Ok}
 use Rattle.wt_script.specs.Words.{lines_from}
 use Rattle.wt_script.specs.Script.{read_lines}
 use Rattle.wt_script.proofs.ScriptLaws.{at_line_end, in_line, next_line, refused_here}
@@ -13,7 +12,7 @@ returns-then-not-branch c =
     let lines = lines_from [] (drop (c.loop-at.at + 1) script) in
     let none = rw c.if-not-branch.true at c.in_ok-take_line.ensures in
     sym (refused_here c.loop-at.number c.loop-at.draft line lines none)
-    ∙ ap (read_lines c.loop-at.number (Ok c.loop-at.draft)) (sym (at_line_end line script c.loop-at.at c.loop-at-test.true c.if-byte-eq10.true))
+    ∙ ap (read_lines c.loop-at.number c.loop-at.draft) (sym (at_line_end line script c.loop-at.at c.loop-at-test.true c.if-byte-eq10.true))
     ∙ c.loop-at.invariant.joined
 
 pub loop-at-preserved : goal.loop-at-preserved
@@ -29,7 +28,7 @@ loop-at-preserved c = elim c.if-byte-eq10.branch [
   | else-byte-eq10 w ↦
       let same = in_line c.args.script.now c.loop-at.start c.loop-at.at c.loop-at.invariant.begun c.loop-at-test.true w.if-byte-eq10.false in
       rw (w.draft-is, w.number-is, w.start-is) (record {
-        joined = ap (read_lines c.loop-at.number (Ok c.loop-at.draft)) (sym same) ∙ c.loop-at.invariant.joined;
+        joined = ap (read_lines c.loop-at.number c.loop-at.draft) (sym same) ∙ c.loop-at.invariant.joined;
         begun = omega arith;
         counted = omega arith;
       })

@@ -1,0 +1,4 @@
+pub mod Close
+pub mod ProtoReason
+pub mod ProtoError
+pub mod Log

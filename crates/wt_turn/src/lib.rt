@@ -1,0 +1,39 @@
+//! The words of a WebTransport session: what happens to a connection, what the application calls,
+//! what goes out, what is answered, and each error.
+//!
+//! A [`turn::Turn`] is one event of the QUIC transport or one [`call::Call`] of the application, an
+//! [`action::Action`] is what the transport is told to do, and an [`answer::Answer`] is the reply to
+//! one turn with the actions that go out. Beside them stands the definition of a connection's log.
+#![tactic(auto)]
+
+pub mod action;
+pub mod answer;
+pub mod call;
+pub mod close;
+pub mod connecting_error;
+pub mod connection_error;
+pub mod datagram_fact;
+pub mod driver_error;
+pub mod loss;
+pub mod piece;
+pub mod poll;
+pub mod proto_error;
+pub mod reply;
+pub mod rows;
+pub mod send;
+pub mod sequence;
+pub mod stream_error;
+#[cfg(test)]
+mod tests;
+pub mod turn;
+
+pub use action::{Action, Actions};
+pub use answer::{Answer, Answers};
+pub use call::Call;
+pub use close::{ApplicationClose, ConnectionClose};
+pub use datagram_fact::DatagramFact;
+pub use loss::LossReason;
+pub use piece::Piece;
+pub use poll::Poll;
+pub use reply::Reply;
+pub use turn::{Turn, Turns};
