@@ -12,7 +12,7 @@ use Rattle.std.specs.Str.{IsAscii, skip_leading_whitespace, drop_trailing_whites
 use Rattle.std.specs.Str.Parse.{AllDigits, IsNumeral, digits_value, without_leading_plus}
 use Rattle.wt_config.specs.declared.digest.Sha256DigestFmt.{Sha256DigestFmt}
 use Rattle.wt_config.specs.declared.digest.Sha256DigestFmt.TheVariants.{BytesArray, DottedHex}
-use Rattle.wt_config.specs.DigestText.{IsBytes, byte_of_digits, number_of, numbers_of, thirty_two, pieces_of, numbers_of_text, without_front, without_back, before_kept, without_brackets, digest_of_text, lower_digit, two_digits, joined_by, text_of_digest}
+use Rattle.wt_config.specs.DigestText.{IsBytes, byte_of_digits, number_of, numbers_of, numbers_of_32, pieces_of, numbers_of_text, without_front, without_back, byte_before, without_brackets, digest_of_text, lower_digit, two_digits, joined_by, text_of_digest}
 use Rattle.wt_config.proofs.DigestReading.{one_piece, piece_front, skip_front, skip_back, equal, byte_some}
 
 -- ---- numerals
@@ -110,7 +110,7 @@ two_digits_written n small =
     written 16 n (two_digits n) (omega arith) (omega arith, rw (h, l) (high, (low, tt))) (rw (h, l) (omega arith)) small
 
 -- ---- pieces
--- a text in which a byte does not stand
+-- a text without a byte
 abbrev Lacks : ℕ → List ℕ → Type 0
 Lacks c bs = AllByRecursion (λ b. b ≢ c) bs
 
@@ -127,40 +127,40 @@ word_lacks : (c : ℕ) (ds : List ℕ) → ((b : ℕ) → IsWordByte b → b ≢
 word_lacks c [] h a = tt
 word_lacks c (d ∷ ds) h a = (h d a.0, word_lacks c ds h a.1)
 
--- how a form writes a byte: the radix, the separator, what stands behind it, and the digits
-record Form (radix c : ℕ) (behind : List ℕ) (shown : ℕ → List ℕ) : Type 0 where
+-- how a form writes a byte: the radix, the separator, what follows it, and the digits
+record Form (radix c : ℕ) (after : List ℕ) (shown : ℕ → List ℕ) : Type 0 where
   plain : (n : ℕ) → n < 256 → number_of radix (shown n) ≡ Some n
-  later : (n : ℕ) → n < 256 → number_of radix (behind ++ shown n) ≡ Some n
+  later : (n : ℕ) → n < 256 → number_of radix (after ++ shown n) ≡ Some n
   front : (n : ℕ) → n < 256 → Lacks c (shown n)
-  gap : Lacks c behind
+  gap : Lacks c after
 
 -- the pieces after the first
 abbrev later_pieces : List ℕ → (ℕ → List ℕ) → List ℕ → List (List ℕ)
-later_pieces behind shown [] = []
-later_pieces behind shown (b ∷ bs) = (behind ++ shown b) ∷ later_pieces behind shown bs
+later_pieces after shown [] = []
+later_pieces after shown (b ∷ bs) = (after ++ shown b) ∷ later_pieces after shown bs
 
-length-later_pieces : (behind : List ℕ) (shown : ℕ → List ℕ) (bs : List ℕ) → length (later_pieces behind shown bs) ≡ length bs
-length-later_pieces behind shown [] = refl
-length-later_pieces behind shown (b ∷ bs) = ap suc (length-later_pieces behind shown bs)
+length-later_pieces : (after : List ℕ) (shown : ℕ → List ℕ) (bs : List ℕ) → length (later_pieces after shown bs) ≡ length bs
+length-later_pieces after shown [] = refl
+length-later_pieces after shown (b ∷ bs) = ap suc (length-later_pieces after shown bs)
 
-pieces_after : {radix c : ℕ} {behind : List ℕ} {shown : ℕ → List ℕ} (form : Form radix c behind shown) (front bs : List ℕ) → Lacks c front → AllByRecursion (λ b. b < 256) bs
-    → pieces_of c (front ++ flat_map (λ b. (c ∷ behind) ++ shown b) bs) ≡ front ∷ later_pieces behind shown bs
-pieces_after {radix} {c} {behind} {shown} form front [] l a = ap (pieces_of c) (append-nil front) ∙ one_piece c front (lacks_at c front l)
-pieces_after {radix} {c} {behind} {shown} form front (b ∷ bs) l a =
-    piece_front c _ front ((behind ++ shown b) ++ flat_map (λ b. (c ∷ behind) ++ shown b) bs) refl (lacks_at c front l)
-    ∙ ap (λ pieces. front ∷ pieces) (pieces_after form (behind ++ shown b) bs (lacks_append c behind (shown b) form.gap (form.front b a.0)) a.1)
+pieces_after : {radix c : ℕ} {after : List ℕ} {shown : ℕ → List ℕ} (form : Form radix c after shown) (front bs : List ℕ) → Lacks c front → AllByRecursion (λ b. b < 256) bs
+    → pieces_of c (front ++ flat_map (λ b. (c ∷ after) ++ shown b) bs) ≡ front ∷ later_pieces after shown bs
+pieces_after {radix} {c} {after} {shown} form front [] l a = ap (pieces_of c) (append-nil front) ∙ one_piece c front (lacks_at c front l)
+pieces_after {radix} {c} {after} {shown} form front (b ∷ bs) l a =
+    piece_front c _ front ((after ++ shown b) ++ flat_map (λ b. (c ∷ after) ++ shown b) bs) refl (lacks_at c front l)
+    ∙ ap (λ pieces. front ∷ pieces) (pieces_after form (after ++ shown b) bs (lacks_append c after (shown b) form.gap (form.front b a.0)) a.1)
 
-later_numbers : {radix c : ℕ} {behind : List ℕ} {shown : ℕ → List ℕ} (form : Form radix c behind shown) (bs : List ℕ) → AllByRecursion (λ b. b < 256) bs → numbers_of radix (later_pieces behind shown bs) ≡ Some bs
+later_numbers : {radix c : ℕ} {after : List ℕ} {shown : ℕ → List ℕ} (form : Form radix c after shown) (bs : List ℕ) → AllByRecursion (λ b. b < 256) bs → numbers_of radix (later_pieces after shown bs) ≡ Some bs
 later_numbers form [] a = refl
 later_numbers form (b ∷ bs) a = rw (form.later b a.0, later_numbers form bs a.1)
 
-joined_reads : {radix c : ℕ} {behind : List ℕ} {shown : ℕ → List ℕ} (form : Form radix c behind shown) (bs : List ℕ) → AllByRecursion (λ b. b < 256) bs → length bs ≡ 32
-    → numbers_of_text radix c (joined_by (c ∷ behind) shown bs) ≡ Some bs
+joined_reads : {radix c : ℕ} {after : List ℕ} {shown : ℕ → List ℕ} (form : Form radix c after shown) (bs : List ℕ) → AllByRecursion (λ b. b < 256) bs → length bs ≡ 32
+    → numbers_of_text radix c (joined_by (c ∷ after) shown bs) ≡ Some bs
 joined_reads form [] a l = absurd (omega arith)
-joined_reads {radix} {c} {behind} {shown} form (b ∷ bs) a l =
-    let numbers : numbers_of radix (shown b ∷ later_pieces behind shown bs) ≡ Some (b ∷ bs) = rw (form.plain b a.0, later_numbers form bs a.1) in
-    ap (thirty_two radix) (pieces_after form (shown b) bs (form.front b a.0) a.1)
-    ∙ equal (length (shown b ∷ later_pieces behind shown bs)) (numbers_of radix (shown b ∷ later_pieces behind shown bs)) (omega (arith, length-later_pieces behind shown bs))
+joined_reads {radix} {c} {after} {shown} form (b ∷ bs) a l =
+    let numbers : numbers_of radix (shown b ∷ later_pieces after shown bs) ≡ Some (b ∷ bs) = rw (form.plain b a.0, later_numbers form bs a.1) in
+    ap (numbers_of_32 radix) (pieces_after form (shown b) bs (form.front b a.0) a.1)
+    ∙ equal (length (shown b ∷ later_pieces after shown bs)) (numbers_of radix (shown b ∷ later_pieces after shown bs)) (omega (arith, length-later_pieces after shown bs))
     ∙ numbers
 
 dotted_form : Form 16 58 [] two_digits
@@ -187,7 +187,7 @@ front_clear c (b ∷ bs) a = let other : b ≢ c = a.0 in grind (arith, nat_test
 back_clear : (c : ℕ) (bs : List ℕ) → Lacks c bs → without_back c bs ≡ bs
 back_clear c [] a = refl
 back_clear c (b ∷ []) a = let other : b ≢ c = a.0 in grind (arith, nat_tests)
-back_clear c (b ∷ x ∷ xs) a = ap (λ kept. before_kept c b kept) (back_clear c (x ∷ xs) a.1)
+back_clear c (b ∷ x ∷ xs) a = ap (λ kept. byte_before c b kept) (back_clear c (x ∷ xs) a.1)
 
 flat_lacks : (c : ℕ) (f : ℕ → List ℕ) (bs : List ℕ) → ((b : ℕ) → b < 256 → Lacks c (f b)) → AllByRecursion (λ b. b < 256) bs → Lacks c (flat_map f bs)
 flat_lacks c f [] h a = tt

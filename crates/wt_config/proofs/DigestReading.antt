@@ -15,7 +15,7 @@ use Rattle.std.specs.Prelude.{option_map}
 use Rattle.std.specs.Str.Pattern.{FindsCharPrefix, FindsCharSuffix, IsTrimStartMatches, IsTrimEndMatches, CutsPrefixes, CutsSuffixes, HasCharAt}
 use Rattle.std.specs.Result.{result_ok, OkIff}
 use Rattle.std.specs.Str.Parse.{AllDigits, IsNumeral, digits_value}
-use Rattle.wt_config.specs.DigestText.{byte_of_digits, pieces_of, number_of, numbers_of, with_first, thirty_two, without_front, without_back, before_kept}
+use Rattle.wt_config.specs.DigestText.{byte_of_digits, pieces_of, number_of, numbers_of, with_first, numbers_of_32, without_front, without_back, byte_before}
 
 -- a text without the separator is one piece
 pub one_piece : (c : ℕ) (bs : List ℕ) → ((i : ℕ) → i < length bs → get_or bs i 0 ≢ c) → pieces_of c bs ≡ bs ∷ []
@@ -93,12 +93,12 @@ trimmed_front c s r small h = sym (front_cuts c s h.0.0 r small h.0.1 ∙ front_
 
 pub skip_back : (c : ℕ) (bs : List ℕ) → without_back c (bs ++ c ∷ []) ≡ without_back c bs
 skip_back c [] = grind (arith, nat_tests)
-skip_back c (x ∷ xs) = ap (λ kept. before_kept c x kept) (skip_back c xs)
+skip_back c (x ∷ xs) = ap (λ kept. byte_before c x kept) (skip_back c xs)
 
 back_kept : (c : ℕ) (r : List ℕ) → ((front : List ℕ) → r ≢ front ++ c ∷ []) → without_back c r ≡ r
 back_kept c [] h = refl
 back_kept c (x ∷ []) h = let other : x ≢ c = λ e. h [] (ap (λ b. b ∷ []) e) in grind (arith, nat_tests)
-back_kept c (x ∷ y ∷ ys) h = ap (λ kept. before_kept c x kept) (back_kept c (y ∷ ys) (λ front e. h (x ∷ front) (ap (λ bs. x ∷ bs) e)))
+back_kept c (x ∷ y ∷ ys) h = ap (λ kept. byte_before c x kept) (back_kept c (y ∷ ys) (λ front e. h (x ∷ front) (ap (λ bs. x ∷ bs) e)))
 
 -- the text before its last character
 before_last_char : (c n : ℕ) (m : List ℕ) → c < 128 → HasCharAt c m (length m - n) (length m) → m ≡ take (length m - n) m ++ c ∷ []
@@ -135,7 +135,7 @@ none_both : (b : Bool) (o : Option (List ℕ)) → o ≡ None → (if b then o e
 none_both true o h = h
 none_both false o h = refl
 
-pub read_nothing : (radix : ℕ) (pieces : List (List ℕ)) → with_read radix [] pieces ≡ thirty_two radix pieces
+pub read_nothing : (radix : ℕ) (pieces : List (List ℕ)) → with_read radix [] pieces ≡ numbers_of_32 radix pieces
 read_nothing radix pieces =
     ap (λ o. if nat_eq (0 + length pieces) 32 then o else None) (joined_nothing (numbers_of radix pieces))
     ∙ ap (λ n. if nat_eq n 32 then numbers_of radix pieces else None) (zero-add (length pieces))

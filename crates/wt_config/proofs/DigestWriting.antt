@@ -15,7 +15,7 @@ shown_all between shown [] i h l = absurd (omega arith)
 shown_all between shown (b ∷ bs) i h l =
     ap (λ following. shown b ++ flat_map (λ byte. between ++ shown byte) following) (take_all i (mid_of 1 31 (b ∷ bs)) l ∙ take_all 31 bs (omega arith))
 
--- what a loop has written behind the first byte, where a text stood before it
+-- what a loop has written after the first byte, after a text
 pub writes_all : {W : Type 0} (took : W → List ℕ → W → Type 0) (f g h : Formatter W) (front between : List ℕ) (shown : ℕ → List ℕ) (inside bytes : List ℕ) (i : ℕ)
     → HasWritten took f (front ++ shown (get_or inside 0 0)) g → HasWritten took g (flat_map (λ byte. between ++ shown byte) (take i (mid_of 1 31 inside))) h
     → length inside ≡ 32 → length (mid_of 1 31 inside) ≤ i → inside ≡ bytes → HasWritten took f (front ++ joined_by between shown bytes) h

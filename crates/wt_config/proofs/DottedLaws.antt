@@ -1,4 +1,4 @@
--- The dotted form, place by place.
+-- The dotted form, index by index.
 use Rattle.std.proofs.Common.{◌≡◌, ◌≤◌, ◌<◌, ◌+◌, ◌*◌, ◌/◌, ◌%◌, ℕ, zero, suc, List, [], ◌∷◌, length, get_or, refl, sym, ap, ◌∙◌, subst, arith, inl, inr}
 use Rattle.std.proofs.lemmas.Bool.Decides.{nat_tests}
 use Rattle.std.specs.Prelude.{flat_map}
@@ -17,7 +17,7 @@ lower_is d h = elim (cases_lt d 10) [
   | inr large ↦ let e = from_ten d large in inr (omega arith, omega arith)
 ]
 
--- the bytes after the first, each behind a colon
+-- the bytes after the first, each after a colon
 abbrev tail : List ℕ → List ℕ
 tail bs = flat_map (λ byte. 58 ∷ two_digits byte) bs
 
@@ -44,19 +44,19 @@ tail_low (b ∷ bs) zero s h = lower_is (b % 16) (let small = s 0 in omega arith
 tail_low (b ∷ bs) (suc k) s h = subst (λ (c : ℕ). IsLowerDigit c) (sym (three_more b bs k 2)) (tail_low bs k (λ i. s (suc i)) (omega arith))
 
 -- the text is the tail of all bytes without its first colon
-place : (b : ℕ) (bs : List ℕ) (i : ℕ) → get_or (dotted_hex (b ∷ bs)) i 0 ≡ get_or (tail (b ∷ bs)) (i + 1) 0
-place b bs i = let e : i + 1 ≡ suc i = omega arith in ap (λ i. get_or (tail (b ∷ bs)) i 0) (sym e)
+at_index : (b : ℕ) (bs : List ℕ) (i : ℕ) → get_or (dotted_hex (b ∷ bs)) i 0 ≡ get_or (tail (b ∷ bs)) (i + 1) 0
+at_index b bs i = let e : i + 1 ≡ suc i = omega arith in ap (λ i. get_or (tail (b ∷ bs)) i 0) (sym e)
 
 dotted_cells : (b : ℕ) (bs : List ℕ) → length bs ≡ 31 → IsBytes (b ∷ bs) → IsDottedHex (dotted_hex (b ∷ bs))
 dotted_cells b bs l s = record {
   whole = omega (arith, length-tail bs);
-  high = λ k h. subst (λ (c : ℕ). IsLowerDigit c) (sym (place b bs (3 * k))) (tail_high (b ∷ bs) k s (omega arith));
+  high = λ k h. subst (λ (c : ℕ). IsLowerDigit c) (sym (at_index b bs (3 * k))) (tail_high (b ∷ bs) k s (omega arith));
   low = λ k h.
       let e : 3 * k + 1 + 1 ≡ 3 * k + 2 = omega arith in
-      subst (λ (c : ℕ). IsLowerDigit c) (sym (place b bs (3 * k + 1) ∙ ap (λ i. get_or (tail (b ∷ bs)) i 0) e)) (tail_low (b ∷ bs) k s (omega arith));
+      subst (λ (c : ℕ). IsLowerDigit c) (sym (at_index b bs (3 * k + 1) ∙ ap (λ i. get_or (tail (b ∷ bs)) i 0) e)) (tail_low (b ∷ bs) k s (omega arith));
   colon = λ k h.
       let e : 3 * k + 2 + 1 ≡ 3 * suc k + 0 = omega arith in
-      place b bs (3 * k + 2) ∙ ap (λ i. get_or (tail (b ∷ bs)) i 0) e ∙ tail_colon (b ∷ bs) (suc k) (omega arith);
+      at_index b bs (3 * k + 2) ∙ ap (λ i. get_or (tail (b ∷ bs)) i 0) e ∙ tail_colon (b ∷ bs) (suc k) (omega arith);
 }
 
 pub dotted_is : (bytes : List ℕ) → length bytes ≡ 32 → IsBytes bytes → IsDottedHex (dotted_hex bytes)

@@ -1,4 +1,4 @@
--- The address that each choice of a builder stands for.
+-- The address that each choice of a builder means.
 use Rattle.std.specs.Prelude.{ℕ}
 use Rattle.wt_wire.specs.declared.addr.Addr.{Addr}
 use Rattle.wt_wire.specs.declared.addr.Addr.TheVariants.{V4, V6}
@@ -17,7 +17,7 @@ bind_of InAddrAnyV4 port = AddressV4 0 port
 bind_of InAddrAnyV6 port = AddressV6 0 port Deny
 bind_of InAddrAnyDual port = AddressV6 0 port Allow
 
--- an address that is given is bound as the operating system has it by default
+-- an address of IPv6 is bound as the operating system has it by default
 abbrev pub bind_of_address : Addr → BindAddressConfig
 bind_of_address (V4 ip port) = AddressV4 ip port
 bind_of_address (V6 ip port) = AddressV6 ip port OsDefault

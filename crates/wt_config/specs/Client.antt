@@ -37,7 +37,7 @@ client_settings bind tls transport = record {
 abbrev pub default_settings : ClientSettings
 default_settings = client_settings (bind_of InAddrAnyDual 0) Native None
 
--- what stands behind a box of a resolver is one of the values V i, by its table i of methods
+-- a box of a resolver holds one of the values V i, by its table i of methods
 module _ {I : Type 0} {V : I → Type 0} where
   -- the choices of a configuration, but for the resolver
   abbrev pub settings_of : ClientConfig I V → ClientSettings
@@ -53,14 +53,15 @@ module _ {I : Type 0} {V : I → Type 0} where
   abbrev pub resolver_of : ClientConfig I V → Option (DynBox I Global V)
   resolver_of config = config.dns_resolver
 
-  -- the same of a builder that has the last state
-  abbrev pub chosen : WantsTransportConfigClient I V → ClientSettings
-  chosen state = settings_of state.config
+  -- the choices of a builder in its last state, but for the resolver
+  abbrev pub builder_settings : WantsTransportConfigClient I V → ClientSettings
+  builder_settings state = settings_of state.config
 
-  abbrev pub kept_resolver : WantsTransportConfigClient I V → Option (DynBox I Global V)
-  kept_resolver state = resolver_of state.config
+  -- its resolver
+  abbrev pub builder_resolver : WantsTransportConfigClient I V → Option (DynBox I Global V)
+  builder_resolver state = resolver_of state.config
 
   -- what a resolver answers for a host, by what each one answers, and None without one
-  abbrev pub answered : ((i : I) → V i → List ℕ → Lookup) → Option (DynBox I Global V) → List ℕ → Option Lookup
-  answered lookup_of None host = None
-  answered lookup_of (Some resolver) host = Some (lookup_of resolver.vtable resolver.value host)
+  abbrev pub lookup_answer : ((i : I) → V i → List ℕ → Lookup) → Option (DynBox I Global V) → List ℕ → Option Lookup
+  lookup_answer lookup_of None host = None
+  lookup_answer lookup_of (Some resolver) host = Some (lookup_of resolver.vtable resolver.value host)

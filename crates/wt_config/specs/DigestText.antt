@@ -1,12 +1,13 @@
 -- The two text forms of a SHA-256 digest, as functions on the bytes of a text. They are the forms
 -- of `wtransport`'s `Sha256DigestFmt`.
-use Rattle.std.specs.Prelude.{ℕ, ◌==◌, ◌&&◌, nat_lt, nat_le, if◌then◌else◌, List, [], ◌∷◌, ◌++◌, length, Option, Some, None}
+use Rattle.std.specs.Prelude.{◌≡◌, ℕ, ◌+◌, ◌*◌, ◌/◌, ◌%◌, ◌<◌, ◌≤◌, ◌⊎◌, ◌==◌, ◌&&◌, nat_lt, nat_le, if◌then◌else◌, List, [], ◌∷◌, ◌++◌, length, slice_index, flat_map, codes, Option, Some, None}
 use Rattle.std.specs.List.{slice_split, list_all}
-use Rattle.std.specs.Prelude.{◌≡◌, ◌+◌, ◌*◌, ◌/◌, ◌%◌, ◌<◌, ◌≤◌, ◌⊎◌, codes, flat_map, slice_index}
+use Rattle.std.specs.Option.{option_or}
 use Rattle.std.specs.Fmt.{decimal}
 use Rattle.std.specs.Char.{digit_value}
 use Rattle.std.specs.Str.{trim}
 use Rattle.std.specs.Str.Parse.{digits_value, without_leading_plus}
+use Rattle.wt_wire.specs.OptionBind.{◌>>=◌}
 use Rattle.wt_config.specs.declared.digest.Sha256DigestFmt.{Sha256DigestFmt}
 use Rattle.wt_config.specs.declared.digest.Sha256DigestFmt.TheVariants.{BytesArray, DottedHex}
 
@@ -31,11 +32,12 @@ byte_of_digits radix (digit ∷ digits) =
 abbrev pub number_of : ℕ → List ℕ → Option ℕ
 number_of radix piece = byte_of_digits radix (without_leading_plus (trim piece))
 
--- a first number before others
+-- a first number before others, if each is there
 abbrev pub with_first : Option ℕ → Option (List ℕ) → Option (List ℕ)
-with_first (Some number) (Some numbers) = Some (number ∷ numbers)
-with_first (Some number) None = None
-with_first None numbers = None
+with_first first following = do
+  number ← first
+  numbers ← following
+  Some (number ∷ numbers)
 
 -- the numbers of some pieces, if each has one
 abbrev pub numbers_of : ℕ → List (List ℕ) → Option (List ℕ)
@@ -43,10 +45,10 @@ numbers_of radix [] = Some []
 numbers_of radix (piece ∷ pieces) = with_first (number_of radix piece) (numbers_of radix pieces)
 
 -- the numbers of exactly 32 pieces
-abbrev pub thirty_two : ℕ → List (List ℕ) → Option (List ℕ)
-thirty_two radix pieces = if length pieces == 32 then numbers_of radix pieces else None
+abbrev pub numbers_of_32 : ℕ → List (List ℕ) → Option (List ℕ)
+numbers_of_32 radix pieces = if length pieces == 32 then numbers_of radix pieces else None
 
--- the pieces of a text that is cut at each separator
+-- the pieces of a text that is split at each separator
 abbrev pub pieces_of : ℕ → List ℕ → List (List ℕ)
 pieces_of separator text = slice_split (λ byte. byte == separator) text
 
@@ -55,23 +57,24 @@ abbrev pub remaining_pieces : ℕ → Option (List ℕ) → List (List ℕ)
 remaining_pieces separator None = []
 remaining_pieces separator (Some text) = pieces_of separator text
 
+-- the numbers of a text's pieces
 abbrev pub numbers_of_text : ℕ → ℕ → List ℕ → Option (List ℕ)
-numbers_of_text radix separator text = thirty_two radix (pieces_of separator text)
+numbers_of_text radix separator text = numbers_of_32 radix (pieces_of separator text)
 
 -- a text without each of these bytes at its front
 abbrev pub without_front : ℕ → List ℕ → List ℕ
 without_front bracket [] = []
 without_front bracket (byte ∷ bytes) = if byte == bracket then without_front bracket bytes else byte ∷ bytes
 
--- a byte before a text from whose end each of these bytes was taken
-abbrev pub before_kept : ℕ → ℕ → List ℕ → List ℕ
-before_kept bracket byte [] = if byte == bracket then [] else byte ∷ []
-before_kept bracket byte (kept ∷ bytes) = byte ∷ kept ∷ bytes
+-- a byte before a text without each of these bytes at its end
+abbrev pub byte_before : ℕ → ℕ → List ℕ → List ℕ
+byte_before bracket byte [] = if byte == bracket then [] else byte ∷ []
+byte_before bracket byte (kept ∷ bytes) = byte ∷ kept ∷ bytes
 
 -- a text without each of these bytes at its end
 abbrev pub without_back : ℕ → List ℕ → List ℕ
 without_back bracket [] = []
-without_back bracket (byte ∷ bytes) = before_kept bracket byte (without_back bracket bytes)
+without_back bracket (byte ∷ bytes) = byte_before bracket byte (without_back bracket bytes)
 
 -- a text without each `[` at its front and each `]` at its end
 abbrev pub without_brackets : List ℕ → List ℕ
@@ -109,14 +112,9 @@ abbrev pub text_of_digest : Sha256DigestFmt → List ℕ → List ℕ
 text_of_digest BytesArray bytes = bytes_array bytes
 text_of_digest DottedHex bytes = dotted_hex bytes
 
--- what the first form reads, or else the second
-abbrev pub first_read : Option (List ℕ) → Option (List ℕ) → Option (List ℕ)
-first_read (Some digest) other = Some digest
-first_read None other = other
-
 -- the digest that a text writes in either form: the array form is tried first
 abbrev pub digest_of_any_text : List ℕ → Option (List ℕ)
-digest_of_any_text text = first_read (digest_of_text BytesArray text) (digest_of_text DottedHex text)
+digest_of_any_text text = option_or (digest_of_text BytesArray text) (digest_of_text DottedHex text)
 
 -- a lower-case hexadecimal digit, `0` to `9` or `a` to `f`
 abbrev pub IsLowerDigit : ℕ → Type 0

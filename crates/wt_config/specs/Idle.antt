@@ -1,4 +1,4 @@
--- The idle time that a builder is given, in milliseconds.
+-- The idle timeout of a configuration, in milliseconds (RFC 9000, section 10.1).
 use Rattle.std.specs.Prelude.{ℕ, ◌-◌, ◌^◌, Bool, false, nat_lt, Option, Some, None}
 use Rattle.wt_config.specs.declared.idle.IdleTimeout.{IdleTimeout}
 use Rattle.wt_config.specs.declared.idle.IdleTimeout.TheVariants.{Infinite, Millis}
@@ -8,7 +8,7 @@ abbrev pub is_too_long : Option ℕ → Bool
 is_too_long None = false
 is_too_long (Some millis) = nat_lt (2 ^ 62 - 1) millis
 
--- none is an infinite time
+-- the idle timeout of so many milliseconds; none is an infinite time
 abbrev pub idle_of : Option ℕ → IdleTimeout
 idle_of None = Infinite
 idle_of (Some millis) = Millis millis

@@ -25,10 +25,12 @@ last_moment = 253402300799
 abbrev pub two_weeks : ℤ
 two_weeks = pos 1209600
 
+-- a key on an elliptic curve
 abbrev pub is_ec : KeyKind → Bool
 is_ec key.Ec = true
 is_ec key.Other = false
 
+-- the curve P-256
 abbrev pub is_p256 : Curve → Bool
 is_p256 curve.P256 = true
 is_p256 curve.Other = false
@@ -37,8 +39,7 @@ is_p256 curve.Other = false
 abbrev pub has_short_validity : CertFacts → Bool
 has_short_validity facts = not (int_lt two_weeks (facts.not_after -ℤ facts.not_before))
 
--- whether a pin may stand for a certificate: it is valid for two weeks at most, and its key is one on
--- P-256
+-- whether a certificate may be pinned: it is valid for two weeks at most, and its key is one on P-256
 abbrev pub is_pinnable : CertFacts → Bool
 is_pinnable facts = has_short_validity facts && is_ec facts.key && is_p256 facts.curve
 

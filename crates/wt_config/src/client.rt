@@ -2,7 +2,7 @@
 ghost use Rattle.std.specs.Prelude.{◌≡◌, ◌↔◌, Some, None, IsTrue, IsErr, IfOk};
 ghost use Rattle.std.specs.FinSet as set;
 ghost use Rattle.wt_config.specs.Bind.{bind_of, bind_of_address};
-ghost use Rattle.wt_config.specs.Client.{settings_of, resolver_of, answered, chosen, kept_resolver, client_settings, default_settings};
+ghost use Rattle.wt_config.specs.Client.{settings_of, resolver_of, lookup_answer, builder_settings, builder_resolver, client_settings, default_settings};
 ghost use Rattle.wt_config.specs.Idle.{is_too_long, idle_of};
 
 use crate::bind::{BindAddressConfig, IpBindConfig, Ipv6DualStackConfig};
@@ -85,7 +85,7 @@ impl ClientConfig {
     ///
     /// `OutOfMemory` where the answer found no memory.
     pub fn lookup(&self, alloc: Global, host: &str) -> Result<Option<Lookup>, OutOfMemory>
-        ensures { IfOk result (λ answer. answer ≡ answered
+        ensures { IfOk result (λ answer. answer ≡ lookup_answer
             (λ resolver. (⟦<dyn DnsResolver as DnsResolver>⟧ resolver).lookup_of) (resolver_of self.now) host.now) }
     {
         match &self.dns_resolver {
@@ -180,16 +180,16 @@ impl ClientConfigBuilder<WantsBindAddress> {
 impl ClientConfigBuilder<WantsRootStore> {
     /// Chooses the certificates that the machine trusts.
     pub fn with_native_certs(self) -> ClientConfigBuilder<WantsTransportConfigClient>
-        ensures chosen { chosen result ≡ client_settings self TlsChoice.Native None }
-        ensures resolver { kept_resolver result ≡ None }
+        ensures chosen { builder_settings result ≡ client_settings self TlsChoice.Native None }
+        ensures resolver { builder_resolver result ≡ None }
     {
         self.with(TlsChoice::Native, None)
     }
 
     /// Chooses to take each certificate. Such a client cannot know whom it speaks with.
     pub fn with_no_cert_validation(self) -> ClientConfigBuilder<WantsTransportConfigClient>
-        ensures chosen { chosen result ≡ client_settings self TlsChoice.NoValidation None }
-        ensures resolver { kept_resolver result ≡ None }
+        ensures chosen { builder_settings result ≡ client_settings self TlsChoice.NoValidation None }
+        ensures resolver { builder_resolver result ≡ None }
     {
         self.with(TlsChoice::NoValidation, None)
     }
@@ -204,9 +204,9 @@ impl ClientConfigBuilder<WantsRootStore> {
         alloc: Global,
         hashes: Vec<Sha256Digest>,
     ) -> Result<ClientConfigBuilder<WantsTransportConfigClient>, OutOfMemory>
-        ensures chosen { IfOk result (λ builder. chosen builder
+        ensures chosen { IfOk result (λ builder. builder_settings builder
             ≡ client_settings self (TlsChoice.Hashes (set.from_list hashes.items)) None) }
-        ensures resolver { IfOk result (λ builder. kept_resolver builder ≡ None) }
+        ensures resolver { IfOk result (λ builder. builder_resolver builder ≡ None) }
     {
         let verification = ServerHashVerification::new(alloc, hashes)?;
         Ok(self.with(TlsChoice::Hashes(verification), None))
@@ -217,8 +217,8 @@ impl ClientConfigBuilder<WantsRootStore> {
         self,
         tls_config: Opaque,
     ) -> ClientConfigBuilder<WantsTransportConfigClient>
-        ensures chosen { chosen result ≡ client_settings self (TlsChoice.Custom tls_config) None }
-        ensures resolver { kept_resolver result ≡ None }
+        ensures chosen { builder_settings result ≡ client_settings self (TlsChoice.Custom tls_config) None }
+        ensures resolver { builder_resolver result ≡ None }
     {
         self.with(TlsChoice::Custom(tls_config), None)
     }
@@ -229,8 +229,8 @@ impl ClientConfigBuilder<WantsRootStore> {
         self,
         transport_config: Opaque,
     ) -> ClientConfigBuilder<WantsTransportConfigClient>
-        ensures chosen { chosen result ≡ client_settings self TlsChoice.Native (Some transport_config) }
-        ensures resolver { kept_resolver result ≡ None }
+        ensures chosen { builder_settings result ≡ client_settings self TlsChoice.Native (Some transport_config) }
+        ensures resolver { builder_resolver result ≡ None }
     {
         self.with(TlsChoice::Native, Some(transport_config))
     }
@@ -241,9 +241,9 @@ impl ClientConfigBuilder<WantsRootStore> {
         tls_config: Opaque,
         transport_config: Opaque,
     ) -> ClientConfigBuilder<WantsTransportConfigClient>
-        ensures chosen { chosen result
+        ensures chosen { builder_settings result
             ≡ client_settings self (TlsChoice.Custom tls_config) (Some transport_config) }
-        ensures resolver { kept_resolver result ≡ None }
+        ensures resolver { builder_resolver result ≡ None }
     {
         self.with(TlsChoice::Custom(tls_config), Some(transport_config))
     }
@@ -253,8 +253,8 @@ impl ClientConfigBuilder<WantsRootStore> {
         tls: TlsChoice,
         transport: Option<Opaque>,
     ) -> ClientConfigBuilder<WantsTransportConfigClient>
-        ensures chosen { chosen result ≡ client_settings self tls transport }
-        ensures resolver { kept_resolver result ≡ None }
+        ensures chosen { builder_settings result ≡ client_settings self tls transport }
+        ensures resolver { builder_resolver result ≡ None }
     {
         let config = ClientConfig {
             bind: self.state.bind,
@@ -274,8 +274,8 @@ impl ClientConfigBuilder<WantsTransportConfigClient> {
     /// The configuration that was built.
     #[must_use]
     pub fn build(self) -> ClientConfig
-        ensures settings { settings_of result ≡ chosen self }
-        ensures resolver { resolver_of result ≡ kept_resolver self }
+        ensures settings { settings_of result ≡ builder_settings self }
+        ensures resolver { resolver_of result ≡ builder_resolver self }
     {
         self.state.config
     }
@@ -290,8 +290,8 @@ impl ClientConfigBuilder<WantsTransportConfigClient> {
         idle_millis: Option<u128>,
     ) -> Result<ClientConfigBuilder<WantsTransportConfigClient>, InvalidIdleTimeout>
         ensures refused { IsErr result ↔ IsTrue (is_too_long idle_millis) }
-        ensures chosen { IfOk result (λ builder. chosen builder ≡ record (chosen self) { idle = idle_of idle_millis }) }
-        ensures resolver { IfOk result (λ builder. kept_resolver builder ≡ kept_resolver self) }
+        ensures chosen { IfOk result (λ builder. builder_settings builder ≡ record (builder_settings self) { idle = idle_of idle_millis }) }
+        ensures resolver { IfOk result (λ builder. builder_resolver builder ≡ builder_resolver self) }
     {
         self.state.config.idle = idle_timeout(idle_millis)?;
         Ok(self)
@@ -302,8 +302,8 @@ impl ClientConfigBuilder<WantsTransportConfigClient> {
         mut self,
         interval_millis: Option<u128>,
     ) -> ClientConfigBuilder<WantsTransportConfigClient>
-        ensures chosen { chosen result ≡ record (chosen self) { keep_alive = interval_millis } }
-        ensures resolver { kept_resolver result ≡ kept_resolver self }
+        ensures chosen { builder_settings result ≡ record (builder_settings self) { keep_alive = interval_millis } }
+        ensures resolver { builder_resolver result ≡ builder_resolver self }
     {
         self.state.config.keep_alive = interval_millis;
         self
@@ -314,8 +314,8 @@ impl ClientConfigBuilder<WantsTransportConfigClient> {
         mut self,
         dns_resolver: Box<dyn DnsResolver>,
     ) -> ClientConfigBuilder<WantsTransportConfigClient>
-        ensures resolver { kept_resolver result ≡ Some dns_resolver }
-        ensures same { chosen result ≡ chosen self }
+        ensures resolver { builder_resolver result ≡ Some dns_resolver }
+        ensures same { builder_settings result ≡ builder_settings self }
     {
         self.state.config.dns_resolver = Some(dns_resolver);
         self

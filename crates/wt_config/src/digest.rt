@@ -220,7 +220,7 @@ fn read_numbers(text: &str, separator: char, radix: u32) -> Option<[u8; 32]>
     }
 }
 
-/// The first piece of a text that is cut at each separator, and what follows that separator.
+/// The first piece of a text that is split at each separator, and what follows that separator.
 fn next_piece(text: &str, separator: char) -> (&str, Option<&str>)
     requires { separator < 128 }
     ensures { pieces_of separator text.now

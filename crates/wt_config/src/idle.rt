@@ -17,7 +17,8 @@ pub enum IdleTimeout {
     Millis(VarInt),
 }
 
-/// The idle time is above 2^62 - 1 milliseconds, the greatest that QUIC can tell its peer.
+/// The idle time is above 2^62 - 1 milliseconds, the greatest that `max_idle_timeout` holds
+/// (RFC 9000, section 18.2).
 #[derive(Drop)]
 pub struct InvalidIdleTimeout;
 

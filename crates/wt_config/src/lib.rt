@@ -20,13 +20,24 @@
 pub mod bind;
 pub mod certificate;
 pub mod client;
+pub mod config;
 pub mod digest;
 pub mod dns;
 pub mod idle;
-pub mod laws;
 pub mod server;
 pub mod states;
 #[cfg(test)]
 mod tests;
+pub mod theorems;
 pub mod tls;
 pub mod verification;
+
+pub use certificate::{CertFacts, Curve, KeyKind};
+pub use config::{
+    BindAddressConfig, ClientConfig, ClientConfigBuilder, DnsResolver, IdleTimeout,
+    InvalidIdleTimeout, IpBindConfig, Ipv6DualStackConfig, ServerConfig, ServerConfigBuilder,
+};
+pub use tls::{
+    InvalidDigest, Opaque, PinRefusal, ServerHashVerification, Sha256Digest, Sha256DigestFmt,
+    TlsChoice,
+};

@@ -1,5 +1,7 @@
-//! What stands for TLS here: numbers that the caller chose.
-use crate::verification::ServerHashVerification;
+//! How the two ends prove who they are. TLS is outside: its configurations are numbers that the
+//! caller chose.
+pub use crate::digest::{InvalidDigest, Sha256Digest, Sha256DigestFmt};
+pub use crate::verification::{PinRefusal, ServerHashVerification};
 
 /// A number by which the caller knows an identity, a TLS configuration or a transport configuration
 /// of its own. It is kept, and nothing here reads it.

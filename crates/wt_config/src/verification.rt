@@ -10,6 +10,7 @@ use crate::digest::Sha256Digest;
 use std::alloc::Global;
 use std::collections::BTreeSet;
 use std::marker::Model;
+use thiserror::Error;
 use wt_wire::error::OutOfMemory;
 
 /// The last second of the year 9999, the last moment that a certificate can name.
@@ -19,18 +20,23 @@ const LAST_MOMENT: u64 = 253_402_300_799;
 const LONGEST_VALIDITY: i128 = 1_209_600;
 
 /// Why a certificate is refused.
-#[derive(Clone, Copy, PartialEq, Eq, Debug)]
+#[derive(Clone, Copy, PartialEq, Eq, Debug, Error)]
 pub enum PinRefusal {
     /// The moment is no moment of the years up to 9999.
+    #[error("the moment is after the year 9999")]
     MomentOutOfRange,
     /// The certificate could not be decoded.
+    #[error("the certificate could not be decoded")]
     BadEncoding,
     /// The certificate is not valid yet.
+    #[error("the certificate is not valid yet")]
     NotValidYet,
     /// The certificate is valid no more.
+    #[error("the certificate has expired")]
     Expired,
     /// The certificate is none that a pin accepts: it is valid for too long, its key is not on
     /// P-256, or its digest is not pinned.
+    #[error("the certificate is not pinned")]
     UnknownIssuer,
 }
 
@@ -145,8 +151,8 @@ impl ServerHashVerification {
     }
 }
 
-/// Whether a pin may stand for a certificate: it is valid for two weeks at most, and its key is one
-/// on P-256.
+/// Whether a certificate may be pinned: it is valid for two weeks at most, and its key is one on
+/// P-256.
 fn is_pinnable(facts: &CertFacts) -> bool
     ensures { result ≡ is_pinnable facts.now }
 {

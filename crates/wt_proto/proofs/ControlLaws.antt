@@ -1,19 +1,21 @@
 -- The walk over the control stream is steady.
-use Rattle.std.proofs.Common.{◌≡◌, ℕ, zero, suc, ◌-◌, Bool, true, false, cond, List, [], ◌∷◌, ◌++◌, Option, Some, None, IsSome, Result, Ok, Err, refl, sym, ap, ◌∙◌}
+use Rattle.std.proofs.Common.{◌≡◌, ℕ, zero, suc, ◌-◌, Bool, true, false, cond, List, [], ◌∷◌, ◌++◌, Option, Some, None, IsSome, is_some, unwrap_or, Result, Ok, Err, refl, sym, ap, ◌∙◌}
 use Rattle.wt_wire.specs.declared.error.ErrorCode.{ErrorCode}
-use Rattle.wt_proto.specs.declared.settings.Settings.{Settings}
+use Rattle.wt_wire.specs.declared.error.ErrorCode.TheVariants.{MissingSettings}
+use Rattle.wt_proto.specs.declared.control_walk.ControlWalk.{ControlWalk}
+use Rattle.wt_message.specs.declared.settings.Settings.{Settings}
 use Rattle.wt_wire.specs.declared.side.StreamEnd.{StreamEnd}
-use Rattle.wt_wire.specs.declared.side.StreamEnd.TheVariants.{Running}
+use Rattle.wt_wire.specs.declared.side.StreamEnd.TheVariants.{Running, Fin, Reset}
 use Rattle.wt_proto.specs.declared.walk.Step.{Step}
 use Rattle.wt_proto.specs.declared.walk.Step.TheVariants.{Cut, Goes, Stops}
 use Rattle.wt_wire.specs.Frames as frames
 use Rattle.wt_proto.specs.FrameSteps.{decided}
-use Rattle.wt_proto.specs.Settings.{settings_of}
-use Rattle.wt_proto.proofs.Steady.{taken, IsSteady}
-use Rattle.wt_proto.specs.ControlWalk.{control_decides, control_effect, control_end, control_fault, control_walk_of, settings_step}
-use Rattle.wt_proto.specs.Walk.{Reached, led, walk, walked}
-use Rattle.wt_proto.proofs.FrameLaws.{IsEffect, frames-steady, unread-on}
-use Rattle.wt_proto.proofs.WalkLaws.{walk-stays}
+use Rattle.wt_message.specs.Settings.{settings_of}
+use Rattle.wt_proto.specs.Steady.{taken, IsSteady}
+use Rattle.wt_proto.specs.ControlWalk.{control_decides, control_effect, control_unfinished, control_walk_of, faulted, settings_step}
+use Rattle.wt_proto.specs.Walk.{led, outcome_at, walk, walked}
+use Rattle.wt_proto.proofs.FrameLaws.{IsEffect, frames-steady, session_id_ignored-on}
+use Rattle.wt_proto.proofs.WalkLaws.{outcome-stays}
 
 settings-taken : (n : ℕ) (r : Result Settings ErrorCode) → taken (settings_step n r) ≡ Some n
 settings-taken n (Ok s) = refl
@@ -23,7 +25,7 @@ chosen-taken : {S O : Type 0} (b : Bool) (x y : Step S O) (n : ℕ) → taken x 
 chosen-taken true x y n e f = e
 chosen-taken false x y n e f = f
 
-control-effect : IsEffect control_effect
+pub control-effect : IsEffect control_effect
 control-effect = record { takes = takes }
   where
     takes : (s : Option Settings) (n : ℕ) (f : frames.Frame) → taken (control_effect s n f) ≡ Some n
@@ -33,52 +35,46 @@ control-effect = record { takes = takes }
     takes (Some s) n (frames.Settings payload) = refl
     takes s n frames.TooLong = refl
     takes s n (frames.Signal id) = refl
-    takes None n (frames.Skipped kind) = chosen-taken (frames.is_exercise kind) (Stops _ n) (Goes None n) n refl refl
+    takes None n (frames.Skipped kind) = chosen-taken (frames.is_exercise kind) (faulted None MissingSettings n) (Goes None n) n refl refl
     takes (Some s) n (frames.Skipped kind) = refl
 
 pub control-steady : IsSteady control_decides
 unfolding control_decides
-control-steady = frames-steady frames.unread unread-on control_effect control-effect
-
--- what is reached over all bytes is the walk's outcome
-pub control-reached : (bytes : List ℕ) (end : StreamEnd) (r : Reached (Option Settings) ErrorCode) → walked control_decides None bytes ≡ r → control_end end r ≡ control_walk_of bytes end
-unfolding control_walk_of
-control-reached bytes end r e = ap (λ (reached : Reached (Option Settings) ErrorCode). control_end end reached) (sym e)
+control-steady = frames-steady frames.session_id_ignored session_id_ignored-on control_effect control-effect
 
 pub control_fault_stays : (bytes more : List ℕ) (end : StreamEnd) → IsSome (control_walk_of bytes Running).fault → control_walk_of (bytes ++ more) end ≡ control_walk_of bytes Running
 unfolding control_walk_of
-control_fault_stays bytes more end some = by (walked control_decides None bytes).stop refl some
+control_fault_stays bytes more end some =
+    outcome-stays control_decides control-steady None control_unfinished (λ w. is_some w.fault) (λ s b. refl) bytes more end (faulty (outcome_at control_unfinished Running (walked control_decides None bytes)).fault some)
   where
-    by : (stop : Option ErrorCode) → (walked control_decides None bytes).stop ≡ stop → IsSome (control_fault Running stop) →
-        control_end end (walked control_decides None (bytes ++ more)) ≡ control_end Running (walked control_decides None bytes)
-    by None e f = absurd cc
-    by (Some fault) e f =
-        ap (λ (reached : Reached (Option Settings) ErrorCode). control_end end reached) (walk-stays control_decides control-steady fault bytes more None None 0 e) ∙ (rw e refl)
+    faulty : (fault : Option ErrorCode) → IsSome fault → is_some fault ≡ true
+    faulty None h = absurd cc
+    faulty (Some e) h = refl
 
 -- settings that came stay: the walk goes on in no other state
 
 module _ (s : Settings) where
-  goes_on : (f : Option (frames.Frame × ℕ)) (t : Option Settings) (n : ℕ) → decided (control_effect (Some s)) f ≡ Goes t n → t ≡ Some s
-  goes_on None t n e = absurd cc
-  goes_on (Some (frames.Data payload, m)) t n e = absurd cc
-  goes_on (Some (frames.Headers payload, m)) t n e = absurd cc
-  goes_on (Some (frames.Settings payload, m)) t n e = absurd cc
-  goes_on (Some (frames.TooLong, m)) t n e = absurd cc
-  goes_on (Some (frames.Signal id, m)) t n e = absurd cc
-  goes_on (Some (frames.Skipped kind, m)) t n e = cc
+  continues_with : (f : Option (frames.Frame × ℕ)) (t : Option Settings) (n : ℕ) → decided (control_effect (Some s)) f ≡ Goes t n → t ≡ Some s
+  continues_with None t n e = absurd cc
+  continues_with (Some (frames.Data payload, m)) t n e = absurd cc
+  continues_with (Some (frames.Headers payload, m)) t n e = absurd cc
+  continues_with (Some (frames.Settings payload, m)) t n e = absurd cc
+  continues_with (Some (frames.TooLong, m)) t n e = absurd cc
+  continues_with (Some (frames.Signal id, m)) t n e = absurd cc
+  continues_with (Some (frames.Skipped kind, m)) t n e = cc
 
   next_state : (bytes : List ℕ) (t : Option Settings) (n : ℕ) → control_decides (Some s) bytes ≡ Goes t n → t ≡ Some s
   unfolding control_decides
-  next_state bytes t n e = goes_on (frames.frame_at frames.unread bytes) t n e
+  next_state bytes t n e = continues_with (frames.frame_at frames.session_id_ignored bytes) t n e
 
-  led-kept : (b : ℕ) (xs : List ℕ) → ((stop : Option ErrorCode) (n : ℕ) → (walk control_decides (Some s) stop n xs).state ≡ Some s) →
-      (step : Step (Option Settings) ErrorCode) → control_decides (Some s) (b ∷ xs) ≡ step →
+  led-kept : (b : ℕ) (xs : List ℕ) → ((stop : Option ControlWalk) (n : ℕ) → (walk control_decides (Some s) stop n xs).state ≡ Some s) →
+      (step : Step (Option Settings) ControlWalk) → control_decides (Some s) (b ∷ xs) ≡ step →
       (led (record { state = Some s; stop = None; between = false }) (λ t stop n. walk control_decides t stop (n - 1) xs) (Some s) step).state ≡ Some s
   led-kept b xs again Cut e = refl
   led-kept b xs again (Goes t n) e = rw (next_state (b ∷ xs) t n e) (again None (n - 1))
   led-kept b xs again (Stops o n) e = again (Some o) (n - 1)
 
-  kept : (xs : List ℕ) (stop : Option ErrorCode) (n : ℕ) → (walk control_decides (Some s) stop n xs).state ≡ Some s
+  kept : (xs : List ℕ) (stop : Option ControlWalk) (n : ℕ) → (walk control_decides (Some s) stop n xs).state ≡ Some s
   kept [] stop (suc n) = refl
   kept (b ∷ xs) stop (suc n) = kept xs stop n
   kept [] stop zero = refl
@@ -86,8 +82,8 @@ module _ (s : Settings) where
   kept (b ∷ xs) None zero = led-kept b xs (kept xs) (control_decides (Some s) (b ∷ xs)) refl
 
 led-came : (s : Settings) (b : ℕ) (xs ys : List ℕ) →
-    ((state : Option Settings) (stop : Option ErrorCode) (n : ℕ) → (walk control_decides state stop n xs).state ≡ Some s → (walk control_decides state stop n (xs ++ ys)).state ≡ Some s) →
-    (step : Step (Option Settings) ErrorCode) → control_decides None (b ∷ xs) ≡ step →
+    ((state : Option Settings) (stop : Option ControlWalk) (n : ℕ) → (walk control_decides state stop n xs).state ≡ Some s → (walk control_decides state stop n (xs ++ ys)).state ≡ Some s) →
+    (step : Step (Option Settings) ControlWalk) → control_decides None (b ∷ xs) ≡ step →
     (led (record { state = None; stop = None; between = false }) (λ t stop n. walk control_decides t stop (n - 1) xs) None step).state ≡ Some s →
     (led (record { state = None; stop = None; between = false }) (λ t stop n. walk control_decides t stop (n - 1) (xs ++ ys)) None (control_decides None (b ∷ xs ++ ys))).state ≡ Some s
 led-came s b xs ys again Cut e f = absurd cc
@@ -96,7 +92,7 @@ led-came s b xs ys again (Goes t n) e f =
 led-came s b xs ys again (Stops o n) e f =
     rw (control-steady.more None (b ∷ xs) ys n (ap (λ d. taken d) e) ∙ e) (again None (Some o) (n - 1) f)
 
-came : (s : Settings) (xs ys : List ℕ) (state : Option Settings) (stop : Option ErrorCode) (n : ℕ) →
+came : (s : Settings) (xs ys : List ℕ) (state : Option Settings) (stop : Option ControlWalk) (n : ℕ) →
     (walk control_decides state stop n xs).state ≡ Some s → (walk control_decides state stop n (xs ++ ys)).state ≡ Some s
 came s xs ys (Some t) stop n e = kept t (xs ++ ys) stop n ∙ (sym (kept t xs stop n) ∙ e)
 came s [] ys None stop (suc n) e = absurd cc
@@ -105,6 +101,61 @@ came s [] ys None stop zero e = absurd cc
 came s (b ∷ xs) ys None (Some o) zero e = absurd cc
 came s (b ∷ xs) ys None None zero e = led-came s b xs ys (came s xs ys) (control_decides None (b ∷ xs)) refl e
 
-pub settings_stay : (bytes more : List ℕ) (end later : StreamEnd) (s : Settings) → (control_walk_of bytes end).settings ≡ Some s → (control_walk_of (bytes ++ more) later).settings ≡ Some s
+-- what stops the walk keeps the settings that came
+abbrev agrees : Option Settings → Option ControlWalk → Type 0
+agrees s None = Unit {0}
+agrees s (Some w) = w.settings ≡ s
+
+settings-agree : (n : ℕ) (r : Result Settings ErrorCode) (w : ControlWalk) (m : ℕ) → settings_step n r ≡ Stops w m → w.settings ≡ None
+settings-agree n (Ok s) w m e = absurd cc
+settings-agree n (Err fault) w m e = cc
+
+skipped-agree : (b : Bool) (n : ℕ) (w : ControlWalk) (m : ℕ) → cond b (faulted None MissingSettings n) (Goes None n) ≡ Stops w m → w.settings ≡ None
+skipped-agree true n w m e = cc
+skipped-agree false n w m e = absurd cc
+
+effect-agrees : (s : Option Settings) (f : Option (frames.Frame × ℕ)) (w : ControlWalk) (m : ℕ) → decided (control_effect s) f ≡ Stops w m → w.settings ≡ s
+effect-agrees s None w m e = absurd cc
+effect-agrees s (Some (frames.Data payload, n)) w m e = cc
+effect-agrees s (Some (frames.Headers payload, n)) w m e = cc
+effect-agrees None (Some (frames.Settings payload, n)) w m e = settings-agree n (settings_of payload) w m e
+effect-agrees (Some s) (Some (frames.Settings payload, n)) w m e = cc
+effect-agrees s (Some (frames.TooLong, n)) w m e = cc
+effect-agrees s (Some (frames.Signal id, n)) w m e = cc
+effect-agrees None (Some (frames.Skipped kind, n)) w m e = skipped-agree (frames.is_exercise kind) n w m e
+effect-agrees (Some s) (Some (frames.Skipped kind, n)) w m e = absurd cc
+
+stop-agrees : (s : Option Settings) (bytes : List ℕ) (w : ControlWalk) (m : ℕ) → control_decides s bytes ≡ Stops w m → w.settings ≡ s
+unfolding control_decides
+stop-agrees s bytes w m e = effect-agrees s (frames.frame_at frames.session_id_ignored bytes) w m e
+
+led-agrees : (s : Option Settings) (b : ℕ) (xs : List ℕ) →
+    ((t : Option Settings) (stop : Option ControlWalk) (n : ℕ) → agrees t stop → agrees (walk control_decides t stop n xs).state (walk control_decides t stop n xs).stop) →
+    (step : Step (Option Settings) ControlWalk) → control_decides s (b ∷ xs) ≡ step →
+    agrees (led (record { state = s; stop = None; between = false }) (λ t stop n. walk control_decides t stop (n - 1) xs) s step).state
+    (led (record { state = s; stop = None; between = false }) (λ t stop n. walk control_decides t stop (n - 1) xs) s step).stop
+led-agrees s b xs again Cut e = tt
+led-agrees s b xs again (Goes t n) e = again t None (n - 1) tt
+led-agrees s b xs again (Stops w n) e = again s (Some w) (n - 1) (stop-agrees s (b ∷ xs) w n e)
+
+walk-agrees : (xs : List ℕ) (s : Option Settings) (stop : Option ControlWalk) (n : ℕ) → agrees s stop → agrees (walk control_decides s stop n xs).state (walk control_decides s stop n xs).stop
+walk-agrees [] s stop (suc n) h = tt
+walk-agrees (b ∷ xs) s stop (suc n) h = walk-agrees xs s stop n h
+walk-agrees [] s stop zero h = h
+walk-agrees (b ∷ xs) s (Some w) zero h = h
+walk-agrees (b ∷ xs) s None zero h = led-agrees s b xs (walk-agrees xs) (control_decides s (b ∷ xs)) refl
+
+-- so the outcome tells the settings that came
+settings-by : (end : StreamEnd) (s : Option Settings) (between : Bool) (stop : Option ControlWalk) → agrees s stop → (unwrap_or stop (control_unfinished end s between)).settings ≡ s
+settings-by Running s between None h = refl
+settings-by Fin s between None h = refl
+settings-by (Reset code) s between None h = refl
+settings-by end s between (Some w) h = h
+
+settings-are : (bytes : List ℕ) (end : StreamEnd) → (control_walk_of bytes end).settings ≡ (walked control_decides None bytes).state
 unfolding control_walk_of
-settings_stay bytes more end later s e = came s bytes more None None 0 e
+settings-are bytes end =
+    settings-by end (walked control_decides None bytes).state (walked control_decides None bytes).between (walked control_decides None bytes).stop (walk-agrees bytes None None 0 tt)
+
+pub settings_stay : (bytes more : List ℕ) (end later : StreamEnd) (s : Settings) → (control_walk_of bytes end).settings ≡ Some s → (control_walk_of (bytes ++ more) later).settings ≡ Some s
+settings_stay bytes more end later s e = settings-are (bytes ++ more) later ∙ came s bytes more None None 0 (sym (settings-are bytes end) ∙ e)

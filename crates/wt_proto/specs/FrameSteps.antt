@@ -1,15 +1,9 @@
--- What a frame does to a walk over frames.
-use Rattle.std.specs.Prelude.{ℕ, ◌+◌, Option, Some, None}
-use Rattle.wt_wire.specs.Frames.{Frame, Skipped}
+-- What an item at the front does to a walk, once it is read.
+use Rattle.std.specs.Prelude.{ℕ, Option, Some, None}
 use Rattle.wt_proto.specs.declared.walk.Step.{Step}
-use Rattle.wt_proto.specs.declared.walk.Step.TheVariants.{Cut, Goes, Stops}
+use Rattle.wt_proto.specs.declared.walk.Step.TheVariants.{Cut}
 
--- what it does, once it is read
-abbrev pub decided : {S O : Type 0} → (ℕ → Frame → Step S O) → Option (Frame × ℕ) → Step S O
+-- an item and how many bytes it takes; before it is read nothing is decided
+abbrev pub decided : {A S O : Type 0} → (ℕ → A → Step S O) → Option (A × ℕ) → Step S O
 decided effect None = Cut
-decided effect (Some f) = effect f.1 f.0
-
--- a walk up to the first frame that isn't skipped, which is judged with the offset behind it; the state is the offset of the frame
-abbrev pub first_judged : {O : Type 0} → (Frame → ℕ → O) → ℕ → ℕ → Frame → Step ℕ O
-first_judged judge at size (Skipped kind) = Goes (at + size) size
-first_judged judge at size frame = Stops (judge frame (at + size)) size
+decided effect (Some item) = effect item.1 item.0

@@ -1,6 +1,6 @@
 -- The walk over a session's stream behind the frame that made the session stand, over all bytes and the end (draft-ietf-webtrans-http3, section 5; RFC 9297, section 3.2).
 use Rattle.std.specs.Prelude.{ℕ, List, [], Bool, true, false, Option, Some, None, Result, Ok, Err}
-use Rattle.wt_proto.specs.declared.capsule.CloseWebTransportSession.{CloseWebTransportSession}
+use Rattle.wt_message.specs.declared.capsule.CloseWebTransportSession.{CloseWebTransportSession}
 use Rattle.wt_wire.specs.declared.error.ErrorCode.{ErrorCode}
 use Rattle.wt_wire.specs.declared.error.ErrorCode.TheVariants.{FrameUnexpected, ExcessiveLoad, ClosedCriticalStream}
 use Rattle.wt_proto.specs.declared.session_walk.SessionWalk.{SessionWalk}
@@ -9,10 +9,10 @@ use Rattle.wt_wire.specs.declared.side.StreamEnd.{StreamEnd}
 use Rattle.wt_wire.specs.declared.side.StreamEnd.TheVariants.{Running, Fin, Reset}
 use Rattle.wt_proto.specs.declared.walk.Step.{Step}
 use Rattle.wt_proto.specs.declared.walk.Step.TheVariants.{Goes, Stops}
-use Rattle.wt_proto.specs.Capsule.{close_value_at, close_of}
+use Rattle.wt_message.specs.Capsule.{close_value_at, close_of}
 use Rattle.wt_wire.specs.Frames as frames
 use Rattle.wt_proto.specs.FrameSteps.{decided}
-use Rattle.wt_proto.specs.Walk.{Reached, walked}
+use Rattle.wt_proto.specs.Walk.{outcome_at, walked}
 
 -- a capsule that closes the session, or is a fault
 abbrev pub closed_by : Result CloseWebTransportSession ErrorCode → SessionWalk
@@ -36,25 +36,20 @@ session_effect state size frames.TooLong = Stops (walks.Fault ExcessiveLoad) siz
 session_effect state size (frames.Signal id) = Stops (walks.Fault FrameUnexpected) size
 session_effect state size (frames.Skipped kind) = Goes tt size
 
+-- what the frame at the front of a session's stream does
 unfoldable pub session_decides : Unit {0} → List ℕ → Step (Unit {0}) SessionWalk
-session_decides state bytes = decided (session_effect state) (frames.frame_at frames.unread bytes)
+session_decides state bytes = decided (session_effect state) (frames.frame_at frames.session_id_ignored bytes)
 
 -- a clean end between frames closes the session with code 0 and an empty reason; every other end is a fault
-abbrev pub session_at_end : StreamEnd → Bool → SessionWalk
-session_at_end Running between = walks.Running
-session_at_end Fin true = walks.Closed 0 []
-session_at_end Fin false = walks.Fault ClosedCriticalStream
-session_at_end (Reset code) between = walks.Fault ClosedCriticalStream
+abbrev pub session_unfinished : StreamEnd → Unit {0} → Bool → SessionWalk
+session_unfinished Running state between = walks.Running
+session_unfinished Fin state true = walks.Closed 0 []
+session_unfinished Fin state false = walks.Fault ClosedCriticalStream
+session_unfinished (Reset code) state between = walks.Fault ClosedCriticalStream
 
-abbrev pub session_outcome : StreamEnd → Bool → Option SessionWalk → SessionWalk
-session_outcome end between (Some outcome) = outcome
-session_outcome end between None = session_at_end end between
-
-abbrev pub session_end : StreamEnd → Reached (Unit {0}) SessionWalk → SessionWalk
-session_end end reached = session_outcome end reached.between reached.stop
-
+-- how the peer ended the session, over all bytes after the request or the response and the end
 unfoldable pub session_walk_of : List ℕ → StreamEnd → SessionWalk
-session_walk_of bytes end = session_end end (walked session_decides tt bytes)
+session_walk_of bytes end = outcome_at session_unfinished end (walked session_decides tt bytes)
 
 -- an outcome that more bytes and an end don't change
 abbrev pub is_over : SessionWalk → Bool

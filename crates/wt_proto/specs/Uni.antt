@@ -5,33 +5,64 @@ use Rattle.wt_wire.specs.declared.side.StreamEnd.{StreamEnd}
 use Rattle.wt_wire.specs.declared.side.StreamEnd.TheVariants.{Running, Fin, Reset}
 use Rattle.wt_proto.specs.declared.verdict.Verdict.{Verdict}
 use Rattle.wt_proto.specs.declared.verdict.Verdict.TheVariants.{Incomplete, WebTransport, Control, Encoder, Decoder, Request, Refused, Dropped, Fault}
+use Rattle.wt_proto.specs.declared.walk.Step.{Step}
+use Rattle.wt_proto.specs.declared.walk.Step.TheVariants.{Stops}
 use Rattle.wt_wire.specs.Varint.{varint_at}
+use Rattle.wt_proto.specs.FrameSteps.{decided}
+use Rattle.wt_message.specs.StreamTypes.{control_type, encoder_type, decoder_type, webtransport_type}
 
 -- the bytes end inside the header: more may come, or never
-abbrev pub cut : StreamEnd → Verdict
-cut Running = Incomplete
-cut Fin = Dropped
-cut (Reset code) = Dropped
+abbrev pub at_stream_end : StreamEnd → Verdict
+at_stream_end Running = Incomplete
+at_stream_end Fin = Dropped
+at_stream_end (Reset code) = Dropped
 
 -- the id of a session that stands in front of this offset: a multiple of 4
 abbrev pub session_verdict : ℕ → ℕ → Verdict
 session_verdict id at = if id % 4 == 0 then WebTransport id at else Fault Id
 
-abbrev pub with_session : StreamEnd → ℕ → Option (ℕ × ℕ) → Verdict
-with_session end at None = cut end
-with_session end at (Some s) = session_verdict s.0 (at + s.1)
+-- a verdict, and how many bytes the header takes
+abbrev pub session_header_at : ℕ → Option (ℕ × ℕ) → Option (Verdict × ℕ)
+session_header_at at None = None
+session_header_at at (Some s) = Some (session_verdict s.0 (at + s.1), at + s.1)
 
--- by the stream's type; of every other type the stream is of no use
-abbrev pub with_type : List ℕ → StreamEnd → Option (ℕ × ℕ) → Verdict
-with_type bytes end None = cut end
-with_type bytes end (Some t) =
-    if t.0 == 0x00 then Control t.1 else
-    (if t.0 == 0x02 then Encoder t.1 else
-    (if t.0 == 0x03 then Decoder t.1 else
-    (if t.0 == 0x54 then with_session end t.1 (varint_at (drop t.1 bytes)) else Dropped)))
+-- by the stream's type, which so many bytes encode; of every other type the stream is of no use
+abbrev pub header_by_type : ℕ → ℕ → Option (Verdict × ℕ) → Option (Verdict × ℕ)
+header_by_type kind at session =
+    if kind == control_type then Some (Control at, at) else
+    (if kind == encoder_type then Some (Encoder at, at) else
+    (if kind == decoder_type then Some (Decoder at, at) else
+    (if kind == webtransport_type then session else Some (Dropped, at))))
 
+-- the header of a stream after its type, where that is whole
+abbrev pub typed_header_at : List ℕ → Option (ℕ × ℕ) → Option (Verdict × ℕ)
+typed_header_at bytes None = None
+typed_header_at bytes (Some t) = header_by_type t.0 t.1 (session_header_at t.1 (varint_at (drop t.1 bytes)))
+
+-- what the header at the front says, and how many bytes it has; None where the bytes end inside it
+abbrev pub uni_header_at : List ℕ → Option (Verdict × ℕ)
+uni_header_at bytes = typed_header_at bytes (varint_at bytes)
+
+-- the walk of one item, its header, has one state
+abbrev pub uni_effect : Unit {0} → ℕ → Verdict → Step (Unit {0}) Verdict
+uni_effect state size verdict = Stops verdict size
+
+-- the walk over a unidirectional stream decides once, at its header
+unfoldable pub uni_decides : Unit {0} → List ℕ → Step (Unit {0}) Verdict
+uni_decides state bytes = decided (uni_effect state) (uni_header_at bytes)
+
+-- what the header says, or the end inside it
+abbrev pub or_at_stream_end : StreamEnd → Option (Verdict × ℕ) → Verdict
+or_at_stream_end end None = at_stream_end end
+or_at_stream_end end (Some header) = header.0
+
+-- the verdict while the header isn't whole
+abbrev pub uni_unfinished : StreamEnd → Unit {0} → Bool → Verdict
+uni_unfinished end state between = at_stream_end end
+
+-- the verdict of a peer's unidirectional stream over all its bytes and its end
 unfoldable pub uni_verdict_of : List ℕ → StreamEnd → Verdict
-uni_verdict_of bytes end = with_type bytes end (varint_at bytes)
+uni_verdict_of bytes end = or_at_stream_end end (uni_header_at bytes)
 
 -- a verdict that more bytes and an end don't change
 abbrev pub is_final : Verdict → Bool

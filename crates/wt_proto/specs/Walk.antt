@@ -1,6 +1,7 @@
 -- Walks over items that follow one another, as frames do on a stream.
 -- `decide` looks at all bytes from an item's front, in the state that the items before it left, and tells what the item does.
-use Rattle.std.specs.Prelude.{ℕ, zero, suc, ◌-◌, List, [], ◌∷◌, Option, Some, None, Bool, true, false}
+use Rattle.std.specs.Prelude.{ℕ, zero, suc, ◌-◌, List, [], ◌∷◌, Option, Some, None, unwrap_or, Bool, true, false}
+use Rattle.wt_wire.specs.declared.side.StreamEnd.{StreamEnd}
 use Rattle.wt_proto.specs.declared.walk.Step.{Step}
 use Rattle.wt_proto.specs.declared.walk.Step.TheVariants.{Cut, Goes, Stops}
 
@@ -30,3 +31,7 @@ walk decide s None zero (b ∷ bytes) =
 -- the walk over all bytes
 abbrev pub walked : {S O : Type 0} → (S → List ℕ → Step S O) → S → List ℕ → Reached S O
 walked decide s bytes = walk decide s None 0 bytes
+
+-- the outcome: what the walk stopped with, else what the end makes of where it stands
+abbrev pub outcome_at : {S O : Type 0} → (StreamEnd → S → Bool → O) → StreamEnd → Reached S O → O
+outcome_at unfinished end r = unwrap_or r.stop (unfinished end r.state r.between)

@@ -1,16 +1,18 @@
 //! The verdict of a bidirectional stream.
-ghost use Rattle.std.specs.Prelude.{◌≡◌, ◌<◌, ◌≤◌, ◌+◌, ◌^◌, IfOk, length};
-ghost use Rattle.wt_proto.specs.Bi.{bi_decides, bi_verdict_of, headers_verdict, or_cut, parsed_verdict};
+ghost use Rattle.std.specs.Prelude.{◌≡◌, IfOk};
+ghost use Rattle.wt_proto.specs.Bi.{bi_decides, bi_verdict_of, headers_verdict, parsed_verdict};
 ghost use Rattle.wt_wire.specs.FieldSection.{headers_of};
-ghost use Rattle.wt_proto.specs.Requests.{request_of};
+ghost use Rattle.wt_message.specs.Requests.{request_of};
 
-use crate::session::{HeadersParseError, SessionRequest};
-use crate::verdict::{Verdict, cut_by, of_session};
-use crate::walk::Step;
+use crate::cursor::walk_over;
+use crate::verdict::{Verdict, of_session, verdict_at_stream_end};
+use crate::walk::{Step, Walk, behind_item};
+use crate::wanted::frame_wanted;
 use std::alloc::Global;
+use wt_message::session::{HeadersParseError, SessionRequest};
 use wt_wire::error::{ErrorCode, OutOfMemory};
-use wt_wire::front::{Front, read_front};
 use wt_wire::headers::Headers;
+use wt_wire::parsed_frame::{ParsedFrame, parse_frame};
 use wt_wire::side::StreamEnd;
 use wt_wire::varint::read_varint;
 
@@ -25,18 +27,17 @@ fn of_request(headers: Headers, at: usize) -> Verdict
     }
 }
 
-/// What a HEADERS frame of this payload and of so many bytes does at an offset.
+/// What a HEADERS frame of this payload and of so many bytes does in front of an offset.
 fn headers_step(
     alloc: Global,
     payload: &[u8],
-    at: usize,
+    behind: u64,
     size: usize,
 ) -> Result<Step<u64, Verdict>, OutOfMemory>
-    requires { at + size < 2 ^ 63 }
-    ensures { IfOk result (λ step. step ≡ Step.Stops (headers_verdict (at + size) (headers_of payload.now)) size) }
+    ensures { IfOk result (λ step. step ≡ Step.Stops (headers_verdict behind (headers_of payload.now)) size) }
 {
     match Headers::with_payload(alloc, payload)? {
-        Ok(headers) => Ok(Step::Stops(of_request(headers, at + size), size as u64)),
+        Ok(headers) => Ok(Step::Stops(of_request(headers, behind as usize), size as u64)),
         Err(fault) => Ok(faulty(fault, size)),
     }
 }
@@ -47,30 +48,78 @@ fn faulty(fault: ErrorCode, size: usize) -> Step<u64, Verdict>
     Step::Stops(Verdict::Fault(fault), size as u64)
 }
 
-/// What the frame at this offset, from which the bytes stand, does.
+/// What the frame at this offset, from which the bytes stand, does. An offset above 2^64 - 1 is
+/// more than any memory counts.
 #[tactic(auto, unfolding(crate::specs::Bi::bi_decides))]
-fn bi_step(alloc: Global, at: usize, bytes: &[u8]) -> Result<Step<u64, Verdict>, OutOfMemory>
-    requires { at + length bytes.now < 2 ^ 63 }
+fn bi_step(alloc: Global, at: u64, bytes: &[u8]) -> Result<Step<u64, Verdict>, OutOfMemory>
     ensures { IfOk result (λ step. step ≡ bi_decides at bytes.now) }
 {
-    match read_front(bytes) {
-        Front::Cut => Ok(Step::Cut),
-        Front::Signal(id_at) => match read_varint(&bytes[id_at..]) {
+    match parse_frame(bytes) {
+        ParsedFrame::Incomplete => Ok(Step::Cut),
+        ParsedFrame::Signal(id_at) => match read_varint(&bytes[id_at..]) {
             Some((id, length)) => {
-                let size = id_at + length;
-                Ok(Step::Stops(of_session(id, at + size), size as u64))
+                let size = (id_at + length) as u64;
+                let behind = behind_item(at, size)?;
+                Ok(Step::Stops(of_session(id, behind as usize), size))
             }
             None => Ok(Step::Cut),
         },
-        Front::TooLong(header) => Ok(faulty(ErrorCode::ExcessiveLoad, header)),
-        Front::Headers(header, size) => {
+        ParsedFrame::TooLong(header) => Ok(faulty(ErrorCode::ExcessiveLoad, header)),
+        ParsedFrame::Headers(header, size) => {
             let payload = &bytes[header..header + size];
-            headers_step(alloc, payload, at, header + size)
+            let behind = behind_item(at, (header + size) as u64)?;
+            headers_step(alloc, payload, behind, header + size)
         }
-        Front::Data(header, size) | Front::Settings(header, size) => {
+        ParsedFrame::Data(header, size) | ParsedFrame::Settings(header, size) => {
             Ok(faulty(ErrorCode::FrameUnexpected, header + size))
         }
-        Front::Skipped(_, size) => Ok(Step::Goes(at as u64 + size, size)),
+        ParsedFrame::Skipped(_, size) => Ok(Step::Goes(behind_item(at, size)?, size)),
+    }
+}
+
+/// The walk over a peer's bidirectional stream up to its first frame that isn't skipped.
+pub struct BiHeader;
+
+impl Walk for BiHeader {
+    type State = u64;
+
+    type Outcome = Verdict;
+
+    ghost use Rattle.std.specs.Prelude.{true};
+    ghost use Rattle.wt_proto.specs.Bi.{bi_decides, bi_unfinished, bi_verdict_of};
+    ghost use Rattle.wt_proto.specs.Uni.{is_final};
+    ghost use Rattle.wt_proto.specs.Wanted.{frame_wants};
+
+    ghost start_state = { 0 };
+
+    ghost decides = { bi_decides };
+
+    ghost wants = { frame_wants true };
+
+    ghost unfinished_at = { bi_unfinished };
+
+    ghost is_final_outcome = { is_final };
+
+    ghost outcome_of = { bi_verdict_of };
+
+    fn start() -> u64 {
+        0
+    }
+
+    fn step(alloc: Global, at: &u64, bytes: &[u8]) -> Result<Step<u64, Verdict>, OutOfMemory> {
+        bi_step(alloc, *at, bytes)
+    }
+
+    fn wanted(bytes: &[u8]) -> usize {
+        frame_wanted(bytes, true)
+    }
+
+    fn unfinished(_alloc: Global, end: StreamEnd, _at: &u64, _between: bool) -> Verdict {
+        verdict_at_stream_end(end)
+    }
+
+    fn is_final(verdict: &Verdict) -> bool {
+        verdict.is_final()
     }
 }
 
@@ -81,27 +130,9 @@ fn bi_step(alloc: Global, at: usize, bytes: &[u8]) -> Result<Step<u64, Verdict>,
 /// its method isn't CONNECT, else Message), or a fault of its field section (Decompression); DATA
 /// and SETTINGS are faults (FrameUnexpected), and so is a payload longer than 4,096 bytes
 /// (ExcessiveLoad).
+#[tactic(auto, using(crate::proofs::BiReading::bi_lawful))]
 pub fn bi_verdict(alloc: Global, bytes: &[u8], end: StreamEnd) -> Result<Verdict, OutOfMemory>
     ensures { IfOk result (λ verdict. verdict ≡ bi_verdict_of bytes.now end) }
 {
-    let mut at = 0;
-    while at < bytes.len() {
-        let left = (bytes.len() - at) as u64;
-        match bi_step(alloc, at, &bytes[at..])? {
-            Step::Cut => return Ok(cut_by(end)),
-            Step::Goes(_, size) => {
-                if left < size {
-                    return Ok(cut_by(end));
-                }
-                at += size as usize;
-            }
-            Step::Stops(verdict, size) => {
-                if left < size {
-                    return Ok(cut_by(end));
-                }
-                return Ok(verdict);
-            }
-        }
-    }
-    Ok(cut_by(end))
+    walk_over::<BiHeader>(alloc, bytes, end)
 }

@@ -1,13 +1,15 @@
 //! The walk over the peer's control stream.
-ghost use Rattle.std.specs.Prelude.{◌≡◌, ◌≤◌, ◌<◌, ◌^◌, ℕ, Bool, length, Ok, None};
-ghost use Rattle.wt_proto.specs.ControlWalk.{control_decides, control_end, control_walk_of, on_settings, on_skipped};
+ghost use Rattle.std.specs.Prelude.{◌≡◌, ◌≤◌, ◌<◌, ◌^◌, ℕ, length, Ok};
+ghost use Rattle.wt_proto.specs.ControlWalk.{control_decides, control_unfinished, control_walk_of, faulted, on_settings, on_skipped};
 
-use crate::settings::Settings;
-use crate::walk::Step;
+use crate::cursor::walk_over;
+use crate::walk::{Step, Walk};
+use crate::wanted::frame_wanted;
 use std::alloc::Global;
+use wt_message::settings::Settings;
 use wt_wire::error::{ErrorCode, OutOfMemory};
 use wt_wire::exercise::is_exercise;
-use wt_wire::front::{Front, read_front};
+use wt_wire::parsed_frame::{ParsedFrame, parse_frame};
 use wt_wire::side::StreamEnd;
 use wt_wire::varint::VarInt;
 
@@ -19,19 +21,33 @@ pub struct ControlWalk {
     pub fault: Option<ErrorCode>,
 }
 
+fn faulty(
+    settings: Option<Settings>,
+    fault: ErrorCode,
+    size: u64,
+) -> Step<Option<Settings>, ControlWalk>
+    ensures { result ≡ faulted settings fault size }
+{
+    let walk = ControlWalk {
+        settings,
+        fault: Some(fault),
+    };
+    Step::Stops(walk, size)
+}
+
 fn settings_step(
     settings: Option<Settings>,
     payload: &[u8],
     size: u64,
-) -> Step<Option<Settings>, ErrorCode>
+) -> Step<Option<Settings>, ControlWalk>
     ensures { result ≡ on_settings settings size payload.now }
 {
     if settings.is_some() {
-        return Step::Stops(ErrorCode::FrameUnexpected, size);
+        return faulty(settings, ErrorCode::FrameUnexpected, size);
     }
-    match Settings::read(payload) {
+    match Settings::with_payload(payload) {
         Ok(settings) => Step::Goes(Some(settings), size),
-        Err(fault) => Step::Stops(fault, size),
+        Err(fault) => faulty(None, fault, size),
     }
 }
 
@@ -39,11 +55,11 @@ fn skipped_step(
     settings: Option<Settings>,
     kind: VarInt,
     size: u64,
-) -> Step<Option<Settings>, ErrorCode>
+) -> Step<Option<Settings>, ControlWalk>
     ensures { result ≡ on_skipped settings size kind }
 {
     if settings.is_none() && is_exercise(kind.into_inner()) {
-        Step::Stops(ErrorCode::MissingSettings, size)
+        faulty(None, ErrorCode::MissingSettings, size)
     } else {
         Step::Goes(settings, size)
     }
@@ -51,27 +67,28 @@ fn skipped_step(
 
 /// What the frame at the front does.
 #[tactic(auto, unfolding(crate::specs::ControlWalk::control_decides))]
-fn control_step(settings: &Option<Settings>, bytes: &[u8]) -> Step<Option<Settings>, ErrorCode>
+fn control_step(settings: &Option<Settings>, bytes: &[u8]) -> Step<Option<Settings>, ControlWalk>
     ensures { result ≡ control_decides settings.now bytes.now }
 {
-    match read_front(bytes) {
-        Front::Cut => Step::Cut,
-        Front::Signal(at) => Step::Stops(ErrorCode::FrameUnexpected, at as u64),
-        Front::TooLong(header) => Step::Stops(ErrorCode::ExcessiveLoad, header as u64),
-        Front::Data(header, size) | Front::Headers(header, size) => {
-            Step::Stops(ErrorCode::FrameUnexpected, (header + size) as u64)
+    match parse_frame(bytes) {
+        ParsedFrame::Incomplete => Step::Cut,
+        ParsedFrame::Signal(at) => faulty(*settings, ErrorCode::FrameUnexpected, at as u64),
+        ParsedFrame::TooLong(header) => faulty(*settings, ErrorCode::ExcessiveLoad, header as u64),
+        ParsedFrame::Data(header, size) | ParsedFrame::Headers(header, size) => {
+            let whole = (header + size) as u64;
+            faulty(*settings, ErrorCode::FrameUnexpected, whole)
         }
-        Front::Settings(header, size) => {
+        ParsedFrame::Settings(header, size) => {
             let payload = &bytes[header..header + size];
             settings_step(*settings, payload, (header + size) as u64)
         }
-        Front::Skipped(kind, size) => skipped_step(*settings, kind, size),
+        ParsedFrame::Skipped(kind, size) => skipped_step(*settings, kind, size),
     }
 }
 
 /// The walk where no frame stopped it.
-fn ended(settings: Option<Settings>, end: StreamEnd) -> ControlWalk
-    ensures { (between : Bool) → result ≡ control_end end (record { state = settings; stop = None; between = between }) }
+fn ended(settings: Option<Settings>, end: StreamEnd, between: bool) -> ControlWalk
+    ensures { result ≡ control_unfinished end settings between }
 {
     let fault = match end {
         StreamEnd::Running => None,
@@ -80,41 +97,67 @@ fn ended(settings: Option<Settings>, end: StreamEnd) -> ControlWalk
     ControlWalk { settings, fault }
 }
 
+impl Walk for ControlWalk {
+    type State = Option<Settings>;
+
+    type Outcome = ControlWalk;
+
+    ghost use Rattle.std.specs.Prelude.{None, false, is_some, ⊤};
+    ghost use Rattle.wt_proto.specs.ControlWalk.{control_decides, control_unfinished, control_walk_of};
+    ghost use Rattle.wt_proto.specs.Wanted.{frame_wants};
+
+    ghost start_state = { None };
+
+    ghost decides = { control_decides };
+
+    ghost wants = { frame_wants false };
+
+    ghost unfinished_at = { control_unfinished };
+
+    ghost is_final_outcome = { λ w. is_some w.fault };
+
+    ghost outcome_of = { control_walk_of };
+
+    ghost never_fails = { ⊤ };
+
+    fn start() -> Option<Settings> {
+        None
+    }
+
+    fn step(
+        _alloc: Global,
+        settings: &Option<Settings>,
+        bytes: &[u8],
+    ) -> Result<Step<Option<Settings>, ControlWalk>, OutOfMemory> {
+        Ok(control_step(settings, bytes))
+    }
+
+    fn wanted(bytes: &[u8]) -> usize {
+        frame_wanted(bytes, false)
+    }
+
+    fn unfinished(
+        _alloc: Global,
+        end: StreamEnd,
+        settings: &Option<Settings>,
+        between: bool,
+    ) -> ControlWalk {
+        ended(*settings, end, between)
+    }
+
+    fn is_final(walk: &ControlWalk) -> bool {
+        walk.fault.is_some()
+    }
+}
+
 /// The walk over the peer's control stream, over the bytes behind its type and its end
 /// (RFC 9114, sections 6.2.1 and 7.2.4). Frames are judged one after another up to the first fault:
 /// DATA, HEADERS, a second SETTINGS or the signal of a WebTransport stream (FrameUnexpected), a
 /// payload longer than 4,096 bytes (ExcessiveLoad), a fault of the settings, an exercise frame
 /// before them (MissingSettings), and an end (ClosedCriticalStream).
-pub fn control_walk(
-    _alloc: Global,
-    bytes: &[u8],
-    end: StreamEnd,
-) -> Result<ControlWalk, OutOfMemory>
+#[tactic(auto, using(crate::proofs::ControlReading::control_lawful))]
+pub fn control_walk(alloc: Global, bytes: &[u8], end: StreamEnd) -> Result<ControlWalk, OutOfMemory>
     ensures { result ≡ Ok (control_walk_of bytes.now end) }
 {
-    let mut settings = None;
-    let mut at = 0;
-    while at < bytes.len() {
-        let left = (bytes.len() - at) as u64;
-        match control_step(&settings, &bytes[at..]) {
-            Step::Cut => return Ok(ended(settings, end)),
-            Step::Goes(next, size) => {
-                settings = next;
-                if left < size {
-                    return Ok(ended(settings, end));
-                }
-                at += size as usize;
-            }
-            Step::Stops(fault, size) => {
-                if left < size {
-                    return Ok(ended(settings, end));
-                }
-                return Ok(ControlWalk {
-                    settings,
-                    fault: Some(fault),
-                });
-            }
-        }
-    }
-    Ok(ended(settings, end))
+    walk_over::<ControlWalk>(alloc, bytes, end)
 }

@@ -3,24 +3,42 @@
 
 pub mod alpn;
 pub mod bi;
-pub mod byte_strings;
-pub mod capsule;
 pub mod control_walk;
-pub mod datagram;
-pub mod laws;
+mod cursor;
 pub mod outgoing;
-pub mod read_back;
-pub mod response_walk;
-pub mod rows;
-pub mod session;
+pub mod reader;
+pub mod reader_laws;
 #[cfg(test)]
-mod session_tests;
+mod reader_tests;
+pub mod response_walk;
 pub mod session_walk;
-pub mod settings;
+pub mod steps;
 pub mod stream_header;
 #[cfg(test)]
 mod table_tests;
+pub mod theorems;
 pub mod verdict;
 pub mod walk;
 #[cfg(test)]
 mod walk_tests;
+mod wanted;
+
+pub use alpn::WEBTRANSPORT_ALPN;
+pub use bi::bi_verdict;
+pub use control_walk::ControlWalk;
+pub use reader::{BiReader, ControlReader, FrameReader, UniReader};
+pub use response_walk::ResponseWalk;
+pub use session_walk::SessionWalk;
+pub use steps::Steps;
+pub use stream_header::{StreamHeader, StreamKind};
+pub use verdict::{Verdict, uni_verdict};
+pub use wt_message::{
+    BadStatus, CloseWebTransportSession, H3Datagram, HeadersParseError, ReservedHeader,
+    SessionRequest, SessionResponse, SettingId, Settings, SettingsBuilder, capsule, datagram,
+    session, settings,
+};
+pub use wt_wire::{
+    Addr, ConnectOutcome, ErrorCode, Frame, FrameKind, HeaderList, Headers, Lookup, OutOfMemory,
+    QStreamId, SessionId, Side, StatusCode, StreamEnd, StreamId, Text, VarInt, addr, error, frame,
+    header_list, headers, ids, lookup, side, status, text, varint,
+};

@@ -1,15 +1,17 @@
 //! The walk over a client's session stream up to the response.
-ghost use Rattle.std.specs.Prelude.{◌≡◌, ◌<◌, ◌+◌, ◌^◌, IfOk, None, length};
+ghost use Rattle.std.specs.Prelude.{◌≡◌, ℕ, Bool, IfOk};
 ghost use Rattle.wt_wire.specs.FieldSection.{headers_of};
-ghost use Rattle.wt_proto.specs.ResponseWalk.{headers_response, or_waiting, parsed_response, response_decides, response_walk_of};
-ghost use Rattle.wt_proto.specs.Responses.{response_of};
+ghost use Rattle.wt_proto.specs.ResponseWalk.{headers_response, parsed_response, response_decides, response_unfinished, response_walk_of};
+ghost use Rattle.wt_message.specs.Responses.{response_of};
 
-use crate::session::SessionResponse;
-use crate::walk::Step;
+use crate::cursor::walk_over;
+use crate::walk::{Step, Walk, behind_item};
+use crate::wanted::frame_wanted;
 use std::alloc::Global;
+use wt_message::session::SessionResponse;
 use wt_wire::error::{ErrorCode, OutOfMemory};
-use wt_wire::front::{Front, read_front};
 use wt_wire::headers::Headers;
+use wt_wire::parsed_frame::{ParsedFrame, parse_frame};
 use wt_wire::side::StreamEnd;
 
 /// What a server answered up to now.
@@ -41,54 +43,99 @@ fn faulty(fault: ErrorCode, size: usize) -> Step<u64, ResponseWalk>
     Step::Stops(ResponseWalk::Fault(fault), size as u64)
 }
 
-/// What a HEADERS frame of this payload and of so many bytes does at an offset.
+/// What a HEADERS frame of this payload and of so many bytes does in front of an offset.
 fn headers_step(
     alloc: Global,
     payload: &[u8],
-    at: usize,
+    behind: u64,
     size: usize,
 ) -> Result<Step<u64, ResponseWalk>, OutOfMemory>
-    requires { at + size < 2 ^ 63 }
-    ensures { IfOk result (λ step. step ≡ Step.Stops (headers_response (at + size) (headers_of payload.now)) size) }
+    ensures { IfOk result (λ step. step ≡ Step.Stops (headers_response behind (headers_of payload.now)) size) }
 {
     match Headers::with_payload(alloc, payload)? {
-        Ok(headers) => Ok(Step::Stops(of_response(headers, at + size), size as u64)),
+        Ok(headers) => Ok(Step::Stops(of_response(headers, behind as usize), size as u64)),
         Err(fault) => Ok(faulty(fault, size)),
     }
 }
 
-/// What the frame at this offset, from which the bytes stand, does.
+/// What the frame at this offset, from which the bytes stand, does. An offset above 2^64 - 1 is
+/// more than any memory counts.
 #[tactic(auto, unfolding(crate::specs::ResponseWalk::response_decides))]
 fn response_step(
     alloc: Global,
-    at: usize,
+    at: u64,
     bytes: &[u8],
 ) -> Result<Step<u64, ResponseWalk>, OutOfMemory>
-    requires { at + length bytes.now < 2 ^ 63 }
     ensures { IfOk result (λ step. step ≡ response_decides at bytes.now) }
 {
-    match read_front(bytes) {
-        Front::Cut => Ok(Step::Cut),
-        Front::Signal(id_at) => Ok(faulty(ErrorCode::FrameUnexpected, id_at)),
-        Front::TooLong(header) => Ok(faulty(ErrorCode::ExcessiveLoad, header)),
-        Front::Headers(header, size) => {
+    match parse_frame(bytes) {
+        ParsedFrame::Incomplete => Ok(Step::Cut),
+        ParsedFrame::Signal(id_at) => Ok(faulty(ErrorCode::FrameUnexpected, id_at)),
+        ParsedFrame::TooLong(header) => Ok(faulty(ErrorCode::ExcessiveLoad, header)),
+        ParsedFrame::Headers(header, size) => {
             let payload = &bytes[header..header + size];
-            headers_step(alloc, payload, at, header + size)
+            let behind = behind_item(at, (header + size) as u64)?;
+            headers_step(alloc, payload, behind, header + size)
         }
-        Front::Data(header, size) | Front::Settings(header, size) => {
+        ParsedFrame::Data(header, size) | ParsedFrame::Settings(header, size) => {
             Ok(faulty(ErrorCode::FrameUnexpected, header + size))
         }
-        Front::Skipped(_, size) => Ok(Step::Goes(at as u64 + size, size)),
+        ParsedFrame::Skipped(_, size) => Ok(Step::Goes(behind_item(at, size)?, size)),
     }
 }
 
 /// The walk where no frame stopped it.
 fn ended(end: StreamEnd) -> ResponseWalk
-    ensures { result ≡ or_waiting end None }
+    ensures { (at : ℕ) (between : Bool) → result ≡ response_unfinished end at between }
 {
     match end {
         StreamEnd::Running => ResponseWalk::Waiting,
         StreamEnd::Fin | StreamEnd::Reset(_) => ResponseWalk::Ended,
+    }
+}
+
+impl Walk for ResponseWalk {
+    type State = u64;
+
+    type Outcome = ResponseWalk;
+
+    ghost use Rattle.std.specs.Prelude.{false};
+    ghost use Rattle.wt_proto.specs.ResponseWalk.{is_response_final, response_decides, response_unfinished, response_walk_of};
+    ghost use Rattle.wt_proto.specs.Wanted.{frame_wants};
+
+    ghost start_state = { 0 };
+
+    ghost decides = { response_decides };
+
+    ghost wants = { frame_wants false };
+
+    ghost unfinished_at = { response_unfinished };
+
+    ghost is_final_outcome = { is_response_final };
+
+    ghost outcome_of = { response_walk_of };
+
+    fn start() -> u64 {
+        0
+    }
+
+    fn step(alloc: Global, at: &u64, bytes: &[u8]) -> Result<Step<u64, ResponseWalk>, OutOfMemory> {
+        response_step(alloc, *at, bytes)
+    }
+
+    fn wanted(bytes: &[u8]) -> usize {
+        frame_wanted(bytes, false)
+    }
+
+    fn unfinished(_alloc: Global, end: StreamEnd, _at: &u64, _between: bool) -> ResponseWalk {
+        ended(end)
+    }
+
+    fn is_final(walk: &ResponseWalk) -> bool {
+        match walk {
+            ResponseWalk::Waiting | ResponseWalk::Ended => false,
+            ResponseWalk::Response(_, _) | ResponseWalk::Fault(_) => true,
+        }
     }
 }
 
@@ -97,6 +144,7 @@ fn ended(end: StreamEnd) -> ResponseWalk
 /// frame is the response, or a fault of its field section (Decompression) or of its status
 /// (Message); DATA, SETTINGS and the signal of a WebTransport stream are faults (FrameUnexpected),
 /// and so is a payload longer than 4,096 bytes (ExcessiveLoad).
+#[tactic(auto, using(crate::proofs::ResponseReading::response_lawful))]
 pub fn response_walk(
     alloc: Global,
     bytes: &[u8],
@@ -104,24 +152,5 @@ pub fn response_walk(
 ) -> Result<ResponseWalk, OutOfMemory>
     ensures { IfOk result (λ walk. walk ≡ response_walk_of bytes.now end) }
 {
-    let mut at = 0;
-    while at < bytes.len() {
-        let left = (bytes.len() - at) as u64;
-        match response_step(alloc, at, &bytes[at..])? {
-            Step::Cut => return Ok(ended(end)),
-            Step::Goes(_, size) => {
-                if left < size {
-                    return Ok(ended(end));
-                }
-                at += size as usize;
-            }
-            Step::Stops(walk, size) => {
-                if left < size {
-                    return Ok(ended(end));
-                }
-                return Ok(walk);
-            }
-        }
-    }
-    Ok(ended(end))
+    walk_over::<ResponseWalk>(alloc, bytes, end)
 }

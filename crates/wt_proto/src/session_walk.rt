@@ -1,13 +1,15 @@
 //! The walk over a session's stream.
-ghost use Rattle.std.specs.Prelude.{◌≡◌, IfOk, Bool, None};
-ghost use Rattle.wt_proto.specs.SessionWalk.{on_capsule, session_at_end, session_decides, session_walk_of};
-ghost use Rattle.wt_proto.specs.Capsule.{close_value_at};
+ghost use Rattle.std.specs.Prelude.{◌≡◌, IfOk};
+ghost use Rattle.wt_proto.specs.SessionWalk.{on_capsule, session_decides, session_unfinished, session_walk_of};
+ghost use Rattle.wt_message.specs.Capsule.{close_value_at};
 
-use crate::capsule::{CloseWebTransportSession, find_close};
-use crate::walk::Step;
+use crate::cursor::walk_over;
+use crate::walk::{Step, Walk};
+use crate::wanted::frame_wanted;
 use std::alloc::Global;
+use wt_message::capsule::{CloseWebTransportSession, find_close};
 use wt_wire::error::{ErrorCode, OutOfMemory};
-use wt_wire::front::{Front, read_front};
+use wt_wire::parsed_frame::{ParsedFrame, parse_frame};
 use wt_wire::side::StreamEnd;
 use wt_wire::text::Text;
 use wt_wire::varint::VarInt;
@@ -54,34 +56,79 @@ fn faulty(fault: ErrorCode, size: u64) -> Step<(), SessionWalk>
 fn session_step(alloc: Global, bytes: &[u8]) -> Result<Step<(), SessionWalk>, OutOfMemory>
     ensures { IfOk result (λ step. step ≡ session_decides tt bytes.now) }
 {
-    match read_front(bytes) {
-        Front::Cut => Ok(Step::Cut),
-        Front::Signal(at) => Ok(faulty(ErrorCode::FrameUnexpected, at as u64)),
-        Front::TooLong(header) => Ok(faulty(ErrorCode::ExcessiveLoad, header as u64)),
-        Front::Data(header, size) => {
+    match parse_frame(bytes) {
+        ParsedFrame::Incomplete => Ok(Step::Cut),
+        ParsedFrame::Signal(at) => Ok(faulty(ErrorCode::FrameUnexpected, at as u64)),
+        ParsedFrame::TooLong(header) => Ok(faulty(ErrorCode::ExcessiveLoad, header as u64)),
+        ParsedFrame::Data(header, size) => {
             let payload = &bytes[header..header + size];
             capsule_step(alloc, payload, (header + size) as u64)
         }
-        Front::Headers(header, size) => Ok(Step::Goes((), (header + size) as u64)),
-        Front::Settings(header, size) => {
+        ParsedFrame::Headers(header, size) => Ok(Step::Goes((), (header + size) as u64)),
+        ParsedFrame::Settings(header, size) => {
             Ok(faulty(ErrorCode::FrameUnexpected, (header + size) as u64))
         }
-        Front::Skipped(_, size) => Ok(Step::Goes((), size)),
+        ParsedFrame::Skipped(_, size) => Ok(Step::Goes((), size)),
     }
 }
 
 /// The walk where no frame stopped it.
-fn ended(alloc: Global, end: StreamEnd, between: bool) -> Result<SessionWalk, OutOfMemory>
-    ensures { IfOk result (λ walk. walk ≡ session_at_end end between) }
+fn ended(alloc: Global, end: StreamEnd, between: bool) -> SessionWalk
+    ensures { result ≡ session_unfinished end tt between }
 {
     match end {
-        StreamEnd::Running => Ok(SessionWalk::Running),
+        StreamEnd::Running => SessionWalk::Running,
         StreamEnd::Fin if between => {
-            let reason = Text::from_text(alloc, "")?;
-            Ok(SessionWalk::Closed(VarInt::from_u32(0), reason))
+            let reason = Text::from_string(String::new(alloc));
+            SessionWalk::Closed(VarInt::from_u32(0), reason)
         }
-        StreamEnd::Fin | StreamEnd::Reset(_) => {
-            Ok(SessionWalk::Fault(ErrorCode::ClosedCriticalStream))
+        StreamEnd::Fin | StreamEnd::Reset(_) => SessionWalk::Fault(ErrorCode::ClosedCriticalStream),
+    }
+}
+
+impl Walk for SessionWalk {
+    type State = ();
+
+    type Outcome = SessionWalk;
+
+    ghost use Rattle.wt_proto.specs.SessionWalk.{is_over, session_decides, session_unfinished, session_walk_of};
+    ghost use Rattle.wt_proto.specs.Wanted.{frame_wants};
+    ghost use Rattle.std.specs.Prelude.{false};
+
+    ghost start_state = { tt };
+
+    ghost decides = { session_decides };
+
+    ghost wants = { frame_wants false };
+
+    ghost unfinished_at = { session_unfinished };
+
+    ghost is_final_outcome = { is_over };
+
+    ghost outcome_of = { session_walk_of };
+
+    fn start() {}
+
+    fn step(
+        alloc: Global,
+        _state: &(),
+        bytes: &[u8],
+    ) -> Result<Step<(), SessionWalk>, OutOfMemory> {
+        session_step(alloc, bytes)
+    }
+
+    fn wanted(bytes: &[u8]) -> usize {
+        frame_wanted(bytes, false)
+    }
+
+    fn unfinished(alloc: Global, end: StreamEnd, _state: &(), between: bool) -> SessionWalk {
+        ended(alloc, end, between)
+    }
+
+    fn is_final(walk: &SessionWalk) -> bool {
+        match walk {
+            SessionWalk::Running => false,
+            SessionWalk::Closed(_, _) | SessionWalk::Fault(_) => true,
         }
     }
 }
@@ -92,27 +139,9 @@ fn ended(alloc: Global, end: StreamEnd, between: bool) -> Result<SessionWalk, Ou
 /// which is a fault where its value is malformed (Message); SETTINGS or the signal of a WebTransport
 /// stream (FrameUnexpected); a payload longer than 4,096 bytes (ExcessiveLoad). A clean end between
 /// frames closes the session with code 0, and every other end is a fault (ClosedCriticalStream).
+#[tactic(auto, using(crate::proofs::SessionReading::session_lawful))]
 pub fn session_walk(alloc: Global, bytes: &[u8], end: StreamEnd) -> Result<SessionWalk, OutOfMemory>
     ensures { IfOk result (λ walk. walk ≡ session_walk_of bytes.now end) }
 {
-    let mut at = 0;
-    while at < bytes.len() {
-        let left = (bytes.len() - at) as u64;
-        match session_step(alloc, &bytes[at..])? {
-            Step::Cut => return ended(alloc, end, false),
-            Step::Goes((), size) => {
-                if left < size {
-                    return ended(alloc, end, false);
-                }
-                at += size as usize;
-            }
-            Step::Stops(outcome, size) => {
-                if left < size {
-                    return ended(alloc, end, false);
-                }
-                return Ok(outcome);
-            }
-        }
-    }
-    ended(alloc, end, true)
+    walk_over::<SessionWalk>(alloc, bytes, end)
 }

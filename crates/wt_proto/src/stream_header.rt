@@ -1,4 +1,4 @@
-//! What stands in front of a stream that this side opens.
+//! The header of a unidirectional stream.
 ghost use Rattle.std.specs.Prelude.{◌≡◌, ◌++◌, ◌<◌, ◌^◌, OnOk, Some, None, List, ℕ};
 ghost use Rattle.wt_proto.specs.StreamHeader.{header_bytes, header_kind, header_verdict, kind_of_type, stream_type};
 ghost use Rattle.wt_proto.specs.Uni.{uni_verdict_of};
@@ -10,6 +10,18 @@ use wt_wire::exercise::is_exercise;
 use wt_wire::ids::{SessionId, StreamId};
 use wt_wire::varint::{VarInt, write_varint};
 
+/// The type of a control stream (RFC 9114, section 6.2.1).
+const CONTROL: u64 = 0x00;
+
+/// The type of the stream of a QPACK encoder (RFC 9204, section 4.2).
+const QPACK_ENCODER: u64 = 0x02;
+
+/// The type of the stream of a QPACK decoder (RFC 9204, section 4.2).
+const QPACK_DECODER: u64 = 0x03;
+
+/// The type of a WebTransport stream (draft-ietf-webtrans-http3, section 4.2).
+const WEBTRANSPORT: u64 = 0x54;
+
 /// What a unidirectional stream is for.
 #[derive(Clone, Copy, Debug, PartialEq, Eq)]
 pub enum StreamKind {
@@ -19,7 +31,7 @@ pub enum StreamKind {
     QPackEncoder,
     /// 0x03 (RFC 9204, section 4.2).
     QPackDecoder,
-    /// 0x54, behind which a session's id stands (draft-ietf-webtrans-http3, section 4.2).
+    /// 0x54, which a session's id follows (draft-ietf-webtrans-http3, section 4.2).
     WebTransport,
     /// A reserved type, 0x1f * N + 0x21 (RFC 9114, section 6.2.3).
     Exercise(VarInt),
@@ -31,10 +43,10 @@ impl StreamKind {
         ensures { result ≡ stream_type self }
     {
         match self {
-            StreamKind::Control => VarInt::from_u32(0x00),
-            StreamKind::QPackEncoder => VarInt::from_u32(0x02),
-            StreamKind::QPackDecoder => VarInt::from_u32(0x03),
-            StreamKind::WebTransport => VarInt::from_u32(0x54),
+            StreamKind::Control => VarInt::from_u64(CONTROL),
+            StreamKind::QPackEncoder => VarInt::from_u64(QPACK_ENCODER),
+            StreamKind::QPackDecoder => VarInt::from_u64(QPACK_DECODER),
+            StreamKind::WebTransport => VarInt::from_u64(WEBTRANSPORT),
             StreamKind::Exercise(number) => number,
         }
     }
@@ -44,10 +56,10 @@ impl StreamKind {
         ensures { result ≡ kind_of_type number }
     {
         match number.into_inner() {
-            0x00 => Some(StreamKind::Control),
-            0x02 => Some(StreamKind::QPackEncoder),
-            0x03 => Some(StreamKind::QPackDecoder),
-            0x54 => Some(StreamKind::WebTransport),
+            CONTROL => Some(StreamKind::Control),
+            QPACK_ENCODER => Some(StreamKind::QPackEncoder),
+            QPACK_DECODER => Some(StreamKind::QPackDecoder),
+            WEBTRANSPORT => Some(StreamKind::WebTransport),
             n if is_exercise(n) => Some(StreamKind::Exercise(number)),
             _ => None,
         }

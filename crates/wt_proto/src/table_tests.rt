@@ -3,10 +3,10 @@ use crate::bi::bi_verdict;
 use crate::control_walk::{ControlWalk, control_walk};
 use crate::response_walk::{ResponseWalk, response_walk};
 use crate::session_walk::{SessionWalk, session_walk};
-use crate::settings::Settings;
 use crate::verdict::{Verdict, uni_verdict};
 use std::alloc::Global;
 use std::process::Abort;
+use wt_message::settings::Settings;
 use wt_wire::error::ErrorCode;
 use wt_wire::frame::Frame;
 use wt_wire::headers::Headers;
@@ -38,7 +38,7 @@ fn integers(rt: &impl Abort, alloc: Global) {
     is_written(rt, alloc, VarInt::MAX, most);
 }
 
-/// The number of the session that a stream names, and the offset behind it.
+/// The number of the session that a stream names, and the offset after it.
 fn session_of(verdict: Verdict) -> Option<(u64, usize)> {
     match verdict {
         Verdict::WebTransport(session, at) => Some((session.session_stream().into_u64(), at)),
@@ -117,7 +117,7 @@ fn session_walks(rt: &impl Abort, alloc: Global) {
     assert!(rt; is_bye(walk));
 }
 
-/// The status of a response, and the offset behind it.
+/// The status of a response, and the offset after it.
 fn status_of(walk: ResponseWalk) -> Option<(u16, usize)> {
     match walk {
         ResponseWalk::Response(response, at) => Some((response.code().into_inner(), at)),

@@ -1,9 +1,13 @@
 //! What a peer's stream turns out to be.
-ghost use Rattle.std.specs.Prelude.{◌≡◌};
-ghost use Rattle.wt_proto.specs.Uni.{uni_verdict_of, session_verdict, cut};
+ghost use Rattle.std.specs.Prelude.{◌≡◌, ◌≤◌};
+ghost use Rattle.wt_proto.specs.Uni.{at_stream_end, is_final, session_header_at, session_verdict, uni_header_at, uni_verdict_of};
+ghost use Rattle.wt_wire.specs.Varint.{varint_at};
 
-use crate::session::SessionRequest;
-use wt_wire::error::ErrorCode;
+use crate::walk::{Step, Walk};
+use crate::wanted::uni_wanted;
+use std::alloc::Global;
+use wt_message::session::SessionRequest;
+use wt_wire::error::{ErrorCode, OutOfMemory};
 use wt_wire::ids::{SessionId, StreamId};
 use wt_wire::side::StreamEnd;
 use wt_wire::varint::{VarInt, read_varint};
@@ -33,8 +37,8 @@ pub enum Verdict {
 }
 
 /// What a header that the end cuts says.
-pub(crate) fn cut_by(end: StreamEnd) -> Verdict
-    ensures { result ≡ cut end }
+pub(crate) fn verdict_at_stream_end(end: StreamEnd) -> Verdict
+    ensures { result ≡ at_stream_end end }
 {
     match end {
         StreamEnd::Running => Verdict::Incomplete,
@@ -52,23 +56,98 @@ pub(crate) fn of_session(id: VarInt, at: usize) -> Verdict
     }
 }
 
+impl Verdict {
+    /// Whether it stays, whatever bytes and end come.
+    pub(crate) fn is_final(&self) -> bool
+        ensures { result ≡ is_final self.now }
+    {
+        match self {
+            Verdict::Incomplete => false,
+            _ => true,
+        }
+    }
+}
+
+/// What the header in front of the bytes says, and how many bytes it takes.
+fn uni_header(bytes: &[u8]) -> Option<(Verdict, usize)>
+    ensures { result ≡ uni_header_at bytes.now }
+{
+    let (kind, at) = read_varint(bytes)?;
+    match kind.into_inner() {
+        0x00 => Some((Verdict::Control(at), at)),
+        0x02 => Some((Verdict::Encoder(at), at)),
+        0x03 => Some((Verdict::Decoder(at), at)),
+        0x54 => session_header(&bytes[at..], at),
+        _ => Some((Verdict::Dropped, at)),
+    }
+}
+
+/// The id of a session, behind a type of so many bytes.
+fn session_header(bytes: &[u8], at: usize) -> Option<(Verdict, usize)>
+    requires { at ≤ 8 }
+    ensures { result ≡ session_header_at at (varint_at bytes.now) }
+{
+    let (id, length) = read_varint(bytes)?;
+    Some((of_session(id, at + length), at + length))
+}
+
+/// The walk over the header of a peer's unidirectional stream.
+pub struct UniHeader;
+
+impl Walk for UniHeader {
+    type State = ();
+
+    type Outcome = Verdict;
+
+    ghost use Rattle.std.specs.Prelude.{⊤};
+    ghost use Rattle.wt_proto.specs.Uni.{is_final, uni_decides, uni_unfinished, uni_verdict_of};
+    ghost use Rattle.wt_proto.specs.Wanted.{uni_wants};
+
+    ghost start_state = { tt };
+
+    ghost decides = { uni_decides };
+
+    ghost wants = { uni_wants };
+
+    ghost unfinished_at = { uni_unfinished };
+
+    ghost is_final_outcome = { is_final };
+
+    ghost outcome_of = { uni_verdict_of };
+
+    ghost never_fails = { ⊤ };
+
+    fn start() {}
+
+    #[tactic(auto, unfolding(crate::specs::Uni::uni_decides))]
+    fn step(_alloc: Global, _state: &(), bytes: &[u8]) -> Result<Step<(), Verdict>, OutOfMemory> {
+        match uni_header(bytes) {
+            Some((verdict, size)) => Ok(Step::Stops(verdict, size as u64)),
+            None => Ok(Step::Cut),
+        }
+    }
+
+    fn wanted(bytes: &[u8]) -> usize {
+        uni_wanted(bytes)
+    }
+
+    fn unfinished(_alloc: Global, end: StreamEnd, _state: &(), _between: bool) -> Verdict {
+        verdict_at_stream_end(end)
+    }
+
+    fn is_final(verdict: &Verdict) -> bool {
+        verdict.is_final()
+    }
+}
+
 /// The verdict of a peer's unidirectional stream over its bytes and its end: its type stands in
 /// front (RFC 9114, section 6.2; RFC 9204, section 4.2; draft-ietf-webtrans-http3, section 4.2).
 #[tactic(auto, unfolding(crate::specs::Uni::uni_verdict_of))]
 pub fn uni_verdict(bytes: &[u8], end: StreamEnd) -> Verdict
     ensures { result ≡ uni_verdict_of bytes.now end }
 {
-    let Some((kind, at)) = read_varint(bytes) else {
-        return cut_by(end);
-    };
-    match kind.into_inner() {
-        0x00 => Verdict::Control(at),
-        0x02 => Verdict::Encoder(at),
-        0x03 => Verdict::Decoder(at),
-        0x54 => match read_varint(&bytes[at..]) {
-            Some((id, length)) => of_session(id, at + length),
-            None => cut_by(end),
-        },
-        _ => Verdict::Dropped,
+    match uni_header(bytes) {
+        Some((verdict, _)) => verdict,
+        None => verdict_at_stream_end(end),
     }
 }

@@ -11,3 +11,5 @@ pub mod WrittenSections
 pub mod LineLaws
 pub mod ValueLaws
 pub mod SectionAgain
+pub mod ShortestVarints
+pub mod ShortestPrefixed

@@ -1,8 +1,9 @@
 -- The walk over the lines of a field section.
 use Rattle.std.proofs.Common.{◌≡◌, ◌≤◌, ◌<◌, ◌+◌, ◌-◌, ℕ, zero, suc, List, [], ◌∷◌, length, take, drop, Some, None, refl, sym, ap, ◌∙◌, arith, length-drop}
 use Rattle.std.proofs.lemmas.List.{drop_all, drop-drop, take_rest}
+use Rattle.wt_wire.specs.OptionBind.{◌>>=◌}
 use Rattle.wt_wire.specs.HeaderList.{Fields, with_field}
-use Rattle.wt_wire.specs.FieldSection.{FieldLine, line_at, lines_from, then_lines}
+use Rattle.wt_wire.specs.FieldSection.{FieldLine, line_at, lines_from}
 
 lines_skip : (fields : Fields) (k : ℕ) (bytes : List ℕ) → k ≤ length bytes → lines_from fields k bytes ≡ lines_from fields 0 (drop k bytes)
 unfolding lines_from
@@ -17,7 +18,7 @@ lines_end fields at bytes h = ap (λ bs. lines_from fields 0 bs) (drop_all at by
 none_in_front : (fields : Fields) (bytes : List ℕ) → 0 < length bytes → None ≡ line_at bytes → lines_from fields 0 bytes ≡ None
 unfolding lines_from
 none_in_front fields [] l h = absurd (omega arith)
-none_in_front fields (b ∷ bytes) l h = ap (λ o. then_lines o (λ l. lines_from (with_field l.name l.value fields) (l.len - 1) bytes)) (sym h)
+none_in_front fields (b ∷ bytes) l h = ap (λ o. o >>= (λ l. lines_from (with_field l.name l.value fields) (l.len - 1) bytes)) (sym h)
 
 pub line_in_front : (fields : Fields) (bytes : List ℕ) (l : FieldLine) → Some l ≡ line_at bytes → 1 ≤ l.len → l.len ≤ length bytes →
     lines_from fields 0 bytes ≡ lines_from (with_field l.name l.value fields) 0 (drop l.len bytes)
@@ -26,11 +27,11 @@ line_in_front fields [] l h some fits = absurd (omega arith)
 line_in_front fields (b ∷ bytes) l h some fits =
     let shorter : l.len - 1 ≤ length bytes = omega arith in
     let same : suc (l.len - 1) ≡ l.len = omega arith in
-    ap (λ o. then_lines o (λ l. lines_from (with_field l.name l.value fields) (l.len - 1) bytes)) (sym h)
+    ap (λ o. o >>= (λ l. lines_from (with_field l.name l.value fields) (l.len - 1) bytes)) (sym h)
     ∙ lines_skip (with_field l.name l.value fields) (l.len - 1) bytes shorter
     ∙ ap (λ n. lines_from (with_field l.name l.value fields) 0 (drop n (b ∷ bytes))) same
 
--- the same where the code looks at a slice from a place on
+-- the same where the code looks at a slice from an offset on
 pub lines_none : (fields : Fields) (at : ℕ) (bytes : List ℕ) → at < length bytes → None ≡ line_at (take (length bytes - at) (drop at bytes)) → lines_from fields 0 (drop at bytes) ≡ None
 lines_none fields at bytes l h = none_in_front fields (drop at bytes) (omega (arith, length-drop at bytes)) (h ∙ ap line_at (take_rest bytes at))
 

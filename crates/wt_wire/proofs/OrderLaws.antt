@@ -5,11 +5,11 @@ use Rattle.std.specs.Ordering.{match_ordering, ordering_reverse}
 use Rattle.std.specs.declared.cmp.Ordering.{Ordering}
 use Rattle.std.specs.declared.cmp.Ordering.TheVariants.{Less, Equal, Greater}
 use Rattle.std.specs.Cmp.Lexicographic.{nat_list_cmp_total}
-use Rattle.wt_wire.specs.HeaderList.{Fields, ranked, compare_names, with_field, IsAhead, IsHeaderList}
+use Rattle.wt_wire.specs.HeaderList.{Fields, sort_key, compare_names, with_field, IsAhead, IsHeaderList}
 
--- what is behind a name has that name ahead
+-- what comes after a name has that name ahead
 behind_is_ahead : (a b : List ℕ) → compare_names a b ≡ Greater → compare_names b a ≡ Less
-behind_is_ahead a b h = nat_list_cmp_total.antisymm (ranked b) (ranked a) ∙ ap ordering_reverse h
+behind_is_ahead a b h = nat_list_cmp_total.antisymm (sort_key b) (sort_key a) ∙ ap ordering_reverse h
 
 IsAhead-with_field : (first name value : List ℕ) (fields : Fields) → compare_names first name ≡ Less → IsAhead first fields → IsAhead first (with_field name value fields)
 IsAhead-with_field first name value [] h a = h

@@ -6,17 +6,17 @@ use Rattle.std.specs.Ordering.{match_ordering, ordering_index, ordering_reverse}
 use Rattle.std.specs.declared.cmp.Ordering.{Ordering}
 use Rattle.std.specs.declared.cmp.Ordering.TheVariants.{Less, Equal, Greater}
 use Rattle.std.specs.Cmp.Lexicographic.{nat_list_cmp_total}
-use Rattle.wt_wire.specs.HeaderList.{Fields, ranked, compare_names, with_field, IsAhead, IsHeaderList}
+use Rattle.wt_wire.specs.HeaderList.{Fields, sort_key, compare_names, with_field, IsAhead, IsHeaderList}
 
 turned : (a b : List ℕ) (o : Ordering) → compare_names a b ≡ o → compare_names b a ≡ ordering_reverse o
-turned a b o e = nat_list_cmp_total.antisymm (ranked b) (ranked a) ∙ ap ordering_reverse e
+turned a b o e = nat_list_cmp_total.antisymm (sort_key b) (sort_key a) ∙ ap ordering_reverse e
 
 below : (a b c : List ℕ) → compare_names a b ≡ Less → compare_names b c ≡ Less → compare_names a c ≡ Less
-below a b c = nat_list_cmp_total.trans (ranked a) (ranked b) (ranked c)
+below a b c = nat_list_cmp_total.trans (sort_key a) (sort_key b) (sort_key c)
 
 -- a name below one that is equal to c is below c
 below_equal : (a b c : List ℕ) → compare_names a b ≡ Less → compare_names b c ≡ Equal → compare_names a c ≡ Less
-below_equal a b c less same = turned c a Greater (nat_list_cmp_total.congr (ranked c) (ranked b) (ranked a) (turned b c Equal same) ∙ turned a b Less less)
+below_equal a b c less same = turned c a Greater (nat_list_cmp_total.congr (sort_key c) (sort_key b) (sort_key a) (turned b c Equal same) ∙ turned a b Less less)
 
 -- what is ahead of a list is below each of its names
 below_all : (first : List ℕ) (fields : Fields) → IsHeaderList fields → IsAhead first fields → (j : ℕ) (d : List ℕ × List ℕ) → j < length fields → compare_names first (slice_index_or fields j d).0 ≡ Less
@@ -72,7 +72,7 @@ with_field_new name value (f ∷ fields) (suc at) within less greater =
     (λ k d low high. less (suc k) d (omega arith) (omega (arith, high)))
     (λ k d low high. greater (suc k) d (omega (arith, low)) (omega (arith, high))))
 
--- the field with the name, or the place where it belongs
+-- the field with the name, or the index where it belongs
 pub searched : (name : List ℕ) (fields : Fields) → IsHeaderList fields → (r : Result ℕ ℕ) → IsSearchInRange r (length fields) →
     IsBinarySearchResult (λ (f : List ℕ × List ℕ). compare_names f.0 name) fields r → record {
       within : IsSearchInRange r (length fields);

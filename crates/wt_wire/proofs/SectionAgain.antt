@@ -7,11 +7,12 @@ use Rattle.std.specs.Str.{IsUtf8}
 use Rattle.std.specs.Ordering.{match_ordering, ordering_reverse}
 use Rattle.std.specs.declared.cmp.Ordering.TheVariants.{Less}
 use Rattle.std.specs.Cmp.Lexicographic.{nat_list_cmp_total}
+use Rattle.wt_wire.specs.OptionBind.{◌>>=◌}
 use Rattle.wt_wire.specs.declared.error.ErrorCode.TheVariants.{Decompression}
 use Rattle.wt_wire.specs.Utf8.{is_text}
-use Rattle.wt_wire.specs.HeaderList.{Fields, ranked, compare_names, with_field, IsAhead, IsHeaderList}
-use Rattle.wt_wire.specs.PrefixedInteger.{continuation_at, continuation_bytes, behind_full, prefixed_at, prefixed_bytes, seven_bits}
-use Rattle.wt_wire.specs.FieldSection.{headers_of, string_at, behind_size, line_at, lines_from, begins_line, begins_value, with_name, section_bytes, string_bytes_of, line_bytes, AreShort}
+use Rattle.wt_wire.specs.HeaderList.{Fields, sort_key, compare_names, with_field, IsAhead, IsHeaderList}
+use Rattle.wt_wire.specs.PrefixedInteger.{continuation_at, continuation_bytes, after_full_prefix, prefixed_at, prefixed_bytes, seven_bits}
+use Rattle.wt_wire.specs.FieldSection.{headers_of, string_at, string_with_size, line_at, lines_from, begins_line, begins_value, name_and_value_at, section_bytes, literal_bytes, line_bytes, AreShort}
 use Rattle.wt_wire.proofs.LineLaws.{line_in_front}
 use Rattle.wt_wire.proofs.TextLaws.{is_text_yes}
 
@@ -19,14 +20,14 @@ use Rattle.wt_wire.proofs.TextLaws.{is_text_yes}
 
 ahead_of_all : (first : List ℕ) (done : Fields) (f : List ℕ × List ℕ) (todo : Fields) → IsAhead first (done ++ f ∷ todo) → IsHeaderList (done ++ f ∷ todo) → compare_names first f.0 ≡ Less
 ahead_of_all first [] f todo a h = a
-ahead_of_all first (e ∷ done) f todo a h = nat_list_cmp_total.trans (ranked first) (ranked e.0) (ranked f.0) a (ahead_of_all e.0 done f todo h.0 h.3)
+ahead_of_all first (e ∷ done) f todo a h = nat_list_cmp_total.trans (sort_key first) (sort_key e.0) (sort_key f.0) a (ahead_of_all e.0 done f todo h.0 h.3)
 
--- a field that belongs behind all is put there
+-- a field that belongs after all is put there
 with_field_last : (done : Fields) (f : List ℕ × List ℕ) (todo : Fields) → IsHeaderList (done ++ f ∷ todo) → with_field f.0 f.1 done ≡ done ++ f ∷ []
 with_field_last [] f todo h = refl
 with_field_last (e ∷ done) f todo h =
     ap (λ o. match_ordering o ((f.0, f.1) ∷ e ∷ done) ((e.0, f.1) ∷ done) (e ∷ with_field f.0 f.1 done))
-    (nat_list_cmp_total.antisymm (ranked f.0) (ranked e.0) ∙ ap ordering_reverse (ahead_of_all e.0 done f todo h.0 h.3))
+    (nat_list_cmp_total.antisymm (sort_key f.0) (sort_key e.0) ∙ ap ordering_reverse (ahead_of_all e.0 done f todo h.0 h.3))
     ∙ ap (λ fs. e ∷ fs) (with_field_last done f todo h.3)
 
 -- ---- prefixed integers
@@ -74,23 +75,23 @@ prefixed_again high full n more above h = by (ltb n full) refl
         let is : (high + full) % (full + 1) ≡ full = above full (omega arith) in
         let is_full : ltb full full ≡ false = le-ltb full full (omega arith) in
         let rest : continuation_at 4 (continuation_bytes 9 (n - full) ++ more) ≡ Some (n - full, len) = continuation_again 4 9 (n - full) more (omega arith) (omega arith) (omega arith) in
-        rw is (rw is_full (ap (behind_full full) rest ∙ ap (λ m. Some (m, len + 1)) (omega arith) ∙ ap (λ l. Some (n, l)) (add-one len)))
+        rw is (rw is_full (ap (after_full_prefix full) rest ∙ ap (λ m. Some (m, len + 1)) (omega arith) ∙ ap (λ l. Some (n, l)) (add-one len)))
 
 -- ---- string literals
 
-behind_again : (bytes front text more : List ℕ) → bytes ≡ front ++ (text ++ more) → is_text text ≡ true → behind_size bytes (Some (length text, length front)) ≡ Some (text, length front + length text)
+behind_again : (bytes front text more : List ℕ) → bytes ≡ front ++ (text ++ more) → is_text text ≡ true → string_with_size bytes (length text, length front) ≡ Some (text, length front + length text)
 behind_again bytes front text more e u =
     let enough : ltb (length bytes - length front) (length text) ≡ false = le-ltb (length bytes - length front) (length text) (omega (arith, ap length e, length-append front (text ++ more), length-append text more)) in
     let rest : take (length text) (drop (length front) bytes) ≡ text = ap (λ bs. take (length text) (drop (length front) bs)) e ∙ ap (take (length text)) (drop_at front (text ++ more) (length front) refl) ∙ take_at text more (length text) refl in
     rw (enough, rest, u) refl
 
 string_again : (high full : ℕ) (text more : List ℕ) → IsAbove high full → is_text text ≡ true → length text < 268435456 →
-    string_at full (string_bytes_of high full text ++ more) ≡ Some (text, length (string_bytes_of high full text))
+    string_at full (literal_bytes high full text ++ more) ≡ Some (text, length (literal_bytes high full text))
 unfolding string_at
 string_again high full text more above u h =
     let front : List ℕ = prefixed_bytes high full (length text) in
     let joined : (front ++ text) ++ more ≡ front ++ (text ++ more) = append_assoc front text more in
-    ap (behind_size ((front ++ text) ++ more)) (ap (prefixed_at full) joined ∙ prefixed_again high full (length text) (text ++ more) above h)
+    ap (λ o. o >>= string_with_size ((front ++ text) ++ more)) (ap (prefixed_at full) joined ∙ prefixed_again high full (length text) (text ++ more) above h)
     ∙ behind_again ((front ++ text) ++ more) front text more joined u
     ∙ ap (λ l. Some (text, l)) (sym (length-append front text))
 
@@ -112,12 +113,12 @@ prefixed_begins high full n = by (ltb n full) refl
     by true e = let l : n < full = ltb-true n full e in record { first = high + n; rest = []; is = refl; from = omega arith; upto = omega arith }
     by false e = record { first = high + full; rest = continuation_bytes 9 (n - full); is = refl; from = omega arith; upto = omega arith }
 
-string_begins : (high full : ℕ) (text more : List ℕ) → BeginsIn (string_bytes_of high full text ++ more) high (high + full)
+string_begins : (high full : ℕ) (text more : List ℕ) → BeginsIn (literal_bytes high full text ++ more) high (high + full)
 string_begins high full text more =
     let b = prefixed_begins high full (length text) in
     record { first = b.first; rest = (b.rest ++ text) ++ more; is = ap (λ bs. (bs ++ text) ++ more) b.is; from = b.from; upto = b.upto }
 
-line_at_first : (bytes : List ℕ) → BeginsIn bytes 32 39 → line_at bytes ≡ with_name bytes (string_at 7 bytes)
+line_at_first : (bytes : List ℕ) → BeginsIn bytes 32 39 → line_at bytes ≡ name_and_value_at bytes
 unfolding line_at
 line_at_first bytes b =
     let begins : begins_line b.first ≡ true = rw (eq-eqb (b.first / 8) 4 (omega (arith, b.from, b.upto))) refl in
@@ -126,21 +127,21 @@ line_at_first bytes b =
 value_first : (bytes : List ℕ) → BeginsIn bytes 0 127 → begins_value bytes ≡ true
 value_first bytes b = rw b.is (lt-ltb b.first 128 (omega (arith, b.upto)))
 
-named_again : (bytes name : List ℕ) (at : ℕ) (rest value : List ℕ) (len : ℕ) → drop at bytes ≡ rest → begins_value rest ≡ true → string_at 127 rest ≡ Some (value, len) →
-    with_name bytes (Some (name, at)) ≡ Some (record { name = name; value = value; len = at + len })
-named_again bytes name at rest value len d p t = rw d (rw p (rw t refl))
+named_again : (bytes name : List ℕ) (at : ℕ) (rest value : List ℕ) (len : ℕ) → string_at 7 bytes ≡ Some (name, at) → drop at bytes ≡ rest → begins_value rest ≡ true → string_at 127 rest ≡ Some (value, len) →
+    name_and_value_at bytes ≡ Some (record { name = name; value = value; len = at + len })
+named_again bytes name at rest value len n d p t = rw n (rw d (rw p (rw t refl)))
 
 line_again : (f : List ℕ × List ℕ) (more : List ℕ) → IsUtf8 f.0 → IsUtf8 f.1 → length f.0 < 268435456 → length f.1 < 268435456 →
     line_at (line_bytes f ++ more) ≡ Some (record { name = f.0; value = f.1; len = length (line_bytes f) })
 line_again f more u v h k =
-    let name : List ℕ = string_bytes_of 32 7 f.0 in
-    let value : List ℕ = string_bytes_of 0 127 f.1 in
-    let cut : (name ++ value) ++ more ≡ name ++ (value ++ more) = append_assoc name value more in
-    let starts : BeginsIn ((name ++ value) ++ more) 32 39 = let b = string_begins 32 7 f.0 (value ++ more) in record { first = b.first; rest = b.rest; is = cut ∙ b.is; from = b.from; upto = b.upto } in
+    let name : List ℕ = literal_bytes 32 7 f.0 in
+    let value : List ℕ = literal_bytes 0 127 f.1 in
+    let regrouped : (name ++ value) ++ more ≡ name ++ (value ++ more) = append_assoc name value more in
+    let starts : BeginsIn ((name ++ value) ++ more) 32 39 = let b = string_begins 32 7 f.0 (value ++ more) in record { first = b.first; rest = b.rest; is = regrouped ∙ b.is; from = b.from; upto = b.upto } in
     line_at_first ((name ++ value) ++ more) starts
-    ∙ ap (with_name ((name ++ value) ++ more)) (ap (string_at 7) cut ∙ string_again 32 7 f.0 (value ++ more) (λ i l. omega arith) (is_text_yes f.0 u) h)
     ∙ named_again ((name ++ value) ++ more) f.0 (length name) (value ++ more) f.1 (length value)
-    (ap (drop (length name)) cut ∙ drop_at name (value ++ more) (length name) refl)
+    (ap (string_at 7) regrouped ∙ string_again 32 7 f.0 (value ++ more) (λ i l. omega arith) (is_text_yes f.0 u) h)
+    (ap (drop (length name)) regrouped ∙ drop_at name (value ++ more) (length name) refl)
     (value_first (value ++ more) (string_begins 0 127 f.1 more))
     (string_again 0 127 f.1 more (λ i l. omega arith) (is_text_yes f.1 v) k)
     ∙ ap (λ l. Some (record { name = f.0; value = f.1; len = l })) (sym (length-append name value))
@@ -152,7 +153,7 @@ texts_of [] f todo h = (h.1, h.2)
 texts_of (e ∷ done) f todo h = texts_of done f todo h.3
 
 line_not_empty : (f : List ℕ × List ℕ) → 1 ≤ length (line_bytes f)
-line_not_empty f = let b = string_begins 32 7 f.0 (string_bytes_of 0 127 f.1) in omega (arith, ap length b.is)
+line_not_empty f = let b = string_begins 32 7 f.0 (literal_bytes 0 127 f.1) in omega (arith, ap length b.is)
 
 lines_again : (done todo : Fields) → IsHeaderList (done ++ todo) → AreShort todo → lines_from done 0 (flat_map line_bytes todo) ≡ Some (done ++ todo)
 unfolding lines_from

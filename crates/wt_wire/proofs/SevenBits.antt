@@ -1,4 +1,4 @@
--- How large the integers behind a full prefix are.
+-- How large the integers after a full prefix are.
 use Rattle.std.proofs.Common.{◌≡◌, ◌≤◌, ◌<◌, ◌-◌, ◌*◌, ℕ, zero, suc, ap, arith}
 use Rattle.wt_wire.specs.PrefixedInteger.{seven_bits}
 

@@ -7,7 +7,7 @@ use Rattle.std.specs.Cmp.{both_ways, first_so, second_so}
 use Rattle.std.specs.Prelude.{nat_lt, not, ◌&&◌, ◌==◌}
 use Rattle.std.specs.Str.{IsUtf8, is_utf8}
 use lib.Utf8.{encode, encodes, scalar, scalars, next, scalar_cases, low_scalar}
-use Rattle.wt_wire.specs.Utf8.{Lead, Stray, Begins, least_second, most_second, lead, begun, is_text_from, is_text}
+use Rattle.wt_wire.specs.Utf8.{Lead, NotLead, Begins, least_second, most_second, lead, if_begins, is_text_from, is_text}
 
 -- ---- the first two bytes
 
@@ -145,7 +145,7 @@ data LeadIs (a : ℕ) : Type 0 where
   Two : 194 ≤ a → a < 224 → LeadIs a
   Three : 224 ≤ a → a < 240 → LeadIs a
   Four : 240 ≤ a → a < 245 → LeadIs a
-  Never : lead a ≡ Stray → LeadIs a
+  Never : lead a ≡ NotLead → LeadIs a
 
 lead_is : (a : ℕ) → LeadIs a
 lead_is a = by (ltb a 0x80) (ltb a 0xC2) (ltb a 0xE0) (ltb a 0xF0) (ltb a 0xF5) refl refl refl refl refl
@@ -188,10 +188,10 @@ after_four n a (b ∷ d ∷ x ∷ bytes) r l h fits e =
     let g = follows 0 x bytes f.1 in
     IsUtf8-append (a ∷ b ∷ d ∷ x ∷ []) bytes (four_is a b d x l h (second a b s.0 s.1) f.0 g.0) (r bytes (omega arith) g.1)
 
--- what the test says of the bytes behind a first byte
-behind : (a : ℕ) (bytes : List ℕ) (l : Lead) → lead a ≡ l → is_text (a ∷ bytes) ≡ begun l (λ further low high. is_text_from further low high bytes)
+-- what the test says of the bytes after_first a first byte
+after_first : (a : ℕ) (bytes : List ℕ) (l : Lead) → lead a ≡ l → is_text (a ∷ bytes) ≡ if_begins l (λ further low high. is_text_from further low high bytes)
 unfolding is_text_from
-behind a bytes l e = ap (λ k. begun k (λ further low high. is_text_from further low high bytes)) e
+after_first a bytes l e = ap (λ k. if_begins k (λ further low high. is_text_from further low high bytes)) e
 
 within : (n : ℕ) → Shorter n
 within n [] fits h = IsUtf8-nil
@@ -199,11 +199,11 @@ within zero (a ∷ bytes) fits h = absurd (omega arith)
 within (suc n) (a ∷ bytes) fits h = by (within n) (lead_is a)
   where
     by : Shorter n → LeadIs a → IsUtf8 (a ∷ bytes)
-    by r (One l) = IsUtf8-append (a ∷ []) bytes (one_is a l) (r bytes (omega arith) (sym (behind a bytes _ (lead_one a l)) ∙ h))
-    by r (Two l u) = after_two n a bytes r l u (omega arith) (sym (behind a bytes _ (lead_two a l u)) ∙ h)
-    by r (Three l u) = after_three n a bytes r l u (omega arith) (sym (behind a bytes _ (lead_three a l u)) ∙ h)
-    by r (Four l u) = after_four n a bytes r l u (omega arith) (sym (behind a bytes _ (lead_four a l u)) ∙ h)
-    by r (Never e) = let no : false ≡ true = sym (behind a bytes _ e) ∙ h in absurd cc
+    by r (One l) = IsUtf8-append (a ∷ []) bytes (one_is a l) (r bytes (omega arith) (sym (after_first a bytes _ (lead_one a l)) ∙ h))
+    by r (Two l u) = after_two n a bytes r l u (omega arith) (sym (after_first a bytes _ (lead_two a l u)) ∙ h)
+    by r (Three l u) = after_three n a bytes r l u (omega arith) (sym (after_first a bytes _ (lead_three a l u)) ∙ h)
+    by r (Four l u) = after_four n a bytes r l u (omega arith) (sym (after_first a bytes _ (lead_four a l u)) ∙ h)
+    by r (Never e) = let no : false ≡ true = sym (after_first a bytes _ e) ∙ h in absurd cc
 
 pub utf8_of : (bytes : List ℕ) → is_text bytes ≡ true → IsUtf8 bytes
 utf8_of bytes h = within (length bytes) bytes (omega arith) h
@@ -238,24 +238,24 @@ past_char c rest s = by (ltb c 128) (ltb c 2048) (ltb c 65536) refl refl refl
     ranges = scalar_cases c s
 
     by : (t u v : Bool) → ltb c 128 ≡ t → ltb c 2048 ≡ u → ltb c 65536 ≡ v → is_text (encode c ++ rest) ≡ is_text rest
-    by true u v e f g = let h : c < 128 = ltb-true c 128 e in ap (λ bs. is_text (bs ++ rest)) (encode_one c h) ∙ behind c rest _ (lead_one c h)
+    by true u v e f g = let h : c < 128 = ltb-true c 128 e in ap (λ bs. is_text (bs ++ rest)) (encode_one c h) ∙ after_first c rest _ (lead_one c h)
     by false true v e f g =
         let l : 128 ≤ c = ltb-false c 128 e in
         let h : c < 2048 = ltb-true c 2048 f in
         let a : ℕ = 192 + c / 64 in
-        ap (λ bs. is_text (bs ++ rest)) (encode_two c l h) ∙ behind a (next c ∷ rest) _ (lead_two a (omega arith) (omega arith))
+        ap (λ bs. is_text (bs ++ rest)) (encode_two c l h) ∙ after_first a (next c ∷ rest) _ (lead_two a (omega arith) (omega arith))
         ∙ unsecond 0 a (next c) rest (record { low = omega arith; high = omega arith; at_e0 = λ k. absurd (omega arith); at_ed = λ k. absurd (omega arith); at_f0 = λ k. absurd (omega arith); at_f4 = λ k. absurd (omega arith) })
     by false false true e f g =
         let l : 2048 ≤ c = ltb-false c 2048 f in
         let h : c < 65536 = ltb-true c 65536 g in
         let a : ℕ = 224 + c / 4096 in
-        ap (λ bs. is_text (bs ++ rest)) (encode_three c l h) ∙ behind a (next (c / 64) ∷ next c ∷ rest) _ (lead_three a (omega arith) (omega arith))
+        ap (λ bs. is_text (bs ++ rest)) (encode_three c l h) ∙ after_first a (next (c / 64) ∷ next c ∷ rest) _ (lead_three a (omega arith) (omega arith))
         ∙ unsecond 1 a (next (c / 64)) (next c ∷ rest) (second_of_three c l h ranges) ∙ unfollow 0 c rest
     by false false false e f g =
         let l : 65536 ≤ c = ltb-false c 65536 g in
         let h : c < 1114112 = below_all c ranges in
         let a : ℕ = 240 + c / 262144 in
-        ap (λ bs. is_text (bs ++ rest)) (encode_four c l) ∙ behind a (next (c / 4096) ∷ next (c / 64) ∷ next c ∷ rest) _ (lead_four a (omega arith) (omega arith))
+        ap (λ bs. is_text (bs ++ rest)) (encode_four c l) ∙ after_first a (next (c / 4096) ∷ next (c / 64) ∷ next c ∷ rest) _ (lead_four a (omega arith) (omega arith))
         ∙ unsecond 2 a (next (c / 4096)) (next (c / 64) ∷ next c ∷ rest) (second_of_four c l h) ∙ unfollow 1 (c / 64) (next c ∷ rest) ∙ unfollow 0 c rest
 
 of_chars : (cs : List ℕ) → scalars cs ≡ true → is_text (encodes cs) ≡ true

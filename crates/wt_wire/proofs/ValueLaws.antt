@@ -6,7 +6,7 @@ use Rattle.std.specs.declared.cmp.Ordering.{Ordering}
 use Rattle.std.specs.declared.cmp.Ordering.TheVariants.{Less, Equal, Greater}
 use Rattle.std.specs.Cmp.Lexicographic.{bytes_decides, nat_list_eq_equiv, nat_list_cmp_total}
 use Rattle.std.specs.Str.{bytes_eq}
-use Rattle.wt_wire.specs.HeaderList.{Fields, ranked, compare_names, with_field, value_of}
+use Rattle.wt_wire.specs.HeaderList.{Fields, sort_key, compare_names, with_field, value_of}
 
 abbrev tail_of : List ℕ → List ℕ
 tail_of [] = []
@@ -14,13 +14,13 @@ tail_of (b ∷ bytes) = bytes
 
 -- names that compare as equal are equal
 same_names : (a b : List ℕ) → compare_names a b ≡ Equal → a ≡ b
-same_names a b e = ap tail_of (exact_bytes (ranked a) (ranked b) e)
+same_names a b e = ap tail_of (exact_bytes (sort_key a) (sort_key b) e)
 
 not_equal : (a b : List ℕ) → compare_names a b ≡ Greater → bytes_eq a b ≡ false
 not_equal a b e = by (bytes_eq a b) refl
   where
     never : compare_names a a ≡ Greater → ⊥
-    never g = let less : Less ≡ Greater = ap ordering_reverse (sym g) ∙ sym (nat_list_cmp_total.antisymm (ranked a) (ranked a)) ∙ g in cc
+    never g = let less : Less ≡ Greater = ap ordering_reverse (sym g) ∙ sym (nat_list_cmp_total.antisymm (sort_key a) (sort_key a)) ∙ g in cc
 
     by : (t : Bool) → bytes_eq a b ≡ t → t ≡ false
     by true h = absurd (never (ap (compare_names a) ((bytes_decides a b).0 h) ∙ e))

@@ -5,23 +5,23 @@ use Rattle.std.proofs.Math.Seq.{drop-append_seam}
 use Rattle.wt_wire.specs.Varint.{varint_length, varint_at, varint_bytes, big_endian}
 
 -- an integer of k bytes more than the first
-of_length : (b k : ℕ) (bytes : List ℕ) → varint_length b ≡ suc k → k ≤ length bytes → varint_at (b ∷ bytes) ≡ Some (big_endian (b % 64) (take k bytes), suc k)
+pub of_length : (b k : ℕ) (bytes : List ℕ) → varint_length b ≡ suc k → k ≤ length bytes → varint_at (b ∷ bytes) ≡ Some (big_endian (b % 64) (take k bytes), suc k)
 unfolding varint_at
 of_length b k bytes e h =
     let same : suc k - 1 ≡ k = omega arith in
     let enough : ltb (length bytes) k ≡ false = le-ltb (length bytes) k h in
     ap (λ l. cond (ltb (length bytes) (l - 1)) None (Some (big_endian (b % 64) (take (l - 1) bytes), l))) e ∙ rw (same, enough) refl
 
-length_one : (b : ℕ) → b < 64 → varint_length b ≡ 1
+pub length_one : (b : ℕ) → b < 64 → varint_length b ≡ 1
 length_one b h = rw (lt-ltb b 64 h) refl
 
-length_two : (b : ℕ) → 64 ≤ b → b < 128 → varint_length b ≡ 2
+pub length_two : (b : ℕ) → 64 ≤ b → b < 128 → varint_length b ≡ 2
 length_two b l h = rw (le-ltb b 64 l, lt-ltb b 128 h) refl
 
-length_four : (b : ℕ) → 128 ≤ b → b < 192 → varint_length b ≡ 4
+pub length_four : (b : ℕ) → 128 ≤ b → b < 192 → varint_length b ≡ 4
 length_four b l h = let l64 : 64 ≤ b = omega arith in rw (le-ltb b 64 l64, le-ltb b 128 l, lt-ltb b 192 h) refl
 
-length_eight : (b : ℕ) → 192 ≤ b → varint_length b ≡ 8
+pub length_eight : (b : ℕ) → 192 ≤ b → varint_length b ≡ 8
 length_eight b l = let l64 : 64 ≤ b = omega arith in let l128 : 128 ≤ b = omega arith in rw (le-ltb b 64 l64, le-ltb b 128 l128, le-ltb b 192 l) refl
 
 one_again : (n : ℕ) (more : List ℕ) → n < 64 → varint_at (n ∷ more) ≡ Some (n, 1)
@@ -54,7 +54,7 @@ varint_again n more h = by (ltb n 64) (ltb n 16384) (ltb n 1073741824) refl refl
     by false false true e f g = rw (e, f, g) (four_again n more (ltb-true n 1073741824 g))
     by false false false e f g = rw (e, f, g) (eight_again n more h)
 
--- an integer behind another
+-- an integer after another
 pub second_again : (m n : ℕ) (more : List ℕ) → n < 2 ^ 62 →
     varint_at (drop (length (varint_bytes m)) ((varint_bytes m ++ varint_bytes n) ++ more)) ≡ Some (n, length (varint_bytes n))
 second_again m n more small =

@@ -1,5 +1,5 @@
 -- An integer at the front stays under more bytes, and is read from its own bytes alone.
-use Rattle.std.proofs.Common.{◌≡◌, ℕ, ◌<◌, ◌≤◌, List, [], ◌∷◌, ◌++◌, length, Some, None, arith}
+use Rattle.std.proofs.Common.{◌≡◌, ℕ, ◌≤◌, List, [], ◌∷◌, ◌++◌, length, Some, arith}
 use Rattle.std.proofs.lemmas.List.{take-append-le, length-append}
 use Rattle.std.proofs.lemmas.Grind.{common_steps}
 use Rattle.wt_wire.specs.Varint.{varint_at, varint_length}
@@ -16,11 +16,6 @@ pub varint_at-within : (xs : List ℕ) (p : ℕ × ℕ) → varint_at xs ≡ Som
 unfolding varint_at
 varint_at-within [] p e = absurd cc
 varint_at-within (b ∷ bytes) p e = grind (arith, common_steps, varint_length-few)
-
-pub varint_at-long : (xs : List ℕ) → varint_at xs ≡ None → length xs < 8
-unfolding varint_at
-varint_at-long [] e = omega arith
-varint_at-long (b ∷ bytes) e = grind (arith, common_steps, varint_length-few)
 
 pub varint_at-front : (xs ys : List ℕ) (p : ℕ × ℕ) → varint_at (xs ++ ys) ≡ Some p → p.1 ≤ length xs → varint_at xs ≡ Some p
 unfolding varint_at

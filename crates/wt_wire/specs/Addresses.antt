@@ -17,9 +17,11 @@ abbrev pub four_groups : ℕ → List ℕ
 four_groups half =
     hexadecimal (half / 2 ^ 48) ++ codes ":" ++ hexadecimal (half / 2 ^ 32 % 65536) ++ codes ":" ++ hexadecimal (half / 2 ^ 16 % 65536) ++ codes ":" ++ hexadecimal (half % 65536)
 
+-- the groups of an address of IPv6
 abbrev pub eight_groups : ℕ → List ℕ
 eight_groups ip = four_groups (ip / 2 ^ 64) ++ codes ":" ++ four_groups (ip % 2 ^ 64)
 
-abbrev pub shown_address : Addr → List ℕ
-shown_address (V4 ip port) = dotted ip ++ codes ":" ++ decimal port
-shown_address (V6 ip port) = codes "[" ++ eight_groups ip ++ codes "]:" ++ decimal port
+-- an address and its port
+abbrev pub address_text : Addr → List ℕ
+address_text (V4 ip port) = dotted ip ++ codes ":" ++ decimal port
+address_text (V6 ip port) = codes "[" ++ eight_groups ip ++ codes "]:" ++ decimal port

@@ -2,6 +2,7 @@
 use Rattle.std.specs.Prelude.{ℕ, zero, suc, ◌+◌, ◌-◌, ◌/◌, ◌==◌, ◌||◌, ◌<◌, nat_lt, Bool, false, List, [], ◌∷◌, ◌++◌, length, take, drop, Option, Some, None, Result, if◌then◌else◌}
 use Rattle.std.specs.List.{flat_map}
 use Rattle.std.specs.Option.{ok_or}
+use Rattle.wt_wire.specs.OptionBind.{◌>>=◌}
 use Rattle.wt_wire.specs.declared.error.ErrorCode.{ErrorCode}
 use Rattle.wt_wire.specs.declared.error.ErrorCode.TheVariants.{Decompression}
 use Rattle.wt_wire.specs.Utf8.{is_text}
@@ -12,13 +13,16 @@ use Rattle.wt_wire.specs.PrefixedInteger.{prefixed_at, prefixed_bytes}
 abbrev pub text_of : ℕ → List ℕ → Option (List ℕ × ℕ)
 text_of len text = if is_text text then Some (text, len) else None
 
-abbrev pub behind_size : List ℕ → Option (ℕ × ℕ) → Option (List ℕ × ℕ)
-behind_size bytes None = None
-behind_size bytes (Some n) =
+-- the same, where its length n.0 is read in n.1 bytes
+abbrev pub string_with_size : List ℕ → ℕ × ℕ → Option (List ℕ × ℕ)
+string_with_size bytes n =
     if nat_lt (length bytes - n.1) n.0 then None else text_of (n.1 + n.0) (take n.0 (drop n.1 bytes))
 
+-- the string literal at the front, whose length has a prefix that is all ones at full; text and length
 unfoldable pub string_at : ℕ → List ℕ → Option (List ℕ × ℕ)
-string_at full bytes = behind_size bytes (prefixed_at full bytes)
+string_at full bytes = do
+  n ← prefixed_at full bytes
+  string_with_size bytes n
 
 -- a literal field line with literal name (RFC 9204 section 4.5.6): a name, a value and how many bytes they take
 pub record FieldLine : Type 0 where
@@ -35,51 +39,52 @@ abbrev pub begins_value : List ℕ → Bool
 begins_value [] = false
 begins_value (b ∷ bytes) = nat_lt b 128
 
-abbrev pub with_value : List ℕ → ℕ → Option (List ℕ × ℕ) → Option FieldLine
-with_value name at None = None
-with_value name at (Some v) = Some (record { name = name; value = v.0; len = at + v.1 })
+-- the value at the front; text and length
+abbrev pub value_at : List ℕ → Option (List ℕ × ℕ)
+value_at bytes = if begins_value bytes then string_at 127 bytes else None
 
-abbrev pub with_name : List ℕ → Option (List ℕ × ℕ) → Option FieldLine
-with_name bytes None = None
-with_name bytes (Some n) = if begins_value (drop n.1 bytes) then with_value n.0 n.1 (string_at 127 (drop n.1 bytes)) else None
+-- a name, and a value after it
+abbrev pub name_and_value_at : List ℕ → Option FieldLine
+name_and_value_at bytes = do
+  name ← string_at 7 bytes
+  value ← value_at (drop name.1 bytes)
+  Some (record { name = name.0; value = value.0; len = name.1 + value.1 })
 
+-- the field line at the front
 unfoldable pub line_at : List ℕ → Option FieldLine
 line_at [] = None
-line_at (b ∷ bytes) = if begins_line b then with_name (b ∷ bytes) (string_at 7 (b ∷ bytes)) else None
+line_at (b ∷ bytes) = if begins_line b then name_and_value_at (b ∷ bytes) else None
 
--- the lines up to the end, behind those that gave these fields and so many bytes that were read
-abbrev pub then_lines : Option FieldLine → (FieldLine → Option Fields) → Option Fields
-then_lines None f = None
-then_lines (Some l) f = f l
-
+-- the fields of the lines up to the end, after lines with these fields and so many bytes that were read
 unfoldable pub lines_from : Fields → ℕ → List ℕ → Option Fields
 lines_from fields zero [] = Some fields
 lines_from fields (suc k) [] = None
 lines_from fields (suc k) (b ∷ bytes) = lines_from fields k bytes
-lines_from fields zero (b ∷ bytes) = then_lines (line_at (b ∷ bytes)) (λ l. lines_from (with_field l.name l.value fields) (l.len - 1) bytes)
+lines_from fields zero (b ∷ bytes) = do
+  line ← line_at (b ∷ bytes)
+  lines_from (with_field line.name line.value fields) (line.len - 1) bytes
 
 -- a field section: 00 00, which says that no table is used (RFC 9204 section 4.5.1), and lines; a repeated name keeps the last value
 -- (this repository's rule; RFC 9110, section 5.3, combines the values of a repeated name in their order, and RFC 9204, section 4.5, also has lines that name entries of tables, and Huffman code)
-abbrev pub behind_zero : List ℕ → Option Fields
-behind_zero [] = None
-behind_zero (b ∷ bytes) = if b == 0 then lines_from [] 0 bytes else None
-
 abbrev pub section_at : List ℕ → Option Fields
-section_at [] = None
-section_at (b ∷ bytes) = if b == 0 then behind_zero bytes else None
+section_at (zero ∷ zero ∷ lines) = lines_from [] 0 lines
+section_at _ = None
 
--- all else is the error QPACK_DECOMPRESSION_FAILED
+-- the fields of a payload; what is no such section is the error QPACK_DECOMPRESSION_FAILED (RFC 9204, section 8.3)
 abbrev pub headers_of : List ℕ → Result Fields ErrorCode
 headers_of payload = ok_or (section_at payload) Decompression
 
 -- ---- how they are written: N is 0
 
-abbrev pub string_bytes_of : ℕ → ℕ → List ℕ → List ℕ
-string_bytes_of high full text = prefixed_bytes high full (length text) ++ text
+-- a string literal whose first byte has these bits above its prefix
+abbrev pub literal_bytes : ℕ → ℕ → List ℕ → List ℕ
+literal_bytes high full text = prefixed_bytes high full (length text) ++ text
 
+-- a field line
 abbrev pub line_bytes : List ℕ × List ℕ → List ℕ
-line_bytes f = string_bytes_of 32 7 f.0 ++ string_bytes_of 0 127 f.1
+line_bytes f = literal_bytes 32 7 f.0 ++ literal_bytes 0 127 f.1
 
+-- a field section
 abbrev pub section_bytes : Fields → List ℕ
 section_bytes fields = 0 ∷ 0 ∷ flat_map line_bytes fields
 

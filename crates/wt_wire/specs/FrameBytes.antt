@@ -12,14 +12,14 @@ pub record FrameParts : Type 0 where
   pub session : Option ℕ
 
 -- the type on the wire
-abbrev pub kind_number : FrameKind → ℕ
-kind_number Data = 0x00
-kind_number Headers = 0x01
-kind_number Settings = 0x04
-kind_number WebTransport = 0x41
-kind_number (Exercise number) = number
+abbrev pub frame_type : FrameKind → ℕ
+frame_type Data = frames.data_type
+frame_type Headers = frames.headers_type
+frame_type Settings = frames.settings_type
+frame_type WebTransport = frames.signal_type
+frame_type (Exercise number) = number
 
--- a payload behind its length
+-- a payload after its length
 abbrev pub payload_bytes : List ℕ → List ℕ
 payload_bytes payload = varint_bytes (length payload) ++ payload
 
@@ -28,8 +28,9 @@ abbrev pub session_or_payload : Option ℕ → List ℕ → List ℕ
 session_or_payload (Some session) payload = varint_bytes session
 session_or_payload None payload = payload_bytes payload
 
+-- the bytes of a frame: its type, and what follows it
 abbrev pub frame_bytes : FrameParts → List ℕ
-frame_bytes f = varint_bytes (kind_number f.kind) ++ session_or_payload f.session f.payload
+frame_bytes f = varint_bytes (frame_type f.kind) ++ session_or_payload f.session f.payload
 
 -- a signal names a session and has no payload, and no other frame names one; an exercise frame has a reserved type
 abbrev pub kind_fits : FrameKind → Option ℕ → List ℕ → Type 0
@@ -44,31 +45,35 @@ kind_fits Headers (Some session) payload = ⊥
 kind_fits Settings None payload = Unit {0}
 kind_fits Settings (Some session) payload = ⊥
 
+-- a frame that can be made
 abbrev pub IsFrame : FrameParts → Type 0
 IsFrame f = kind_fits f.kind f.session f.payload
 
--- a peer reads a frame that is given where its payload has at most 4096 bytes
+-- a peer reads a frame of a known type where its payload isn't longer than the bound
 abbrev pub size_fits : FrameKind → ℕ → Type 0
 size_fits WebTransport size = Unit {0}
 size_fits (Exercise number) size = Unit {0}
-size_fits Data size = size ≤ 4096
-size_fits Headers size = size ≤ 4096
-size_fits Settings size = size ≤ 4096
+size_fits Data size = size ≤ frames.longest_payload
+size_fits Headers size = size ≤ frames.longest_payload
+size_fits Settings size = size ≤ frames.longest_payload
 
+-- a peer reads the frame
 abbrev pub IsReadable : FrameParts → Type 0
 IsReadable f = size_fits f.kind (length f.payload)
 
--- what it reads
+-- the signal that it reads
 abbrev pub signal_of : Option ℕ → frames.Frame
 signal_of None = frames.Signal 0
 signal_of (Some session) = frames.Signal session
 
-abbrev pub shown_as : FrameKind → Option ℕ → List ℕ → frames.Frame
-shown_as Data session payload = frames.Data payload
-shown_as Headers session payload = frames.Headers payload
-shown_as Settings session payload = frames.Settings payload
-shown_as WebTransport session payload = signal_of session
-shown_as (Exercise number) session payload = frames.Skipped number
+-- the frame of this kind that it reads
+abbrev pub frame_of_kind : FrameKind → Option ℕ → List ℕ → frames.Frame
+frame_of_kind Data session payload = frames.Data payload
+frame_of_kind Headers session payload = frames.Headers payload
+frame_of_kind Settings session payload = frames.Settings payload
+frame_of_kind WebTransport session payload = signal_of session
+frame_of_kind (Exercise number) session payload = frames.Skipped number
 
+-- the frame that it reads
 abbrev pub frame_of : FrameParts → frames.Frame
-frame_of f = shown_as f.kind f.session f.payload
+frame_of f = frame_of_kind f.kind f.session f.payload

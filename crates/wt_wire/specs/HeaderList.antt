@@ -15,12 +15,13 @@ abbrev pub is_pseudo : List ℕ → Bool
 is_pseudo [] = false
 is_pseudo (b ∷ name) = b == 58
 
--- names ascend by bytes, as if a 0 stood before those that begin with ':', and a 1 before the others
-abbrev pub ranked : List ℕ → List ℕ
-ranked name = (if is_pseudo name then 0 else 1) ∷ name
+-- the key by which names ascend: a 0 before those that begin with ':', and a 1 before the others
+abbrev pub sort_key : List ℕ → List ℕ
+sort_key name = (if is_pseudo name then 0 else 1) ∷ name
 
+-- the order of two names
 abbrev pub compare_names : List ℕ → List ℕ → Ordering
-compare_names a b = slice_cmp nat_cmp (ranked a) (ranked b)
+compare_names a b = slice_cmp nat_cmp (sort_key a) (sort_key b)
 
 -- the fields with this value at the name, in place of the one that an equal name has
 abbrev pub with_field : List ℕ → List ℕ → Fields → Fields

@@ -1,8 +1,10 @@
+pub mod OptionBind
+pub mod ResultBind
 pub mod Varint
 pub mod Ids
 pub mod Codes
 pub mod Frames
-pub mod Front
+pub mod ParsedFrame
 pub mod FrameBytes
 pub mod Utf8
 pub mod HeaderList

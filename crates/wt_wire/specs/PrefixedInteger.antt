@@ -2,20 +2,21 @@
 use Rattle.std.specs.Prelude.{ℕ, zero, suc, ◌+◌, ◌-◌, ◌*◌, ◌/◌, ◌%◌, nat_lt, List, [], ◌∷◌, Option, Some, None, if◌then◌else◌}
 use Rattle.std.specs.Option.{option_map}
 
--- the bytes behind a full prefix, at most so many: their low seven bits, least first; value and length
+-- the bytes after a full prefix, at most so many: their low seven bits, least first; value and length
 unfoldable pub continuation_at : ℕ → List ℕ → Option (ℕ × ℕ)
 continuation_at zero bytes = None
 continuation_at (suc n) [] = None
 continuation_at (suc n) (b ∷ bytes) = if nat_lt b 128 then Some (b, 1) else option_map (λ p. (b - 128 + 128 * p.0, p.1 + 1)) (continuation_at n bytes)
 
-abbrev pub behind_full : ℕ → Option (ℕ × ℕ) → Option (ℕ × ℕ)
-behind_full full = option_map (λ p. (full + p.0, p.1 + 1))
+-- the integer after a full prefix
+abbrev pub after_full_prefix : ℕ → Option (ℕ × ℕ) → Option (ℕ × ℕ)
+after_full_prefix full = option_map (λ p. (full + p.0, p.1 + 1))
 
 -- the integer in the low bits of the first byte, which are all ones at full, and in at most four further bytes; value and length
 -- (four is this repository's rule; RFC 9204, section 4.1.1, asks for integers of up to 62 bits)
 unfoldable pub prefixed_at : ℕ → List ℕ → Option (ℕ × ℕ)
 prefixed_at full [] = None
-prefixed_at full (b ∷ bytes) = if nat_lt (b % (full + 1)) full then Some (b % (full + 1), 1) else behind_full full (continuation_at 4 bytes)
+prefixed_at full (b ∷ bytes) = if nat_lt (b % (full + 1)) full then Some (b % (full + 1), 1) else after_full_prefix full (continuation_at 4 bytes)
 
 -- ---- how they are written
 

@@ -5,12 +5,12 @@ use Rattle.std.specs.Prelude.{ℕ, ◌+◌, ◌-◌, ◌*◌, ◌/◌, ◌%◌, 
 abbrev pub varint_length : ℕ → ℕ
 varint_length b = if nat_lt b 64 then 1 else (if nat_lt b 128 then 2 else (if nat_lt b 192 then 4 else 8))
 
--- bytes as one number, the first being the highest, below what stands before them
+-- bytes as one number, the first being the highest, below what comes before them
 abbrev pub big_endian : ℕ → List ℕ → ℕ
 big_endian high [] = high
 big_endian high (b ∷ bytes) = big_endian (256 * high + b) bytes
 
--- the integer at the front, in any spelling, and how many bytes it takes; None where the bytes end inside it
+-- the integer at the front, in any encoding, and how many bytes it takes; None where the bytes end inside it
 unfoldable pub varint_at : List ℕ → Option (ℕ × ℕ)
 varint_at [] = None
 varint_at (b ∷ bytes) =
@@ -18,7 +18,7 @@ varint_at (b ∷ bytes) =
     then None
     else Some (big_endian (b % 64) (take (varint_length b - 1) bytes), varint_length b)
 
--- the shortest spelling of an integer below 2^62
+-- the shortest encoding of an integer below 2^62
 unfoldable pub varint_bytes : ℕ → List ℕ
 varint_bytes n =
     if nat_lt n 64 then n ∷ [] else

@@ -59,9 +59,9 @@ impl fmt::Display for FourGroups {
 
 impl fmt::Display for Addr {
     ghost use Rattle.std.specs.Prelude.{Some};
-    ghost use Rattle.wt_wire.specs.Addresses.{shown_address};
+    ghost use Rattle.wt_wire.specs.Addresses.{address_text};
 
-    ghost output = { λ a. Some (shown_address a) };
+    ghost output = { λ a. Some (address_text a) };
 
     fn fmt<W: fmt::Write>(&self, f: &mut fmt::Formatter<W>) -> fmt::Result {
         match *self {

@@ -1,4 +1,4 @@
-//! Error codes on the wire, and the want of memory.
+//! Error codes on the wire, and out of memory.
 ghost use Rattle.std.specs.Prelude.{◌≡◌, ◌≢◌, IfSome, IsNone, codes};
 ghost use Rattle.wt_wire.specs.Codes.{code_of};
 ghost use Rattle.wt_wire.specs.declared.error.ErrorCode.{ErrorCode};
@@ -8,8 +8,8 @@ use std::alloc::{AllocError, AllocFailed};
 use std::fmt;
 use thiserror::Error;
 
-/// No memory was there for what a call had to keep. It may come from each call that answers it, and
-/// from no other.
+/// Out of memory: an allocation failed for what a call had to keep. It may come from each call that
+/// answers it, and from no other.
 #[derive(Clone, Copy, Debug, PartialEq, Eq, Error)]
 #[error("out of memory")]
 pub struct OutOfMemory;
@@ -32,42 +32,42 @@ impl<T: Drop> From<AllocFailed<T>> for OutOfMemory {
 #[derive(Clone, Copy, Debug, PartialEq, Eq)]
 pub enum ErrorCode {
     /// 0x33, H3_DATAGRAM_ERROR: a datagram is malformed (RFC 9297, section 5.2).
-    Datagram,
+    Datagram = 0x33,
     /// 0x100, H3_NO_ERROR: nothing is wrong, and the connection or stream closes (RFC 9114,
     /// section 8.1).
-    NoError,
+    NoError = 0x100,
     /// 0x103, H3_STREAM_CREATION_ERROR: the peer opened a stream that it may not open (RFC 9114,
     /// section 8.1).
-    StreamCreation,
+    StreamCreation = 0x103,
     /// 0x104, H3_CLOSED_CRITICAL_STREAM: a stream that the connection needs ended (RFC 9114,
     /// section 8.1).
-    ClosedCriticalStream,
+    ClosedCriticalStream = 0x104,
     /// 0x105, H3_FRAME_UNEXPECTED: a frame may not come there (RFC 9114, section 8.1).
-    FrameUnexpected,
+    FrameUnexpected = 0x105,
     /// 0x106, H3_FRAME_ERROR: a frame is malformed (RFC 9114, section 8.1).
-    Frame,
+    Frame = 0x106,
     /// 0x107, H3_EXCESSIVE_LOAD: the peer asks for too much (RFC 9114, section 8.1).
-    ExcessiveLoad,
+    ExcessiveLoad = 0x107,
     /// 0x108, H3_ID_ERROR: an id is used that may not be used there (RFC 9114, section 8.1).
-    Id,
+    Id = 0x108,
     /// 0x109, H3_SETTINGS_ERROR: the payload of a SETTINGS frame is at fault (RFC 9114,
     /// section 8.1).
-    Settings,
+    Settings = 0x109,
     /// 0x10a, H3_MISSING_SETTINGS: no SETTINGS frame begins the control stream (RFC 9114,
     /// section 8.1).
-    MissingSettings,
+    MissingSettings = 0x10a,
     /// 0x10b, H3_REQUEST_REJECTED: a request isn't processed (RFC 9114, section 8.1).
-    RequestRejected,
+    RequestRejected = 0x10b,
     /// 0x10e, H3_MESSAGE_ERROR: a message of HTTP is malformed (RFC 9114, section 8.1).
-    Message,
+    Message = 0x10e,
     /// 0x200, QPACK_DECOMPRESSION_FAILED: a field section can't be read (RFC 9204, section 8.3).
-    Decompression,
+    Decompression = 0x200,
     /// 0x170d7b68, WEBTRANSPORT_SESSION_GONE: the session of a stream is over
     /// (draft-ietf-webtrans-http3, section 8).
-    SessionGone,
+    SessionGone = 0x170d_7b68,
     /// 0x3994bd84, WEBTRANSPORT_BUFFERED_STREAM_REJECTED: a stream came before its session, and too
     /// many wait (draft-ietf-webtrans-http3, section 8).
-    BufferedStreamRejected,
+    BufferedStreamRejected = 0x3994_bd84,
 }
 
 impl ErrorCode {
@@ -75,24 +75,7 @@ impl ErrorCode {
     pub fn to_code(self) -> VarInt
         ensures { result ≡ code_of self }
     {
-        let code = match self {
-            ErrorCode::Datagram => 0x33,
-            ErrorCode::NoError => 0x100,
-            ErrorCode::StreamCreation => 0x103,
-            ErrorCode::ClosedCriticalStream => 0x104,
-            ErrorCode::FrameUnexpected => 0x105,
-            ErrorCode::Frame => 0x106,
-            ErrorCode::ExcessiveLoad => 0x107,
-            ErrorCode::Id => 0x108,
-            ErrorCode::Settings => 0x109,
-            ErrorCode::MissingSettings => 0x10a,
-            ErrorCode::RequestRejected => 0x10b,
-            ErrorCode::Message => 0x10e,
-            ErrorCode::Decompression => 0x200,
-            ErrorCode::SessionGone => 0x170d_7b68,
-            ErrorCode::BufferedStreamRejected => 0x3994_bd84,
-        };
-        VarInt::from_u32(code)
+        VarInt::from_u32(self as u32)
     }
 
     /// The error of a number on the wire; None exactly for a number that isn't in the table.

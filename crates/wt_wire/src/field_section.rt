@@ -1,7 +1,7 @@
 //! Field sections of literal field lines with literal names (RFC 9204, section 4.5).
 ghost use Rattle.std.specs.Prelude.{◌≡◌, ◌<◌, ◌≤◌, ◌+◌, ◌++◌, length, IfSome, IfOk, OnOk};
 ghost use Rattle.std.specs.Option.{option_map};
-ghost use Rattle.wt_wire.specs.FieldSection.{line_at, line_bytes, lines_from, section_at, section_bytes, string_at, string_bytes_of};
+ghost use Rattle.wt_wire.specs.FieldSection.{line_at, line_bytes, lines_from, section_at, section_bytes, string_at, literal_bytes};
 
 use crate::error::OutOfMemory;
 use crate::header_list::HeaderList;
@@ -77,7 +77,7 @@ fn read_lines(mut list: HeaderList, bytes: &[u8]) -> Result<Option<HeaderList>, 
 }
 
 /// What a field section says (RFC 9204, section 4.5), where it is made of literal field lines with
-/// literal names alone; the last value of a repeated name stands.
+/// literal names alone; a repeated name keeps its last value.
 pub(crate) fn read_section(alloc: Global, payload: &[u8]) -> Result<Option<HeaderList>, OutOfMemory>
     ensures { IfOk result (λ r. r ≡ section_at payload.now) }
 {
@@ -89,7 +89,7 @@ pub(crate) fn read_section(alloc: Global, payload: &[u8]) -> Result<Option<Heade
 
 fn write_string(out: &mut Vec<u8>, high: u8, full: u8, text: &str) -> Result<(), OutOfMemory>
     requires { high + full < 256 }
-    ensures { OnOk result (out.new.items ≡ out.old.items ++ string_bytes_of high full text.now) }
+    ensures { OnOk result (out.new.items ≡ out.old.items ++ literal_bytes high full text.now) }
 {
     write_prefixed(out, high, full, text.len())?;
     out.extend_from_slice(text.as_bytes())?;
@@ -111,8 +111,8 @@ pub(crate) fn write_section(list: &HeaderList) -> Result<Vec<u8>, OutOfMemory>
     let mut out = Vec::new(*list.allocator());
     out.push(0)?;
     out.push(0)?;
-    for place in 0..list.len() {
-        let (name, value) = list.at(place);
+    for index in 0..list.len() {
+        let (name, value) = list.at(index);
         write_line(&mut out, name, value)?;
     }
     Ok(out)

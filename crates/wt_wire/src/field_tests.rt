@@ -91,7 +91,7 @@ fn long_headers(rt: &impl Abort, alloc: Global) -> Headers {
     headers
 }
 
-fn written(rt: &impl Abort, headers: &Headers) -> Frame {
+fn frame_with(rt: &impl Abort, headers: &Headers) -> Frame {
     match headers.generate_frame() {
         Ok(frame) => frame,
         Err(_) => panic!(rt; "no memory"),
@@ -101,7 +101,7 @@ fn written(rt: &impl Abort, headers: &Headers) -> Frame {
 #[test]
 fn long_texts_are_read_back(rt: HostRuntime) {
     let headers = long_headers(&rt, rt.alloc());
-    let frame = written(&rt, &headers);
+    let frame = frame_with(&rt, &headers);
     let again = headers_in(&rt, rt.alloc(), &frame);
     assert!(rt; again.list().is_equal(headers.list()));
     assert!(rt; again.list() == headers.list());
@@ -180,14 +180,14 @@ fn addresses_are_shown(rt: HostRuntime) {
     assert!(rt; !four.is_equal(&six));
 }
 
-fn lookup_is_copied(rt: &impl Abort, alloc: Global, lookup: Lookup) {
-    let copy = lookup.copy(alloc).expect(rt, "no memory");
+fn lookup_is_copied(rt: &impl Abort, lookup: Lookup) {
+    let copy = lookup.copy().expect(rt, "no memory");
     assert!(rt; copy.is_equal(&lookup));
     assert_eq!(rt; copy, lookup);
 }
 
-fn outcome_is_copied(rt: &impl Abort, alloc: Global, outcome: ConnectOutcome) {
-    let copy = outcome.copy(alloc).expect(rt, "no memory");
+fn outcome_is_copied(rt: &impl Abort, outcome: ConnectOutcome) {
+    let copy = outcome.copy().expect(rt, "no memory");
     assert!(rt; copy.is_equal(&outcome));
     assert_eq!(rt; copy, outcome);
 }
@@ -197,10 +197,10 @@ fn answers_are_copied(rt: HostRuntime) {
     let alloc = rt.alloc();
     let address = Addr::V4 { ip: 1, port: 2 };
     let no = text(&rt, alloc, "no");
-    lookup_is_copied(&rt, alloc, Lookup::Fault(no));
-    lookup_is_copied(&rt, alloc, Lookup::Found(address));
+    lookup_is_copied(&rt, Lookup::Fault(no));
+    lookup_is_copied(&rt, Lookup::Found(address));
     assert!(rt; !Lookup::Found(address).is_equal(&Lookup::NotFound));
     let name = text(&rt, alloc, "n");
-    outcome_is_copied(&rt, alloc, ConnectOutcome::InvalidServerName(name));
-    outcome_is_copied(&rt, alloc, ConnectOutcome::InvalidRemoteAddress(address));
+    outcome_is_copied(&rt, ConnectOutcome::InvalidServerName(name));
+    outcome_is_copied(&rt, ConnectOutcome::InvalidRemoteAddress(address));
 }

@@ -1,7 +1,7 @@
 //! Frames (RFC 9114, section 7), and the signal that begins a bidirectional WebTransport stream
 //! (draft-ietf-webtrans-http3, section 4.3).
 ghost use Rattle.std.specs.Prelude.{◌≡◌, ◌++◌, ◌<◌, ◌^◌, IsTrue, [], List, ℕ, length, IfOk, OnOk, Some, None};
-ghost use Rattle.wt_wire.specs.FrameBytes.{IsReadable, frame_bytes, frame_of, kind_fits, kind_number, payload_bytes};
+ghost use Rattle.wt_wire.specs.FrameBytes.{IsReadable, frame_bytes, frame_of, frame_type, kind_fits, payload_bytes};
 ghost use Rattle.wt_wire.specs.Frames.{frame_at, is_exercise};
 ghost use Rattle.wt_wire.specs.Varint.{varint_at};
 ghost use Rattle.wt_wire.specs.declared.frame.FrameKind.TheVariants as kinds;
@@ -12,6 +12,19 @@ use crate::varint::{VarInt, write_varint};
 use std::alloc::Global;
 use std::marker::Model;
 
+/// The type of a DATA frame (RFC 9114, section 7.2.1).
+pub(crate) const DATA: u64 = 0x00;
+
+/// The type of a HEADERS frame (RFC 9114, section 7.2.2).
+pub(crate) const HEADERS: u64 = 0x01;
+
+/// The type of a SETTINGS frame (RFC 9114, section 7.2.4).
+pub(crate) const SETTINGS: u64 = 0x04;
+
+/// The type of the signal that begins a bidirectional WebTransport stream
+/// (draft-ietf-webtrans-http3, section 4.3).
+pub(crate) const WEBTRANSPORT: u64 = 0x41;
+
 /// What a frame is.
 #[derive(Clone, Copy, Debug, PartialEq, Eq)]
 pub enum FrameKind {
@@ -21,7 +34,8 @@ pub enum FrameKind {
     Headers,
     /// 0x04 (RFC 9114, section 7.2.4).
     Settings,
-    /// 0x41, which has no length and a session's id in place of a payload.
+    /// 0x41, which has no length, and a session's id in place of a payload
+    /// (draft-ietf-webtrans-http3, section 4.3).
     WebTransport,
     /// A reserved type, 0x1f * N + 0x21 (RFC 9114, section 7.2.8).
     Exercise(VarInt),
@@ -30,13 +44,13 @@ pub enum FrameKind {
 impl FrameKind {
     /// The frame's type on the wire.
     fn number(self) -> VarInt
-        ensures { result ≡ kind_number self }
+        ensures { result ≡ frame_type self }
     {
         match self {
-            FrameKind::Data => VarInt::from_u32(0x00),
-            FrameKind::Headers => VarInt::from_u32(0x01),
-            FrameKind::Settings => VarInt::from_u32(0x04),
-            FrameKind::WebTransport => VarInt::from_u32(0x41),
+            FrameKind::Data => VarInt::from_u64(DATA),
+            FrameKind::Headers => VarInt::from_u64(HEADERS),
+            FrameKind::Settings => VarInt::from_u64(SETTINGS),
+            FrameKind::WebTransport => VarInt::from_u64(WEBTRANSPORT),
             FrameKind::Exercise(number) => number,
         }
     }
@@ -104,7 +118,7 @@ impl Frame {
         }
     }
 
-    /// A frame of a reserved type.
+    /// A frame of a reserved type (RFC 9114, section 7.2.8).
     pub fn new_exercise(alloc: Global, number: VarInt, payload: &[u8]) -> Result<Frame, OutOfMemory>
         requires { IsTrue (is_exercise number) }
         ensures { IfOk result (λ f. f ≡ record { kind = kinds.Exercise number; payload = payload.now; session = None }) }
@@ -112,14 +126,14 @@ impl Frame {
         Ok(Frame::with_payload(FrameKind::Exercise(number), payload.to_vec(alloc)?))
     }
 
-    /// A HEADERS frame of a payload that is already kept.
+    /// A HEADERS frame of this payload, with no memory taken.
     pub(crate) fn of_headers(payload: Vec<u8>) -> Frame
         ensures { result ≡ record { kind = kinds.Headers; payload = payload.items; session = None } }
     {
         Frame::with_payload(FrameKind::Headers, payload)
     }
 
-    /// A SETTINGS frame of a payload that is already kept (RFC 9114, section 7.2.4).
+    /// A SETTINGS frame of this payload, with no memory taken (RFC 9114, section 7.2.4).
     pub fn of_settings(payload: Vec<u8>) -> Frame
         ensures { result ≡ record { kind = kinds.Settings; payload = payload.items; session = None } }
     {
@@ -147,8 +161,8 @@ impl Frame {
         self.session
     }
 
-    /// Appends the frame's bytes: its type, and its payload behind the payload's length, or the
-    /// session's id. A peer reads the frame again, where it isn't too long to be given.
+    /// Appends the frame's bytes: its type, and its payload after the payload's length, or the
+    /// session's id. A peer reads the frame again, where its payload isn't too long.
     #[tactic(auto, using(crate::proofs::FrameAgain::frame_again))]
     pub fn write(&self, out: &mut Vec<u8>) -> Result<(), OutOfMemory>
         ensures bytes { OnOk result (out.new.items ≡ out.old.items ++ frame_bytes self.now) }
@@ -162,7 +176,7 @@ impl Frame {
     }
 }
 
-/// Appends a payload behind its length. A length above 2^62 - 1 has no spelling: it is more than
+/// Appends a payload after its length. A length above 2^62 - 1 has no encoding: it is more than
 /// any memory holds.
 fn write_payload(payload: &[u8], out: &mut Vec<u8>) -> Result<(), OutOfMemory>
     ensures bytes { OnOk result (out.new.items ≡ out.old.items ++ payload_bytes payload.now) }

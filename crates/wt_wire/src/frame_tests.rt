@@ -19,7 +19,7 @@ fn values_are_shown(rt: HostRuntime) -> Result<(), Fail> {
 }
 
 #[test]
-fn want_of_memory_is_shown(rt: HostRuntime) -> Result<(), Fail> {
+fn out_of_memory_is_shown(rt: HostRuntime) -> Result<(), Fail> {
     assert_eq!(rt;
         OutOfMemory.to_string(rt.alloc())?.as_str(),
         "out of memory"
@@ -47,14 +47,17 @@ fn signals_are_written(rt: HostRuntime) -> Result<(), Fail> {
 
 #[test]
 fn frames_of_each_kind_are_made(rt: HostRuntime) -> Result<(), Fail> {
-    let headers = Frame::new_headers(rt.alloc(), b"".as_slice())?;
-    let settings = Frame::new_settings(rt.alloc(), b"".as_slice())?;
-    let exercise = Frame::new_exercise(rt.alloc(), VarInt::from_u32(0x21), b"".as_slice())?;
+    let headers = Frame::new_headers(rt.alloc(), b"c".as_slice())?;
+    let settings = Frame::new_settings(rt.alloc(), b"d".as_slice())?;
+    let exercise = Frame::new_exercise(rt.alloc(), VarInt::from_u32(0x21), b"ab".as_slice())?;
     assert_eq!(rt; headers.kind(), FrameKind::Headers);
     assert_eq!(rt; settings.kind(), FrameKind::Settings);
     assert_eq!(rt;
         exercise.kind(),
         FrameKind::Exercise(VarInt::from_u32(0x21))
     );
+    assert_eq!(rt; headers.payload(), b"c".as_slice());
+    assert_eq!(rt; settings.payload(), b"d".as_slice());
+    assert_eq!(rt; exercise.payload(), b"ab".as_slice());
     Ok(())
 }

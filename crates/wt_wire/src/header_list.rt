@@ -47,8 +47,8 @@ fn compare(a: &str, b: &str) -> Ordering
     }
 }
 
-/// The place of the name, or else the place where it belongs.
-fn place(fields: &[(Text, Text)], name: &str) -> Result<usize, usize>
+/// The index of the field with this name, or else the index at which it belongs.
+fn find_index(fields: &[(Text, Text)], name: &str) -> Result<usize, usize>
     requires ordered { IsHeaderList fields.now }
     ensures within { MatchResult result (λ at. at < length fields.now) (λ at. at ≤ length fields.now) }
     ensures found { (value : List ℕ) (d : List ℕ × List ℕ) → IfOk result (λ at. with_field name.now value fields.now
@@ -70,7 +70,7 @@ fn value_at<'a>(fields: &'a [(Text, Text)], name: &str) -> Option<&'a str>
     None
 }
 
-fn copied(alloc: Global, fields: &[(Text, Text)]) -> Result<Vec<(Text, Text)>, OutOfMemory>
+fn copy_fields(alloc: Global, fields: &[(Text, Text)]) -> Result<Vec<(Text, Text)>, OutOfMemory>
     ensures { IfOk result (λ v. v.items ≡ fields.now) }
 {
     let mut copied = Vec::new(alloc);
@@ -87,7 +87,7 @@ fn put(fields: &mut Vec<(Text, Text)>, name: &str, value: &str) -> Result<(), Ou
 {
     let alloc = *fields.allocator();
     let value = Text::from_text(alloc, value)?;
-    match place(fields.as_slice(), name) {
+    match find_index(fields.as_slice(), name) {
         Ok(at) => fields[at].1 = value,
         Err(at) => fields.insert(at, (Text::from_text(alloc, name)?, value))?,
     }
@@ -120,12 +120,12 @@ impl HeaderList {
         self.len() == 0
     }
 
-    /// The name and the value of the field at this place of the order.
-    pub fn at(&self, place: usize) -> (&str, &str)
-        requires { place < length self.now }
-        ensures { slice_get self.now place ≡ Some (result.0.now, result.1.now) }
+    /// The name and the value of the field at this index of the order.
+    pub fn at(&self, index: usize) -> (&str, &str)
+        requires { index < length self.now }
+        ensures { slice_get self.now index ≡ Some (result.0.now, result.1.now) }
     {
-        let field = &self.fields[place];
+        let field = &self.fields[index];
         (field.0.as_str(), field.1.as_str())
     }
 
@@ -168,7 +168,7 @@ impl HeaderList {
         ensures { IfOk result (λ h. h ≡ self.now) }
     {
         Ok(HeaderList {
-            fields: copied(*self.fields.allocator(), self.fields.as_slice())?,
+            fields: copy_fields(*self.fields.allocator(), self.fields.as_slice())?,
         })
     }
 

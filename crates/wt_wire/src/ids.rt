@@ -7,8 +7,8 @@ use crate::varint::VarInt;
 use std::fmt;
 use std::marker::Model;
 
-/// The id of a QUIC stream. Its low bit tells who opened it, the next one whether it is
-/// bidirectional.
+/// The id of a QUIC stream (RFC 9000, section 2.1). Its lowest bit says who opened it, the next one
+/// whether it is bidirectional.
 #[derive(Clone, Copy, Debug, PartialEq, Eq)]
 pub struct StreamId {
     id: VarInt,
@@ -47,14 +47,14 @@ impl StreamId {
         self.id.into_inner()
     }
 
-    /// Whether both ends send on it, which its second lowest bit tells (RFC 9000, section 2.1).
+    /// Whether both ends send on it, by its second lowest bit (RFC 9000, section 2.1).
     pub fn is_bidirectional(self) -> bool
         ensures { result ≡ is_bidirectional self }
     {
         self.into_u64() / 2 % 2 == 0
     }
 
-    /// Whether the client opened it, which its lowest bit tells (RFC 9000, section 2.1).
+    /// Whether the client opened it, by its lowest bit (RFC 9000, section 2.1).
     pub fn is_client_initiated(self) -> bool
         ensures { result ≡ is_client_initiated self }
     {
@@ -164,11 +164,11 @@ impl QStreamId {
     {
         let id = id.session_stream().into_u64();
         QStreamId {
-            quarter: VarInt::small(id / 4),
+            quarter: VarInt::from_u64(id / 4),
         }
     }
 
-    /// The quarter that stands in a datagram; None exactly above 2^60 - 1, where four times it is no
+    /// The quarter stream id of a datagram; None exactly above 2^60 - 1, where four times it is no
     /// stream's id.
     pub fn try_from_varint(quarter: VarInt) -> Option<QStreamId>
         ensures some { IsSome result ↔ (quarter < 2 ^ 60) }
@@ -181,7 +181,7 @@ impl QStreamId {
         }
     }
 
-    /// The number that stands in a datagram.
+    /// The number in a datagram.
     pub fn into_varint(self) -> VarInt
         ensures value { result ≡ self }
         ensures small { result < 2 ^ 60 }
@@ -195,7 +195,7 @@ impl QStreamId {
     {
         let id = 4 * self.quarter.into_inner();
         SessionId {
-            id: StreamId::new(VarInt::small(id)),
+            id: StreamId::new(VarInt::from_u64(id)),
         }
     }
 }

@@ -1,6 +1,6 @@
 //! The parts of which the bytes of WebTransport over HTTP/3 are made, read and written: integers,
-//! ids, codes, texts, lists of fields and frames; and what crates that don't stand on each other
-//! name: ends, addresses and lookups.
+//! ids, codes, texts, lists of fields and frames; and what crates that don't depend on each
+//! other name: ends, addresses and lookups.
 #![tactic(auto)]
 
 pub mod addr;
@@ -12,16 +12,28 @@ mod field_tests;
 pub mod frame;
 #[cfg(test)]
 mod frame_tests;
-pub mod front;
 pub mod header_list;
 pub mod headers;
 pub mod ids;
 pub mod lookup;
+pub mod parsed_frame;
 mod prefixed_integer;
-pub mod read_back;
-pub mod rows;
 pub mod side;
 pub mod status;
 pub mod text;
+pub mod theorems;
 pub mod utf8;
 pub mod varint;
+
+pub use addr::Addr;
+pub use error::{ErrorCode, OutOfMemory};
+pub use frame::{Frame, FrameKind};
+pub use header_list::HeaderList;
+pub use headers::Headers;
+pub use ids::{QStreamId, SessionId, StreamId};
+pub use lookup::{ConnectOutcome, Lookup};
+pub use parsed_frame::ParsedFrame;
+pub use side::{Side, StreamEnd};
+pub use status::StatusCode;
+pub use text::Text;
+pub use varint::VarInt;

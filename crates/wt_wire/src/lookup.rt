@@ -4,7 +4,6 @@ ghost use Rattle.std.specs.Prelude.{◌≡◌, ◌↔◌, IfOk, IsTrue};
 use crate::addr::Addr;
 use crate::error::OutOfMemory;
 use crate::text::Text;
-use std::alloc::Global;
 
 /// What a resolver answers for the name of a host.
 #[derive(Debug, PartialEq, Eq, Drop)]
@@ -25,14 +24,14 @@ impl Lookup {
         self == other
     }
 
-    /// The same answer.
-    pub fn copy(&self, alloc: Global) -> Result<Lookup, OutOfMemory>
+    /// The same answer, its text in memory of that text's allocator.
+    pub fn copy(&self) -> Result<Lookup, OutOfMemory>
         ensures { IfOk result (λ l. l ≡ self.now) }
     {
         match self {
             Lookup::Found(address) => Ok(Lookup::Found(*address)),
             Lookup::NotFound => Ok(Lookup::NotFound),
-            Lookup::Fault(reason) => Ok(Lookup::Fault(Text::from_text(alloc, reason.as_str())?)),
+            Lookup::Fault(reason) => Ok(Lookup::Fault(reason.copy()?)),
         }
     }
 }
@@ -60,8 +59,8 @@ impl ConnectOutcome {
         self == other
     }
 
-    /// The same answer.
-    pub fn copy(&self, alloc: Global) -> Result<ConnectOutcome, OutOfMemory>
+    /// The same answer, its text in memory of that text's allocator.
+    pub fn copy(&self) -> Result<ConnectOutcome, OutOfMemory>
         ensures { IfOk result (λ o. o ≡ self.now) }
     {
         match self {
@@ -69,7 +68,7 @@ impl ConnectOutcome {
             ConnectOutcome::EndpointStopping => Ok(ConnectOutcome::EndpointStopping),
             ConnectOutcome::CidsExhausted => Ok(ConnectOutcome::CidsExhausted),
             ConnectOutcome::InvalidServerName(name) => {
-                Ok(ConnectOutcome::InvalidServerName(Text::from_text(alloc, name.as_str())?))
+                Ok(ConnectOutcome::InvalidServerName(name.copy()?))
             }
             ConnectOutcome::InvalidRemoteAddress(address) => {
                 Ok(ConnectOutcome::InvalidRemoteAddress(*address))

@@ -4,7 +4,7 @@ ghost use Rattle.wt_wire.specs.PrefixedInteger.{continuation_at, continuation_by
 
 use crate::error::OutOfMemory;
 
-/// The number of the bytes behind a full prefix, and how many they are; at most `most` are read.
+/// The number of the bytes after a full prefix, and how many they are; at most `most` are read.
 #[tactic(auto, using(crate::proofs::SevenBits::seven_more, crate::proofs::SevenBits::seven_few, crate::proofs::SevenBits::seven_one), unfolding(crate::specs::PrefixedInteger::continuation_at))]
 fn read_continuation(bytes: &[u8], most: u8) -> Option<(u64, usize)>
     requires { most ≤ 4 }

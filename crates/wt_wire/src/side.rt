@@ -11,7 +11,7 @@ pub enum Side {
     Server,
 }
 
-/// How a peer's half of a stream stands (RFC 9000, section 3.2).
+/// The state of a peer's half of a stream (RFC 9000, section 3.2).
 #[derive(Clone, Copy, Debug, PartialEq, Eq)]
 pub enum StreamEnd {
     /// Bytes may follow.

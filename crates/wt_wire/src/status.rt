@@ -21,7 +21,7 @@ impl Model for StatusCode {
 }
 
 impl StatusCode {
-    /// The code that the text spells; `None` exactly where it isn't three decimal digits from 100
+    /// The code that the text writes; `None` exactly where it isn't three decimal digits from 100
     /// to 599.
     pub fn try_from_text(text: &str) -> Option<StatusCode>
         ensures code { result ≡ status_code text.now }
@@ -31,11 +31,16 @@ impl StatusCode {
             return None;
         };
         let (a, b, c) = (*a, *b, *c);
-        if a > 48 && a < 54 && b.is_ascii_digit() && c.is_ascii_digit() {
-            let tens = u16::from(a - 48) * 100 + u16::from(b - 48) * 10;
-            return Some(StatusCode(tens + u16::from(c - 48)));
+        if !(a.is_ascii_digit() && b.is_ascii_digit() && c.is_ascii_digit()) {
+            return None;
         }
-        None
+        let tens = u16::from(a - b'0') * 10 + u16::from(b - b'0');
+        let code = tens * 10 + u16::from(c - b'0');
+        if (100..600).contains(&code) {
+            Some(StatusCode(code))
+        } else {
+            None
+        }
     }
 
     /// The number.

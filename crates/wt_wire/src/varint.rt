@@ -60,7 +60,8 @@ impl VarInt {
         self.value
     }
 
-    pub(crate) fn small(value: u64) -> VarInt
+    /// The integer of this number, which is below 2^62.
+    pub fn from_u64(value: u64) -> VarInt
         requires { value < 2 ^ 62 }
         ensures { result ≡ value }
     {
@@ -81,7 +82,7 @@ impl fmt::Display for VarInt {
     }
 }
 
-/// The integer at the front of the bytes, in any of its spellings, and how many bytes it takes;
+/// The integer at the front of the bytes, in any of its encodings, and how many bytes it takes;
 /// None exactly where the bytes end inside it.
 #[tactic(auto, unfolding(crate::specs::Varint::varint_at))]
 pub fn read_varint(bytes: &[u8]) -> Option<(VarInt, usize)>
@@ -91,87 +92,44 @@ pub fn read_varint(bytes: &[u8]) -> Option<(VarInt, usize)>
     ensures some { IfSome result (λ p. 1 ≤ p.1) }
     ensures few { IfSome result (λ p. p.1 ≤ 8) }
 {
-    if bytes.is_empty() {
-        return None;
-    }
-    let first = bytes[0];
-    if first < 64 {
-        return Some((VarInt::small(first as u64), 1));
-    }
-    if first < 128 {
-        if bytes.len() < 2 {
-            return None;
+    match bytes {
+        [first, ..] if *first < 64 => Some((VarInt::from_u64(u64::from(*first)), 1)),
+        [first, b, ..] if *first < 128 => {
+            let value = u16::from_be_bytes([*first % 64, *b]);
+            Some((VarInt::from_u64(u64::from(value)), 2))
         }
-        return Some((
-            VarInt::small((first % 64) as u64 * 256 + bytes[1] as u64),
-            2,
-        ));
-    }
-    if first < 192 {
-        if bytes.len() < 4 {
-            return None;
+        [first, b, c, d, ..] if *first >= 128 && *first < 192 => {
+            let value = u32::from_be_bytes([*first % 64, *b, *c, *d]);
+            Some((VarInt::from_u64(u64::from(value)), 4))
         }
-        let high = (first % 64) as u64 * 256 + bytes[1] as u64;
-        let low = bytes[2] as u64 * 256 + bytes[3] as u64;
-        return Some((VarInt::small(high * 65536 + low), 4));
+        [first, b, c, d, e, f, g, h, ..] if *first >= 192 => {
+            let value = u64::from_be_bytes([*first % 64, *b, *c, *d, *e, *f, *g, *h]);
+            Some((VarInt::from_u64(value), 8))
+        }
+        _ => None,
     }
-    if bytes.len() < 8 {
-        return None;
-    }
-    let first_two = (first % 64) as u64 * 256 + bytes[1] as u64;
-    let next_two = bytes[2] as u64 * 256 + bytes[3] as u64;
-    let third_two = bytes[4] as u64 * 256 + bytes[5] as u64;
-    let last_two = bytes[6] as u64 * 256 + bytes[7] as u64;
-    let high = first_two * 65536 + next_two;
-    let low = third_two * 65536 + last_two;
-    Some((VarInt::small(high * 4294967296 + low), 8))
 }
 
-/// Writes the shortest spelling of the integer.
+/// Appends the shortest encoding of the integer.
 #[tactic(auto, unfolding(crate::specs::Varint::varint_bytes))]
 fn push_varint(value: VarInt, out: &mut Vec<u8>) -> Result<(), OutOfMemory>
     ensures bytes { OnOk result (out.new.items ≡ out.old.items ++ varint_bytes value) }
     ensures small { value < 2 ^ 62 }
 {
     let n = value.into_inner();
-    if n < 64 {
-        out.extend_from_slice(&[n as u8])?;
-        return Ok(());
+    if n < 1 << 6 {
+        out.push(n as u8)?;
+    } else if n < 1 << 14 {
+        out.extend_from_slice(&((1 << 14) + n as u16).to_be_bytes())?;
+    } else if n < 1 << 30 {
+        out.extend_from_slice(&((1 << 31) + n as u32).to_be_bytes())?;
+    } else {
+        out.extend_from_slice(&((3 << 62) + n).to_be_bytes())?;
     }
-    let n1 = n / 256;
-    if n < 16384 {
-        out.extend_from_slice(&[64 + n1 as u8, (n % 256) as u8])?;
-        return Ok(());
-    }
-    let n2 = n1 / 256;
-    let n3 = n2 / 256;
-    if n < 1073741824 {
-        out.extend_from_slice(&[
-            128 + n3 as u8,
-            (n2 % 256) as u8,
-            (n1 % 256) as u8,
-            (n % 256) as u8,
-        ])?;
-        return Ok(());
-    }
-    let n4 = n3 / 256;
-    let n5 = n4 / 256;
-    let n6 = n5 / 256;
-    let n7 = n6 / 256;
-    out.extend_from_slice(&[
-        192 + n7 as u8,
-        (n6 % 256) as u8,
-        (n5 % 256) as u8,
-        (n4 % 256) as u8,
-        (n3 % 256) as u8,
-        (n2 % 256) as u8,
-        (n1 % 256) as u8,
-        (n % 256) as u8,
-    ])?;
     Ok(())
 }
 
-/// Appends the shortest spelling of the integer, which reads back whatever follows it.
+/// Appends the shortest encoding of the integer, which reads back whatever follows it.
 #[tactic(auto, using(crate::proofs::VarintAgain::varint_again))]
 pub fn write_varint(value: VarInt, out: &mut Vec<u8>) -> Result<(), OutOfMemory>
     ensures bytes { OnOk result (out.new.items ≡ out.old.items ++ varint_bytes value) }

@@ -3,7 +3,7 @@ use Rattle.wt_wire.specs.FieldSection.{line_bytes}
 use Rattle.wt_wire.proofs.WrittenSections.{lines_more}
 use Rattle.wt_wire.proofs.field_section.write_section.Goals as goal
 
-pub loop-place-preserved : goal.loop-place-preserved
-loop-place-preserved c =
-    c.in_ok-write_line.ensures ∙ ap (λ bs. bs ++ line_bytes (c.at.result.0.now, c.at.result.1.now)) c.loop-place.invariant
-    ∙ ap (λ bs. 0 ∷ 0 ∷ bs) (sym (lines_more c.args.list.now c.loop-place.place _ c.at.ensures))
+pub loop-index-preserved : goal.loop-index-preserved
+loop-index-preserved c =
+    c.in_ok-write_line.ensures ∙ ap (λ bs. bs ++ line_bytes (c.at.result.0.now, c.at.result.1.now)) c.loop-index.invariant
+    ∙ ap (λ bs. 0 ∷ 0 ∷ bs) (sym (lines_more c.args.list.now c.loop-index.index _ c.at.ensures))

@@ -1,5 +1,0 @@
-use Rattle.wt_config.proofs.DottedLaws.{dotted_is}
-use Rattle.wt_config.proofs.laws.dotted_form_is_pairs_and_colons.Goals as goal
-
-pub returns : goal.returns
-returns c = dotted_is

@@ -1,0 +1,9 @@
+pub mod StreamTypes
+pub mod Requests
+pub mod Responses
+pub mod SettingPair
+pub mod Settings
+pub mod SessionClose
+pub mod Capsule
+pub mod Datagram
+pub mod FixedBytes

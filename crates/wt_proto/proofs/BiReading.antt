@@ -1,0 +1,68 @@
+-- The walk over the front of a bidirectional stream, as a reader of it needs it.
+use Rattle.std.proofs.Common.{◌≡◌, ℕ, ◌+◌, ◌%◌, Bool, true, false, cond, ◌==◌, List, Option, Some, None, Result, Ok, Err, refl}
+use Rattle.wt_wire.specs.declared.error.ErrorCode.{ErrorCode}
+use Rattle.wt_wire.specs.declared.error.ErrorCode.TheVariants.{Id}
+use Rattle.wt_wire.specs.declared.side.StreamEnd.{StreamEnd}
+use Rattle.wt_message.specs.declared.session.HeadersParseError.{HeadersParseError}
+use Rattle.wt_message.specs.declared.session.HeadersParseError.TheVariants.{MethodNotConnect, Other}
+use Rattle.wt_proto.specs.declared.verdict.Verdict.{Verdict}
+use Rattle.wt_proto.specs.declared.verdict.Verdict.TheVariants.{Fault, WebTransport}
+use Rattle.wt_proto.specs.declared.walk.Step.TheVariants.{Stops}
+use Rattle.wt_wire.specs.FieldSection.{headers_of}
+use Rattle.wt_wire.specs.Frames as frames
+use Rattle.wt_wire.specs.HeaderList.{Fields}
+use Rattle.wt_wire.specs.Varint.{varint_at}
+use Rattle.wt_proto.specs.Bi.{bi_decides, bi_effect, bi_unfinished, bi_verdict_of, headers_verdict, parsed_verdict}
+use Rattle.wt_proto.specs.FrameSteps.{decided}
+use Rattle.wt_message.specs.Requests.{request_of}
+use Rattle.wt_proto.specs.Reading.{ReadsAlike}
+use Rattle.wt_proto.specs.Steady.{IsAwaited, IsLawful}
+use Rattle.wt_proto.specs.Uni.{is_final, session_verdict}
+use Rattle.wt_proto.specs.Walk.{outcome_at, walked}
+use Rattle.wt_proto.specs.Wanted.{frame_wants}
+use Rattle.wt_proto.proofs.ReadingLaws.{reads-alike}
+use Rattle.wt_proto.proofs.BiLaws.{bi-effect, bi-steady}
+use Rattle.wt_proto.proofs.WantedLaws.{varint-awaited, item-awaited}
+
+bi-awaited : IsAwaited bi_decides (frame_wants true)
+unfolding bi_decides
+bi-awaited = item-awaited (frames.frame_at varint_at) (frame_wants true) varint-awaited bi_effect bi-effect
+
+bi-reaches : (bytes : List ℕ) (end : StreamEnd) → bi_verdict_of bytes end ≡ outcome_at bi_unfinished end (walked bi_decides 0 bytes)
+unfolding bi_verdict_of
+bi-reaches bytes end = refl
+
+pub session-final : (id at : ℕ) → is_final (session_verdict id at) ≡ true
+session-final id at = by (id % 4 == 0)
+  where
+    by : (b : Bool) → is_final (cond b (WebTransport id at) (Fault Id)) ≡ true
+    by true = refl
+    by false = refl
+
+parsed-final : (at : ℕ) (r : Result Fields HeadersParseError) → is_final (parsed_verdict at r) ≡ true
+parsed-final at (Ok request) = refl
+parsed-final at (Err MethodNotConnect) = refl
+parsed-final at (Err Other) = refl
+
+headers-final : (at : ℕ) (r : Result Fields ErrorCode) → is_final (headers_verdict at r) ≡ true
+headers-final at (Ok fields) = parsed-final at (request_of fields)
+headers-final at (Err fault) = refl
+
+effect-final : (at : ℕ) (f : Option (frames.Frame × ℕ)) (w : Verdict) (m : ℕ) → decided (bi_effect at) f ≡ Stops w m → is_final w ≡ true
+effect-final at None w m e = absurd cc
+effect-final at (Some (frames.Skipped kind, n)) w m e = absurd cc
+effect-final at (Some (frames.Signal id, n)) w m e = let judged = session-final id (at + n) in cc
+effect-final at (Some (frames.Headers payload, n)) w m e = let judged = headers-final (at + n) (headers_of payload) in cc
+effect-final at (Some (frames.TooLong, n)) w m e = cc
+effect-final at (Some (frames.Data payload, n)) w m e = cc
+effect-final at (Some (frames.Settings payload, n)) w m e = cc
+
+bi-final : (at : ℕ) (bytes : List ℕ) (w : Verdict) (n : ℕ) → bi_decides at bytes ≡ Stops w n → is_final w ≡ true
+unfolding bi_decides
+bi-final at bytes w n e = effect-final at (frames.frame_at varint_at bytes) w n e
+
+pub bi_lawful : IsLawful 0 bi_decides (frame_wants true) bi_unfinished is_final bi_verdict_of
+bi_lawful = record { steady = bi-steady; awaited = bi-awaited; reaches = bi-reaches; stops = bi-final; by_end = λ end s t b c. refl }
+
+pub bi_reads_alike : ReadsAlike 0 bi_decides bi_unfinished bi_verdict_of
+bi_reads_alike = reads-alike 0 bi_decides bi-steady bi_unfinished bi_verdict_of bi-reaches

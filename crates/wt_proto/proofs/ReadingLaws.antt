@@ -1,0 +1,166 @@
+-- What a reader's value says of all bytes that it took.
+use Rattle.std.proofs.Common.{◌≡◌, ℕ, zero, suc, ◌-◌, ◌<◌, ◌≤◌, true, false, Bool, List, [], ◌∷◌, ◌++◌, length, take, drop, Option, Some, None, IfSome, refl, sym, ap, ◌∙◌, arith, fold, append_assoc, IsSome, is_some, inl, inr, ◌&&◌, ◌==◌, Result, Ok, Err, IfOk, OnErr}
+use Rattle.std.specs.List.{concat}
+use Rattle.std.proofs.lemmas.List.{append-nil, length-drop, length-take, take-append-drop}
+use Rattle.std.proofs.lemmas.Bool.{cases_lt, eq-eqb, ne_eqb}
+use Rattle.std.proofs.Math.ListN.{drop_of_length-le}
+use Rattle.std.proofs.lemmas.Bool.Decides.{nat_tests}
+use Rattle.wt_wire.specs.declared.side.StreamEnd.{StreamEnd}
+use Rattle.wt_proto.specs.declared.walk.Step.{Step}
+use Rattle.wt_proto.specs.declared.walk.Step.TheVariants.{Cut, Goes, Stops}
+use Rattle.wt_proto.specs.declared.cursor.Passed.{Passed}
+use Rattle.wt_proto.specs.Cursor.{passed_outcome, progress_passed}
+use Rattle.wt_proto.specs.Progress.{Progress, Reading, HasRead, Advances, AdvancesSome, progress_over, fed, fed_reading, reached, reached_at, at_item, IsProper}
+use Rattle.wt_proto.specs.Reading.{ReadsAlike, outcome_in}
+use Rattle.wt_proto.specs.Steady.{IsSteady}
+use Rattle.wt_proto.specs.Walk.{Reached, led, outcome_at, walked}
+use Rattle.wt_proto.proofs.ProgressLaws.{walk-progress, fed-append, fed-nothing}
+
+-- what stops a walk is what an item stopped it with
+module _ {S O : Type 0} (decide : S → List ℕ → Step S O) (P : O → Type 0) (all : (s : S) (bytes : List ℕ) (o : O) (n : ℕ) → decide s bytes ≡ Stops o n → P o) where
+  led-stop : (s : S) (b : ℕ) (xs : List ℕ) → ((t : S) (stop : Option O) (n : ℕ) → IfSome stop P → IfSome (progress_over decide t stop n xs).stop P) → (d : Step S O) → decide s (b ∷ xs) ≡ d →
+      IfSome (led (record { state = s; stop = None; skip = 0; kept = b ∷ xs }) (λ t stop n. progress_over decide t stop (n - 1) xs) s d).stop P
+  led-stop s b xs again Cut e = tt
+  led-stop s b xs again (Goes t n) e = again t None (n - 1) tt
+  led-stop s b xs again (Stops o n) e = again s (Some o) (n - 1) (all s (b ∷ xs) o n e)
+
+  pub progress-stop : (xs : List ℕ) (s : S) (stop : Option O) (n : ℕ) → IfSome stop P → IfSome (progress_over decide s stop n xs).stop P
+  progress-stop [] s stop (suc n) h = h
+  progress-stop (b ∷ xs) s stop (suc n) h = progress-stop xs s stop n h
+  progress-stop [] s stop zero h = h
+  progress-stop (b ∷ xs) s (Some o) zero h = h
+  progress-stop (b ∷ xs) s None zero h = led-stop s b xs (progress-stop xs) (decide s (b ∷ xs)) refl
+
+  pub advance-stop : (old new : Progress S O) (piece : List ℕ) (n : ℕ) → Advances decide old new piece n → IfSome old.stop P → IfSome new.stop P
+  advance-stop old new piece n a h = rw a.taken (progress-stop (old.kept ++ take n piece) old.state old.stop old.skip h)
+
+module _ {S O : Type 0} (decide : S → List ℕ → Step S O) (start : S) (unfinished : StreamEnd → S → Bool → O) (outcome_of : List ℕ → StreamEnd → O)
+    (reaches : (bytes : List ℕ) (end : StreamEnd) → outcome_of bytes end ≡ outcome_at unfinished end (walked decide start bytes)) where
+  -- the outcome is that of all bytes and the end
+  pub read-outcome : (r : Reading S O) (bytes : List ℕ) (end : StreamEnd) → HasRead decide start r bytes end → outcome_in unfinished r ≡ outcome_of bytes end
+  read-outcome r bytes end has =
+      ap (λ (x : Reading S O). outcome_in unfinished x) has
+      ∙ (ap (λ (x : Reached S O). outcome_at unfinished end x) (sym (walk-progress decide bytes start None 0)) ∙ sym (reaches bytes end))
+
+  pub fed-read : IsSteady decide → (r : Reading S O) (bytes more : List ℕ) (end : StreamEnd) → HasRead decide start r bytes end → HasRead decide start (fed_reading decide r more) (bytes ++ more) end
+  fed-read steady r bytes more end has =
+      ap (λ (x : Reading S O). fed_reading decide x more) has
+      ∙ ap (λ (p : Progress S O). record { progress = p; end = end }) (fed-append decide steady bytes more start None 0)
+
+  module _ (final : O → Bool) (by_end : (end : StreamEnd) (s t : S) (b c : Bool) → final (unfinished end s b) ≡ final (unfinished end t c)) (steady : IsSteady decide)
+      (old new : Reading S O) (piece bytes : List ℕ) (n : ℕ) (end : StreamEnd) (has : HasRead decide start old bytes end) (a : Advances decide old.progress new.progress piece n) where
+    pub feed-read : new.end ≡ old.end → HasRead decide start new (bytes ++ take n piece) end
+    feed-read same =
+        let is : new ≡ fed_reading decide old (take n piece) = rw (a.taken, same) refl in
+        is ∙ fed-read steady old bytes (take n piece) end has
+
+    open-outcome : (k : ℕ) → k < n → outcome_of (bytes ++ take k piece) end ≡ unfinished end (reached (fed decide old.progress (take k piece))).state (reached (fed decide old.progress (take k piece))).between
+    open-outcome k lt =
+        sym (read-outcome (fed_reading decide old (take k piece)) (bytes ++ take k piece) end (fed-read steady old bytes (take k piece) end has))
+        ∙ (rw (a.running k lt) (ap (λ (r : Reading S O). unfinished r.end (reached (fed decide old.progress (take k piece))).state (reached (fed decide old.progress (take k piece))).between) has))
+
+    pub feed-running : (0 < n → final (outcome_in unfinished old) ≡ false) → (k : ℕ) → k < n → final (outcome_of (bytes ++ take k piece) end) ≡ false
+    feed-running goes k lt =
+        let first : final (outcome_of (bytes ++ take 0 piece) end) ≡ false =
+        ap (λ (xs : List ℕ). final (outcome_of xs end)) (append-nil bytes) ∙ (ap final (sym (read-outcome old bytes end has)) ∙ goes (omega arith)) in
+        ap final (open-outcome k lt) ∙ (by_end end _ _ _ _ ∙ (ap final (sym (open-outcome 0 (omega arith))) ∙ first))
+
+    pub feed-stopped : new.end ≡ old.end → (n < length piece → final (outcome_in unfinished new) ≡ true) → n < length piece → final (outcome_of (bytes ++ take n piece) end) ≡ true
+    feed-stopped same all lt = ap final (sym (read-outcome new (bytes ++ take n piece) end (feed-read same))) ∙ all lt
+
+suc-not : (n : ℕ) → (suc n == 0) ≡ true → ⊥
+suc-not n e = grind (arith, nat_tests)
+
+suc-false : (n : ℕ) → (suc n == 0) ≡ false
+suc-false n = grind (arith, nat_tests)
+
+-- between two items there is nothing to skip, and nothing is kept
+between-at : {S O : Type 0} (s : S) (stop : Option O) (skip : ℕ) (kept : List ℕ) → (reached_at s stop skip kept).between ≡ (skip == 0 && length kept == 0)
+between-at s stop (suc skip) kept = rw suc-false refl
+between-at s stop zero [] = refl
+between-at s stop zero (b ∷ kept) = sym (suc-false (length kept))
+
+pub between-is : {S O : Type 0} (p : Progress S O) → (reached p).between ≡ (p.skip == 0 && length p.kept == 0)
+between-is p = between-at p.state p.stop p.skip p.kept
+
+-- a reader that stopped has a final outcome
+module _ {S O : Type 0} (decide : S → List ℕ → Step S O) (unfinished : StreamEnd → S → Bool → O) (final : O → Bool) where
+  stopped-at : (s : S) (stop : Option O) (skip : ℕ) (kept : List ℕ) (end : StreamEnd) → (0 < length kept → (skip ≡ 0) × (stop ≡ None)) → IfSome stop (λ o. final o ≡ true) →
+      (is_some stop && skip == 0) ≡ true → final (outcome_at unfinished end (reached (record { state = s; stop = stop; skip = skip; kept = kept }))) ≡ true
+  stopped-at s None skip kept end idle all e = absurd cc
+  stopped-at s (Some o) (suc skip) kept end idle all e = absurd (suc-not skip e)
+  stopped-at s (Some o) zero [] end idle all e = all
+  stopped-at s (Some o) zero (b ∷ kept) end idle all e = let none = (idle (omega arith)).1 in absurd cc
+
+  pub stopped-final : {X : Type 0} (r : Reading S O) → IsProper decide r.progress → IfSome r.progress.stop (λ o. final o ≡ true) → (X → (is_some r.progress.stop && r.progress.skip == 0) ≡ true) → X → final (outcome_in unfinished r) ≡ true
+  stopped-final r proper all over x = stopped-at r.progress.state r.progress.stop r.progress.skip r.progress.kept r.end proper.idle all (over x)
+
+-- answers around a want of memory
+pub if_ok_with : {A E : Type 0} {P Q R : A → Type 0} (r : Result A E) → IfOk r P → IfOk r Q → ((x : A) → P x → Q x → R x) → IfOk r R
+if_ok_with (Ok x) p q f = f x p q
+if_ok_with (Err e) p q f = tt
+
+pub advanced : {S O E : Type 0} (decide : S → List ℕ → Step S O) (old new : Progress S O) (piece : List ℕ) (r : Result ℕ E) →
+    IfOk r (λ n. Advances decide old new piece n) → OnErr r (AdvancesSome decide old new piece) → AdvancesSome decide old new piece
+advanced decide old new piece (Ok n) a b = (n, a)
+advanced decide old new piece (Err e) a b = b
+
+-- the outcome of a walk that went over bytes
+
+fed-over : {S O : Type 0} (decide : S → List ℕ → Step S O) (s : S) (stop : Option O) (skip : ℕ) (kept more : List ℕ) → (0 < length kept → (skip ≡ 0) × (stop ≡ None)) → skip ≡ 0 → IsSome stop →
+    fed decide (record { state = s; stop = stop; skip = skip; kept = kept }) more ≡ record { state = s; stop = stop; skip = skip; kept = kept }
+fed-over decide s None skip kept more idle none some = absurd cc
+fed-over decide s (Some o) (suc skip) kept more idle none some = absurd (omega arith)
+fed-over decide s (Some o) zero (b ∷ kept) more idle none some = let bare = (idle (omega arith)).1 in absurd cc
+fed-over decide s (Some o) zero [] [] idle none some = refl
+fed-over decide s (Some o) zero [] (b ∷ more) idle none some = refl
+
+module _ {S O : Type 0} (unfinished : StreamEnd → S → Bool → O) (end : StreamEnd) (s : S) where
+  kept-between : (rest taken : ℕ) (kept : List ℕ) → rest ≤ taken → length kept ≡ taken - rest → outcome_at unfinished end (reached_at {O = O} s None 0 kept) ≡ unfinished end s (rest == taken)
+  kept-between rest taken [] le len = let same : rest ≡ taken = omega arith in ap (λ (b : Bool). unfinished end s b) (sym (eq-eqb rest taken same))
+  kept-between rest taken (b ∷ kept) le len =
+      let other : (rest == taken) ≡ false = ne_eqb rest taken (λ e. absurd (omega (arith, e))) in ap (λ (b : Bool). unfinished end s b) (sym other)
+
+  passed-by : (stop : Option O) (skip rest taken : ℕ) (kept : List ℕ) → (0 < length kept → (skip ≡ 0) × (stop ≡ None)) → rest ≤ taken → length kept ≡ taken - rest →
+      passed_outcome unfinished end s (record { stop = stop; skip = skip; rest = rest; taken = taken }) ≡ outcome_at unfinished end (reached_at s stop skip kept)
+  passed-by None (suc skip) rest taken kept idle le len = rw suc-false refl
+  passed-by (Some o) (suc skip) rest taken kept idle le len = rw suc-false refl
+  passed-by None zero rest taken kept idle le len = sym (kept-between rest taken kept le len)
+  passed-by (Some o) zero rest taken [] idle le len = refl
+  passed-by (Some o) zero rest taken (b ∷ kept) idle le len = let none = (idle (omega arith)).1 in absurd cc
+
+pub passed-outcome : {S O : Type 0} (decide : S → List ℕ → Step S O) (steady : IsSteady decide) (unfinished : StreamEnd → S → Bool → O) (end : StreamEnd) (start s : S) (p : Passed O) (bytes : List ℕ) →
+    Advances decide (at_item start) (progress_passed s p bytes) bytes p.taken → IsProper decide (progress_passed s p bytes) → p.rest ≤ p.taken → (p.taken < length bytes → (p.skip ≡ 0) × IsSome p.stop) →
+    passed_outcome unfinished end s p ≡ outcome_at unfinished end (walked decide start bytes)
+passed-outcome {S = S} {O = O} decide steady unfinished end start s p bytes a proper le all =
+    let stays : fed decide (progress_passed s p bytes) (drop p.taken bytes) ≡ progress_passed s p bytes =
+    elim (cases_lt p.taken (length bytes)) [
+      | inl lt ↦ fed-over decide s p.stop p.skip (drop p.rest (take p.taken bytes)) (drop p.taken bytes) proper.idle (all lt).0 (all lt).1
+      | inr whole ↦ ap (λ (xs : List ℕ). fed decide (progress_passed s p bytes) xs) (drop_of_length-le bytes whole) ∙ fed-nothing decide steady (progress_passed s p bytes) proper
+    ] in
+    let is : progress_over decide start None 0 bytes ≡ progress_passed s p bytes =
+    ap (λ (xs : List ℕ). progress_over decide start None 0 xs) (sym (take-append-drop p.taken bytes))
+    ∙ (sym (fed-append decide steady (take p.taken bytes) (drop p.taken bytes) start None 0)
+    ∙ (ap (λ (x : Progress S O). fed decide x (drop p.taken bytes)) (sym a.taken) ∙ stays)) in
+    passed-by unfinished end s p.stop p.skip p.rest p.taken (drop p.rest (take p.taken bytes)) proper.idle le (omega (arith, a.within, length-drop p.rest (take p.taken bytes), length-take p.taken bytes))
+    ∙ (ap (λ (x : Progress S O). outcome_at unfinished end (reached x)) (sym is) ∙ ap (λ (r : Reached S O). outcome_at unfinished end r) (sym (walk-progress decide bytes start None 0)))
+
+-- pieces one behind the other
+module _ {S O : Type 0} (start : S) (decide : S → List ℕ → Step S O) (steady : IsSteady decide) where
+  fold-read : (pieces : List (List ℕ)) (r : Reading S O) (bytes : List ℕ) (end : StreamEnd) → HasRead decide start r bytes end → HasRead decide start (fold (fed_reading decide) r pieces) (bytes ++ concat pieces) end
+  fold-read [] r bytes end has = has ∙ ap (λ (xs : List ℕ). record { progress = progress_over decide start None 0 xs; end = end }) (sym (append-nil bytes))
+  fold-read (piece ∷ pieces) r bytes end has =
+      let more : HasRead decide start (fed_reading decide r piece) (bytes ++ piece) end =
+      ap (λ (x : Reading S O). fed_reading decide x piece) has ∙ ap (λ (p : Progress S O). record { progress = p; end = end }) (fed-append decide steady bytes piece start None 0) in
+      fold-read pieces (fed_reading decide r piece) (bytes ++ piece) end more
+      ∙ ap (λ (xs : List ℕ). record { progress = progress_over decide start None 0 xs; end = end }) (append_assoc bytes piece (concat pieces))
+
+  pub reads-alike : (unfinished : StreamEnd → S → Bool → O) (outcome_of : List ℕ → StreamEnd → O) → ((bytes : List ℕ) (end : StreamEnd) → outcome_of bytes end ≡ outcome_at unfinished end (walked decide start bytes)) →
+      ReadsAlike start decide unfinished outcome_of
+  reads-alike unfinished outcome_of reaches = record {
+    same = λ r bytes end pieces others has same.
+        fold-read pieces r bytes end has
+        ∙ (ap (λ (xs : List ℕ). record { progress = progress_over decide start None 0 (bytes ++ xs); end = end }) same ∙ sym (fold-read others r bytes end has));
+    outcome = λ r bytes end pieces has.
+        read-outcome decide start unfinished outcome_of reaches (fold (fed_reading decide) r pieces) (bytes ++ concat pieces) end (fold-read pieces r bytes end has);
+  }

@@ -1,6 +1,0 @@
-use Rattle.wt_proto.proofs.OptionLaws.{some_from_copied}
-use Rattle.wt_proto.proofs.RequestLaws.{has_path}
-use Rattle.wt_proto.proofs.session.SessionRequest.path.Goals as goal
-
-pub unwrap-requires : goal.unwrap-requires
-unwrap-requires c = some_from_copied c.get.result _ c.get.ensures (has_path _ c.self.invariant)

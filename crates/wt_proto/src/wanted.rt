@@ -1,0 +1,84 @@
+//! How many bytes there have to be at least before what stands at the front can be decided.
+ghost use Rattle.std.specs.Prelude.{◌≡◌, ◌≤◌, ◌<◌, ◌^◌, drop, length};
+ghost use Rattle.wt_proto.specs.Wanted.{frame_wants, length_wants, payload_wants, uni_wants, varint_wants};
+ghost use Rattle.wt_wire.specs.Varint.{varint_at};
+
+use wt_wire::varint::read_varint;
+
+/// The longest payload of a frame that is given (this repository's rule; RFC 9114, section 7.1,
+/// sets no bound).
+const LONGEST_PAYLOAD: u64 = 4096;
+
+/// Of a variable-length integer, which its first byte tells (RFC 9000, section 16).
+fn varint_wanted(bytes: &[u8]) -> usize
+    ensures value { result ≡ varint_wants bytes.now }
+    ensures few { result ≤ 8 }
+{
+    if bytes.is_empty() {
+        return 1;
+    }
+    match bytes[0] {
+        0..=63 => 1,
+        64..=127 => 2,
+        128..=191 => 4,
+        _ => 8,
+    }
+}
+
+fn payload_wanted(kind: u64, header: usize, size: u64) -> usize
+    requires { header ≤ 16 }
+    ensures { result ≡ payload_wants kind header size }
+{
+    if (kind == 0x00 || kind == 0x01 || kind == 0x04) && size <= LONGEST_PAYLOAD {
+        header + size as usize
+    } else {
+        header
+    }
+}
+
+fn length_wanted(bytes: &[u8], kind: u64, at: usize) -> usize
+    requires within { at ≤ length bytes.now }
+    requires few { at ≤ 8 }
+    ensures { result ≡ length_wants bytes.now kind at (varint_at (drop at bytes.now)) }
+{
+    match read_varint(&bytes[at..]) {
+        None => at + varint_wanted(&bytes[at..]),
+        Some((size, length)) => payload_wanted(kind, at + length, size.into_inner()),
+    }
+}
+
+/// Of a frame; where the id behind a signal is read, of that too (RFC 9114, section 7.1).
+#[tactic(auto, unfolding(crate::specs::Wanted::frame_wants))]
+pub(crate) fn frame_wanted(bytes: &[u8], reads_id: bool) -> usize
+    ensures { result ≡ frame_wants reads_id bytes.now }
+{
+    match read_varint(bytes) {
+        None => varint_wanted(bytes),
+        Some((kind, at)) => {
+            if kind.into_inner() != 0x41 {
+                length_wanted(bytes, kind.into_inner(), at)
+            } else if reads_id {
+                at + varint_wanted(&bytes[at..])
+            } else {
+                at
+            }
+        }
+    }
+}
+
+/// Of the header of a unidirectional stream (RFC 9114, section 6.2).
+#[tactic(auto, unfolding(crate::specs::Wanted::uni_wants))]
+pub(crate) fn uni_wanted(bytes: &[u8]) -> usize
+    ensures { result ≡ uni_wants bytes.now }
+{
+    match read_varint(bytes) {
+        None => varint_wanted(bytes),
+        Some((kind, at)) => {
+            if kind.into_inner() == 0x54 {
+                at + varint_wanted(&bytes[at..])
+            } else {
+                at
+            }
+        }
+    }
+}

@@ -1,0 +1,29 @@
+-- What the code's parser answers of the frame at the front.
+use Rattle.std.specs.Prelude.{ℕ, ◌+◌, ◌≤◌, ◌<◌, ◌^◌, List, take, drop, Option, Some, None}
+use Rattle.wt_wire.specs.declared.parsed_frame.ParsedFrame.{ParsedFrame}
+use Rattle.wt_wire.specs.declared.parsed_frame.ParsedFrame.TheVariants as parsed
+use Rattle.wt_wire.specs.Frames.{Frame, Data, Headers, Settings, TooLong, Skipped, longest_payload, signal_with_id}
+
+-- the frame that an answer denotes, and how many bytes it takes
+abbrev pub parsed_value : (List ℕ → Option (ℕ × ℕ)) → List ℕ → ParsedFrame → Option (Frame × ℕ)
+parsed_value id_at bytes parsed.Incomplete = None
+parsed_value id_at bytes (parsed.Signal at) = signal_with_id at (id_at (drop at bytes))
+parsed_value id_at bytes (parsed.TooLong header) = Some (TooLong, header)
+parsed_value id_at bytes (parsed.Data header size) = Some (Data (take size (drop header bytes)), header + size)
+parsed_value id_at bytes (parsed.Headers header size) = Some (Headers (take size (drop header bytes)), header + size)
+parsed_value id_at bytes (parsed.Settings header size) = Some (Settings (take size (drop header bytes)), header + size)
+parsed_value id_at bytes (parsed.Skipped kind size) = Some (Skipped kind, size)
+
+-- a payload lies within so many bytes
+abbrev pub IsPayload : ℕ → ℕ → ℕ → Type 0
+IsPayload count header size = (1 ≤ header) × (header + size ≤ count) × (size ≤ longest_payload)
+
+-- the answer lies within so many bytes
+abbrev pub IsWithin : ℕ → ParsedFrame → Type 0
+IsWithin count parsed.Incomplete = Unit {0}
+IsWithin count (parsed.Signal at) = (1 ≤ at) × (at ≤ count) × (at ≤ 8)
+IsWithin count (parsed.TooLong header) = (1 ≤ header) × (header ≤ count)
+IsWithin count (parsed.Data header size) = IsPayload count header size
+IsWithin count (parsed.Headers header size) = IsPayload count header size
+IsWithin count (parsed.Settings header size) = IsPayload count header size
+IsWithin count (parsed.Skipped kind size) = (1 ≤ size) × (size < 2 ^ 63)
