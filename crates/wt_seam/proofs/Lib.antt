@@ -1,0 +1,10 @@
+pub mod Bools
+pub mod Results
+pub mod StreamChanges
+pub mod Events
+pub mod KeptFacts
+pub mod Fitting
+pub mod Arriving
+pub mod Calls
+pub mod Refining
+pub mod HalfLaws

@@ -1,3 +1,13 @@
-pub mod Equality
-pub mod History
-pub mod Seam
+pub use Rattle.wt_seam_spec.specs.Streams
+pub use Rattle.wt_seam_spec.specs.Reports
+pub use Rattle.wt_seam_spec.specs.Sent
+pub use Rattle.wt_seam_spec.specs.Arrivals
+pub use Rattle.wt_seam_spec.specs.Joined
+pub use Rattle.wt_seam_spec.specs.Outgoing
+pub use Rattle.wt_seam_spec.specs.Unread
+pub use Rattle.wt_streams.specs.Pieces
+pub use Rattle.wt_streams.specs.HalfRules
+pub use Rattle.wt_streams.specs.StreamState
+pub mod State
+pub mod Step
+pub mod Rules

@@ -1,17 +1,17 @@
-//! The seam to the transport: what happens to a connection, and what goes out.
+//! The QUIC transport as the session layer sees it (RFC 9000).
 //!
-//! A *turn* is one event of the QUIC transport or one call of the application, an *action* is what
-//! the transport is told to do. Beside them stand the definitions of a connection's history, and of
-//! what the transport's part of it says.
+//! A [`Transport`] takes what the transport tells of one connection, turn after turn, keeps the bytes
+//! that came in the pieces in which they came, and collects what is to go out. The definitions beside
+//! it say the same of the whole log of a connection.
 #![tactic(auto)]
 
-pub mod action;
-pub mod piece;
-pub mod send;
+pub mod halves;
 #[cfg(test)]
 mod tests;
-pub mod turn;
+pub mod transport;
 
-pub use action::{Action, Actions};
-pub use piece::Piece;
-pub use turn::{Call, DatagramFact, Turn, Turns};
+pub use halves::{QuicRecvStream, QuicSendStream};
+pub use transport::Transport;
+pub use wt_turn::stream_error::{
+    ClosedStream, StreamReadError, StreamReadExactError, StreamWriteError, WriteAll,
+};

@@ -1,0 +1,4 @@
+pub mod PieceLaws
+pub mod Copying
+pub mod Joining
+pub mod Rows

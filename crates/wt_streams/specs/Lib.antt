@@ -1,0 +1,4 @@
+pub mod Pieces
+pub mod HalfRules
+pub mod StreamState
+pub mod LastAction

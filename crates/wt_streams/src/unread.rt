@@ -1,0 +1,161 @@
+//! The bytes of a stream that came and weren't read.
+ghost use Rattle.std.specs.Prelude.{◌≡◌, ◌≤◌, ◌+◌, ◌-◌, ◌++◌, [], length, min, take, drop, OnErr, OnOk};
+ghost use Rattle.std.specs.List.{concat};
+ghost use Rattle.wt_streams.specs.Pieces.{AreFilled, first_piece, skip, with_piece};
+
+use bytes::Bytes;
+use std::alloc::Global;
+use std::collections::VecDeque;
+use std::marker::Model;
+use wt_wire::error::OutOfMemory;
+
+/// Unread bytes, in the shared pieces in which they came. Contracts see the list of the pieces.
+#[derive(Debug, Drop)]
+pub struct Unread {
+    /// The pieces, none of them empty.
+    pieces: VecDeque<Bytes<Global>>,
+    /// How many bytes they have.
+    count: u64,
+}
+
+impl Model for Unread {
+    ghost use Rattle.std.specs.Prelude.{List, ℕ, length, ◌≡◌};
+    ghost use Rattle.std.specs.List.{concat};
+    ghost use Rattle.wt_streams.specs.Pieces.{AreFilled};
+
+    ghost Value = { List (List ℕ) };
+
+    ghost view = { λ u. u.pieces.items };
+
+    ghost invariant = { λ u. (AreFilled u.pieces.items) × (u.count ≡ length (concat u.pieces.items)) };
+}
+
+impl Unread {
+    /// No bytes.
+    pub fn new(alloc: Global) -> Unread
+        ensures { result ≡ [] }
+    {
+        Unread {
+            pieces: VecDeque::new(alloc),
+            count: 0,
+        }
+    }
+
+    /// How many bytes are unread.
+    pub fn count(&self) -> u64
+        ensures { result ≡ length (concat self.now) }
+    {
+        self.count
+    }
+
+    /// How many pieces have an unread byte.
+    pub fn pieces(&self) -> u64
+        ensures { result ≡ length self.now }
+    {
+        let _pieces = &self.pieces;
+        self.pieces.len() as u64
+    }
+
+    /// The unread bytes of the first piece.
+    pub fn first(&self) -> &[u8]
+        ensures { result.now ≡ first_piece self.now }
+    {
+        match self.pieces.front() {
+            Some(piece) => piece.as_slice(),
+            None => &[],
+        }
+    }
+
+    /// One more piece. Where no memory is there for it, nothing changes.
+    #[tactic(auto, using(crate::proofs::PieceLaws::filled_pushed, crate::proofs::PieceLaws::length_push, crate::proofs::PieceLaws::more_piece, crate::proofs::PieceLaws::no_piece))]
+    pub fn push(&mut self, piece: Bytes<Global>) -> Result<(), OutOfMemory>
+        ensures ok { OnOk result (self.new ≡ with_piece self.old piece) }
+        ensures err { OnErr result (self.new ≡ self.old) }
+    {
+        if piece.is_empty() {
+            return Ok(());
+        }
+        let Some(count) = self.count.checked_add(piece.len() as u64) else {
+            return Err(OutOfMemory);
+        };
+        self.pieces.push_back(piece)?;
+        self.count = count;
+        Ok(())
+    }
+
+    /// Copies bytes into the buffer's front, as many as there are and fit, and tells how many. They stay
+    /// unread.
+    pub fn copy_to(&self, buffer: &mut [u8]) -> usize
+        ensures count { result ≡ min (length buffer.old) (length (concat self.now)) }
+        ensures bytes { buffer.new ≡ take result (concat self.now) ++ drop result buffer.old }
+    {
+        copy_pieces(&self.pieces, buffer)
+    }
+
+    /// Leaves out bytes in front. A piece of which none is left is let go.
+    #[tactic(auto, using(crate::proofs::PieceLaws::length_skip))]
+    pub fn consume(&mut self, count: usize)
+        requires { count ≤ length (concat self.old) }
+        ensures { self.new ≡ skip count self.old }
+    {
+        skip_bytes(&mut self.pieces, count);
+        self.count -= count as u64;
+    }
+
+    /// Lets all bytes go.
+    pub fn clear(&mut self)
+        ensures { self.new ≡ [] }
+    {
+        self.pieces.clear();
+        self.count = 0;
+    }
+}
+
+/// Leaves out bytes in front of these pieces.
+#[tactic(auto, using(crate::proofs::PieceLaws::skip_none))]
+fn skip_bytes(pieces: &mut VecDeque<Bytes<Global>>, count: usize)
+    requires { AreFilled pieces.old.items }
+    ensures skipped { pieces.new.items ≡ skip count pieces.old.items }
+    ensures filled { AreFilled pieces.new.items }
+{
+    let mut left = count;
+    while left > 0 {
+        match pieces.pop_front() {
+            None => return,
+            Some(mut piece) => {
+                if left < piece.len() {
+                    piece.advance(left);
+                    pieces.push_front_reserved(piece);
+                    return;
+                }
+                left -= piece.len();
+            }
+        }
+    }
+}
+
+/// Copies bytes of these pieces into the buffer's front, as many as there are and fit, and tells how
+/// many.
+fn copy_pieces(pieces: &VecDeque<Bytes<Global>>, buffer: &mut [u8]) -> usize
+    ensures count { result ≡ min (length buffer.old) (length (concat pieces.now.items)) }
+    ensures bytes { buffer.new ≡ take result (concat pieces.now.items) ++ drop result buffer.old }
+{
+    let mut at = 0;
+    let mut index = 0;
+    while index < pieces.len() {
+        at += copy_at(buffer, at, pieces[index].as_slice());
+        index += 1;
+    }
+    at
+}
+
+/// Copies as many of these bytes as fit to this place of the buffer, and tells how many.
+fn copy_at(buffer: &mut [u8], at: usize, bytes: &[u8]) -> usize
+    requires { at ≤ length buffer.old }
+    ensures count { result ≡ min (length bytes.now) (length buffer.old - at) }
+    ensures bytes { buffer.new ≡ take at buffer.old ++ take result bytes.now ++ drop (at + result) buffer.old }
+{
+    let count = bytes.len().min(buffer.len() - at);
+    buffer[at..at + count].copy_from_slice(&bytes[..count]);
+    count
+}
