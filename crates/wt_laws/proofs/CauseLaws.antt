@@ -1,0 +1,193 @@
+-- Every reply and every action has its cause.
+use Rattle.std.specs.Prelude.{[], ◌&&◌, ◌++◌, ◌∷◌, ◌≡◌, ◌≢◌, Bool, List, None, Option, Some, drop, false, length, nat_lt, not, take, true, ℕ}
+use Rattle.std.proofs.Common.{◌∙◌, ap, arith, refl, subst, sym}
+use Rattle.std.proofs.lemmas.Bool.{ltb-true}
+use Rattle.wt_proto.specs.Bi.{bi_verdict_of}
+use Rattle.wt_message.specs.FixedBytes.{local_control_bytes}
+use Rattle.wt_proto.specs.declared.verdict.Verdict.{Verdict}
+use Rattle.wt_seam_spec.specs.Joined.{send_of}
+use Rattle.wt_seam_spec.specs.Reports.{credit, end_of, unis_allowed}
+use Rattle.wt_seam_spec.specs.Sent.{sent_on}
+use Rattle.wt_seam_spec.specs.Streams.{contents, local_uni, peer_bi, peer_count}
+use Rattle.wt_turn.specs.Log.{Called, Entry, Log, Received, Reported, Sent, actions_of, calls_of, events_of, is_open, with_actions}
+use Rattle.wt_turn.specs.declared.action.Action.{Action}
+use Rattle.wt_turn.specs.declared.turn.Turn.{Turn}
+use Rattle.wt_wire.specs.Codes.{code_of}
+use Rattle.wt_wire.specs.declared.side.Side.{Side}
+use Rattle.wt_laws.proofs.Calls.{caused}
+use Rattle.wt_laws.proofs.During.{decided-during}
+use Rattle.wt_laws.proofs.Moments.{AsBi, AsUni, ClassifiedAs, IsKept, causes, kept-moment}
+use Rattle.wt_laws.proofs.Reached.{reached}
+use Rattle.wt_laws.proofs.Steps.{Keeps}
+use Rattle.wt_laws.specs.Causes.{OwnCauses}
+use Rattle.wt_laws.specs.Laws.{ActionsHaveCauses, ClosesFault, ClosesSession, DriverCauses, ForCall, ForDriver, GoesOnFrom, IsRefused, IsSurplus, OpensControl, ReplyHasCause, ResetsSession, SendsControl, StoppedFor, StopsStream}
+use Rattle.wt_laws.specs.Reachable.{IsReachable, is_among}
+use Rattle.wt_spec.specs.Answers.{is_lawful}
+use Rattle.wt_spec.specs.Driver.{apply_if, call_view, close_actions, control_actions, control_sent, established, flush, is_moment, log_and_flush, opened_if, pending_actions, reset_if, session_id, stop_actions, stream_table}
+use Rattle.wt_spec.specs.Scan.{listed}
+use Rattle.wt_spec.specs.StreamTable.{ByFault, BySession, Classified, Consequence, Dispatched, Ending, Stopped, StreamTable, awaits_delivery, bi_consequence, dispatched, kept_if, only, only_once, queued_behind, uni_consequence}
+use Rattle.wt_turn.specs.declared.action.Action.TheVariants as actions
+use Rattle.wt_wire.specs.declared.error.ErrorCode.TheVariants as h3
+use Rattle.wt_proto.specs.declared.verdict.Verdict.TheVariants as verdicts
+
+pub reply-has-cause : (side : Side) (log : Log) (turn : Turn) → is_lawful side log turn ≡ true → ReplyHasCause side log turn
+reply-has-cause side log turn l = let c = caused side turn log l in (c.decided, decided-during side log turn l, c.why)
+
+-- ---- the driver's actions
+
+all-append : (side : Side) (log : Log) (xs ys : List Action) → DriverCauses side log xs → DriverCauses side log ys → DriverCauses side log (xs ++ ys)
+all-append side log [] ys p q = q
+all-append side log (x ∷ xs) ys p q = (p.0, all-append side log xs ys p.1 q)
+
+abbrev StopsFor : Side → Log → List Classified → List Stopped → Type 0
+StopsFor side log cs [] = Unit {0}
+StopsFor side log cs (x ∷ xs) = StoppedFor side log cs x × StopsFor side log cs xs
+
+stops-append : (side : Side) (log : Log) (cs : List Classified) (xs ys : List Stopped) → StopsFor side log cs xs → StopsFor side log cs ys → StopsFor side log cs (xs ++ ys)
+stops-append side log cs [] ys p q = q
+stops-append side log cs (x ∷ xs) ys p q = (p.0, stops-append side log cs xs ys p.1 q)
+
+only-append : (keep : Classified → Bool) (cs ds : List Classified) → only keep (cs ++ ds) ≡ only keep cs ++ only keep ds
+only-append keep [] ds = refl
+only-append keep (c ∷ cs) ds = ap (λ z. kept_if (keep c) c ++ z) (only-append keep cs ds) ∙ joined (keep c)
+  where
+    joined : (b : Bool) → kept_if b c ++ (only keep cs ++ only keep ds) ≡ (kept_if b c ++ only keep cs) ++ only keep ds
+    joined true = refl
+    joined false = refl
+
+-- what was queued stays so as more streams are classified
+stop-more : (side : Side) (log : Log) (cs ds : List Classified) (x : Stopped) → StoppedFor side log cs x → StoppedFor side log (cs ++ ds) x
+stop-more side log cs ds x (IsRefused a e) = IsRefused a e
+stop-more side log cs ds x (IsSurplus headers at queued later a e q c) =
+    let keep = awaits_delivery (call_view log).delivered in
+    IsSurplus headers at queued (later ++ only keep ds) a e (only-append keep cs ds ∙ ap (λ z. z ++ only keep ds) q) c
+
+stops-more : (side : Side) (log : Log) (cs ds : List Classified) (xs : List Stopped) → StopsFor side log cs xs → StopsFor side log (cs ++ ds) xs
+stops-more side log cs ds [] p = tt
+stops-more side log cs ds (x ∷ xs) p = (stop-more side log cs ds x p.0, stops-more side log cs ds xs p.1)
+
+no-uni-stop : (d : Dispatched) (k : ℕ) (v : Verdict) → (uni_consequence d k v).stop ≡ None
+no-uni-stop d k (verdicts.Fault code) = refl
+no-uni-stop d k (verdicts.Control at) = once-stop d.control
+  where
+    once-stop : (o : Option (ℕ × ℕ)) → (only_once o).stop ≡ None
+    once-stop None = refl
+    once-stop (Some x) = refl
+no-uni-stop d k (verdicts.Encoder at) = once-stop d.encoder
+  where
+    once-stop : (o : Option (ℕ × ℕ)) → (only_once o).stop ≡ None
+    once-stop None = refl
+    once-stop (Some x) = refl
+no-uni-stop d k (verdicts.Decoder at) = once-stop d.decoder
+  where
+    once-stop : (o : Option (ℕ × ℕ)) → (only_once o).stop ≡ None
+    once-stop None = refl
+    once-stop (Some x) = refl
+no-uni-stop d k _ = refl
+
+bi-stop : (side : Side) (log : Log) (cs : List Classified) (k : ℕ) (v : Verdict) → is_among (peer_bi side) (peer_count side (events_of log) (peer_bi side)) k ≡ true → bi_verdict_of (contents log k) (end_of (events_of log) k) ≡ v
+    → StopsFor side log cs (listed (bi_consequence (dispatched (call_view log) cs) k v).stop)
+bi-stop side log cs k (verdicts.Fault code) a e = tt
+bi-stop side log cs k (verdicts.Refused code) a e = (IsRefused a e, tt)
+bi-stop side log cs k (verdicts.Request headers at) a e = surplus (dispatched (call_view log) cs).requests refl
+  where
+    surplus : (queued : List Classified) → (dispatched (call_view log) cs).requests ≡ queued → StopsFor side log cs (listed (queued_behind queued k).stop)
+    surplus [] q = tt
+    surplus (c ∷ later) q = (IsSurplus headers at c later a e q refl, tt)
+bi-stop side log cs k _ a e = tt
+
+classified-stop : (side : Side) (log : Log) (t : StreamTable) (k : ℕ) (v : Verdict) (x : Consequence) → ClassifiedAs side log t k v x → StopsFor side log t.classified (listed x.stop)
+classified-stop side log t k v x (AsUni a b c d) = subst (λ (o : Option Stopped). StopsFor side log t.classified (listed o)) (sym (ap (λ (y : Consequence). y.stop) d ∙ no-uni-stop (dispatched (call_view log) t.classified) k v)) tt
+classified-stop side log t k v x (AsBi a b c d) = subst (λ (o : Option Stopped). StopsFor side log t.classified (listed o)) (sym (ap (λ (y : Consequence). y.stop) d)) (bi-stop side log t.classified k v a b)
+
+stops-kept : (side : Side) (log : Log) → IsKept (causes side log) (λ t. StopsFor side log t.classified t.progress.stops)
+stops-kept side log = record {
+  by_ending = λ t e p. p;
+  by_moment = λ t p. tt;
+  by_settings = λ t b p. p;
+  by_datagram = λ t n p. p;
+  by_dequeued = λ t k p. p;
+  by_classified = λ t k v e x n p. stops-more side log t.classified (record { id = k; verdict = v; surplus = e.surplus } ∷ []) (t.progress.stops ++ listed e.stop)
+      (stops-append side log t.classified t.progress.stops (listed e.stop) p (classified-stop side log t k v e x));
+}
+
+-- the stops of a moment are for streams that it classified
+moment-stops : (side : Side) (e : Entry) (log : Log) → is_moment e ≡ true → is_open (e ∷ log) ≡ true → StopsFor side (e ∷ log) (stream_table side (e ∷ log)).classified (stream_table side (e ∷ log)).progress.stops
+unfolding stream_table
+moment-stops side e log m o =
+    rw (m, o) (kept-moment (λ t. StopsFor side (e ∷ log) t.classified t.progress.stops) side (e ∷ log) (stops-kept side (e ∷ log)) (stream_table side log) tt)
+
+module _ (side : Side) (log : Log) where
+  opened-cause : (b : Bool) → unis_allowed (events_of log) ≢ 0 → DriverCauses side log (opened_if b (local_uni side))
+  opened-cause true n = (OpensControl n, tt)
+  opened-cause false n = tt
+
+  send-cause : (piece : List ℕ) → piece ≡ drop (length (sent_on (actions_of log) (local_uni side))) (take (credit (events_of log) (local_uni side)) local_control_bytes) → DriverCauses side log (send_of (local_uni side) piece)
+  send-cause [] e = tt
+  send-cause (b ∷ piece) e = (SendsControl (b ∷ piece) e, tt)
+
+  control-cause : (b : Bool) → (b ≡ true → unis_allowed (events_of log) ≢ 0) → DriverCauses side log (control_actions b (local_uni side) (credit (events_of log) (local_uni side)) (control_sent side log))
+  control-cause false f = tt
+  control-cause true f =
+      let s = control_sent side log in
+      all-append side log (opened_if (not s.opened) (local_uni side)) (send_of (local_uni side) (drop s.sent (take (credit (events_of log) (local_uni side)) local_control_bytes)))
+      (opened-cause (not s.opened) (f refl)) (send-cause (drop s.sent (take (credit (events_of log) (local_uni side)) local_control_bytes)) refl)
+
+  stop-causes : (xs : List Stopped) → StopsFor side log (stream_table side log).classified xs → DriverCauses side log (stop_actions xs)
+  stop-causes [] p = tt
+  stop-causes (x ∷ xs) p = (StopsStream x p.0, stop-causes xs p.1)
+
+  reset-cause : (b : Bool) (code : ℕ) (reason : List ℕ) → (stream_table side log).progress.ending ≡ Some (BySession code reason b) → DriverCauses side log (reset_if b (session_id (established (calls_of log))))
+  reset-cause true code reason q = (ResetsSession code reason q, tt)
+  reset-cause false code reason q = tt
+
+  ending-cause : (o : Option Ending) → ((stream_table side log).progress.ending ≡ o) → DriverCauses side log (close_actions (session_id (established (calls_of log))) o)
+  ending-cause None e = tt
+  ending-cause (Some (ByFault code)) e = (ClosesFault code e, tt)
+  ending-cause (Some (BySession code reason b)) e =
+      all-append side log (reset_if b (session_id (established (calls_of log)))) (actions.Close (code_of h3.NoError) [] ∷ []) (reset-cause b code reason e) (ClosesSession code reason b e, tt)
+
+  allowed : nat_lt 0 (unis_allowed (events_of log)) ≡ true → unis_allowed (events_of log) ≢ 0
+  allowed e z = absurd (let l = ltb-true 0 (unis_allowed (events_of log)) e in omega arith)
+
+  pending-causes : StopsFor side log (stream_table side log).classified (stream_table side log).progress.stops → DriverCauses side log (pending_actions side log)
+  pending-causes p =
+      all-append side log (control_actions (nat_lt 0 (unis_allowed (events_of log))) (local_uni side) (credit (events_of log) (local_uni side)) (control_sent side log) ++ stop_actions (stream_table side log).progress.stops)
+      (close_actions (session_id (established (calls_of log))) (stream_table side log).progress.ending)
+      (all-append side log (control_actions (nat_lt 0 (unis_allowed (events_of log))) (local_uni side) (credit (events_of log) (local_uni side)) (control_sent side log)) (stop_actions (stream_table side log).progress.stops)
+      (control-cause (nat_lt 0 (unis_allowed (events_of log))) allowed) (stop-causes (stream_table side log).progress.stops p))
+      (ending-cause (stream_table side log).progress.ending refl)
+
+-- what the driver sends at a moment, each for its cause
+pub driver-causes : (side : Side) (e : Entry) (log : Log) → is_moment e ≡ true → is_open (e ∷ log) ≡ true → DriverCauses side (e ∷ log) (pending_actions side (e ∷ log))
+driver-causes side e log m o = pending-causes side (e ∷ log) (moment-stops side e log m o)
+
+-- ---- all that went out
+
+own-sent : (side : Side) (turn : Turn) (own : List Action) (log : Log) → OwnCauses side turn log own → ActionsHaveCauses side log → ActionsHaveCauses side (with_actions own log)
+own-sent side turn [] log c p = p
+own-sent side turn (a ∷ own) log c p = own-sent side turn own (Sent a ∷ log) c.1 (ForCall turn c.0, p)
+
+driver-sent : (side : Side) (e : Entry) (earlier : Log) → is_moment e ≡ true → is_open (e ∷ earlier) ≡ true → (as_ : List Action) (log : Log) → GoesOnFrom (e ∷ earlier) log → DriverCauses side (e ∷ earlier) as_ → ActionsHaveCauses side log
+    → ActionsHaveCauses side (with_actions as_ log)
+driver-sent side e earlier m o [] log x c p = p
+driver-sent side e earlier m o (a ∷ as_) log x c p = driver-sent side e earlier m o as_ (Sent a ∷ log) (Sent a ∷ x.0, ap (λ z. Sent a ∷ z) x.1) c.1 (ForDriver e earlier m o x c.0, p)
+
+flush-sent : (side : Side) (e : Entry) (log : Log) → is_moment e ≡ true → ActionsHaveCauses side (e ∷ log) → ActionsHaveCauses side (log_and_flush side log e)
+unfolding flush
+flush-sent side e log m p = at (is_open (e ∷ log)) refl
+  where
+    at : (b : Bool) → is_open (e ∷ log) ≡ b → ActionsHaveCauses side (apply_if (is_moment e && is_open (e ∷ log)) (with_actions (pending_actions side (e ∷ log))) (e ∷ log))
+    at true o = rw (m, o) (driver-sent side e log m o (pending_actions side (e ∷ log)) (e ∷ log) ([], refl) (driver-causes side e log m o) p)
+    at false o = rw (m, o) p
+
+keeps-sent : (side : Side) (turn : Turn) → Keeps side turn (ActionsHaveCauses side)
+keeps-sent side turn = record {
+  event = λ log e o b p. flush-sent side (Reported e) log refl p;
+  late = λ log e o b p. p;
+  byte = λ log id b o r p. flush-sent side (Received id b) log refl p;
+  call = λ log own r c d p. flush-sent side (Called r) (with_actions own log) refl (own-sent side turn own log c p);
+}
+
+pub actions-have-causes : (side : Side) (log : Log) → IsReachable side log → ActionsHaveCauses side log
+actions-have-causes side log r = reached (ActionsHaveCauses side) tt (keeps-sent side) log r

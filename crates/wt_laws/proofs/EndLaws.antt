@@ -1,0 +1,272 @@
+-- The end of a connection: its causes, and that what it is told as stays.
+use Rattle.std.specs.Prelude.{[], ◌&&◌, ◌++◌, ◌||◌, ◌∷◌, ◌≡◌, Bool, List, None, Option, Some, drop, false, not, take, true, ℕ}
+use Rattle.std.proofs.Common.{◌∙◌, ap, refl, sym}
+use Rattle.std.proofs.lemmas.Bool.{and_from, and_parts, or_parts, or_right}
+use Rattle.std.proofs.lemmas.List.{append_assoc}
+use Rattle.std.specs.List.{list_any}
+use Rattle.wt_message.specs.FixedBytes.{local_control_bytes}
+use Rattle.wt_seam_spec.specs.Joined.{send_of}
+use Rattle.wt_seam_spec.specs.Reports.{credit, loss_of}
+use Rattle.wt_seam_spec.specs.Streams.{local_uni}
+use Rattle.wt_turn.specs.Log.{Called, Entry, Event, Log, Received, Reported, ReportedLate, Sent, actions_of, calls_of, closes, ends_by, events_of, is_open, loses, with_actions}
+use Rattle.wt_turn.specs.declared.action.Action.{Action}
+use Rattle.wt_turn.specs.declared.connection_error.ConnectionError.{ConnectionError}
+use Rattle.wt_turn.specs.declared.turn.Turn.{Turn}
+use Rattle.wt_wire.specs.Codes.{code_of}
+use Rattle.wt_wire.specs.declared.side.Side.{Side}
+use Rattle.wt_laws.proofs.Facts.{open-before, open-event}
+use Rattle.wt_laws.proofs.Reached.{keeps-turn, reached}
+use Rattle.wt_laws.proofs.Steps.{Keeps, blind-flush, by-entries}
+use Rattle.wt_laws.specs.Causes.{ActionCause, OwnCauses}
+use Rattle.wt_laws.specs.Laws.{ByDriver, ByLoss, ClosedByCall, EndedBy, FaultCloses, OpenExactly, ResultStays}
+use Rattle.wt_laws.specs.Reachable.{IsReachable}
+use Rattle.wt_spec.specs.Answers.{is_lawful}
+use Rattle.wt_spec.specs.Driver.{ControlSent, apply_if, call_view, close_actions, control_actions, control_sent, established, flush, is_moment, log_and_flush, opened_if, pending_actions, reset_if, session_id, stop_actions, stream_table, transport_view}
+use Rattle.wt_spec.specs.Effect.{driver_error, error_of_ending, loss_or_local, transport_error}
+use Rattle.wt_spec.specs.Scan.{scan_order}
+use Rattle.wt_spec.specs.StreamTable.{ByFault, BySession, Ending, Stopped, StreamTable}
+use Rattle.wt_turn.specs.declared.action.Action.TheVariants as actions
+use Rattle.wt_wire.specs.declared.error.ErrorCode.TheVariants as h3
+
+-- ---- what the driver sends closes only for an ending
+
+none-of : (f : Action → Bool) (xs ys : List Action) → list_any f xs ≡ false → list_any f ys ≡ false → list_any f (xs ++ ys) ≡ false
+none-of f [] ys p q = q
+none-of f (x ∷ xs) ys p q = at-head (f x) (list_any f xs) (list_any f (xs ++ ys)) p (λ r. none-of f xs ys r q)
+  where
+    at-head : (b c d : Bool) → (b || c) ≡ false → (c ≡ false → d ≡ false) → (b || d) ≡ false
+    at-head true c d h g = cc
+    at-head false c d h g = g h
+
+send-closes : (k : ℕ) (bytes : List ℕ) → list_any closes (send_of k bytes) ≡ false
+send-closes k [] = refl
+send-closes k (b ∷ bytes) = refl
+
+opened-closes : (b : Bool) (id : ℕ) → list_any closes (opened_if b id) ≡ false
+opened-closes true id = refl
+opened-closes false id = refl
+
+control-closes : (b : Bool) (id credit : ℕ) (s : ControlSent) → list_any closes (control_actions b id credit s) ≡ false
+control-closes false id credit s = refl
+control-closes true id credit s = none-of closes (opened_if (not s.opened) id) (send_of id (drop s.sent (take credit local_control_bytes))) (opened-closes (not s.opened) id) (send-closes id (drop s.sent (take credit local_control_bytes)))
+
+stops-close : (xs : List Stopped) → list_any closes (stop_actions xs) ≡ false
+stops-close [] = refl
+stops-close (x ∷ xs) = stops-close xs
+
+ending-closes : (s : ℕ) (o : Option Ending) → o ≡ None → list_any closes (close_actions s o) ≡ false
+ending-closes s None e = refl
+ending-closes s (Some x) e = absurd (cc)
+
+-- what goes out before the close
+unfoldable pub before-close : Side → Log → List Action
+before-close side log =
+    control_actions (transport_view side log).may_open (local_uni side) (transport_view side log).credit (control_sent side log) ++ stop_actions (stream_table side log).progress.stops
+
+pub before-closes : (side : Side) (log : Log) → list_any closes (before-close side log) ≡ false
+unfolding before-close
+before-closes side log =
+    none-of closes (control_actions (transport_view side log).may_open (local_uni side) (transport_view side log).credit (control_sent side log)) (stop_actions (stream_table side log).progress.stops)
+    (control-closes (transport_view side log).may_open (local_uni side) (transport_view side log).credit (control_sent side log)) (stops-close (stream_table side log).progress.stops)
+
+none-closes : (side : Side) (log : Log) → (stream_table side log).progress.ending ≡ None → list_any closes (pending_actions side log) ≡ false
+unfolding before-close
+none-closes side log e =
+    none-of closes (before-close side log) (close_actions (session_id (established (calls_of log))) (stream_table side log).progress.ending)
+    (before-closes side log)
+    (ending-closes (session_id (established (calls_of log))) (stream_table side log).progress.ending e)
+
+pub fault-closes : (side : Side) (log : Log) → FaultCloses side log
+unfolding before-close
+fault-closes side log = record {
+  fault = λ code e. (before-close side log, ap (λ o. before-close side log ++ close_actions (session_id (established (calls_of log))) o) e);
+  session = λ code reason b e. (
+    before-close side log ++ reset_if b (session_id (established (calls_of log))),
+    ap (λ o. before-close side log ++ close_actions (session_id (established (calls_of log))) o) e ∙ sym (append_assoc (before-close side log) (reset_if b (session_id (established (calls_of log)))) (actions.Close (code_of h3.NoError) [] ∷ [])),
+  );
+  none = none-closes side log;
+}
+
+-- ---- open before, open after
+
+closed-by : (as_ : List Action) (log : Log) → is_open (with_actions as_ log) ≡ true → is_open log ≡ true
+closed-by [] log o = o
+closed-by (a ∷ as_) log o = open-before a log (closed-by as_ (Sent a ∷ log) o)
+
+open-none : (as_ : List Action) (log : Log) → is_open (with_actions as_ log) ≡ true → list_any closes as_ ≡ false
+open-none [] log o = refl
+open-none (a ∷ as_) log o = or-none (closes a) (list_any closes as_) (closed-by as_ (Sent a ∷ log) o) (open-none as_ (Sent a ∷ log) o)
+  where
+    or-none : (b c : Bool) → not (b || list_any ends_by log) ≡ true → c ≡ false → (b || c) ≡ false
+    or-none true c o e = absurd (cc)
+    or-none false c o e = e
+
+still-open : (as_ : List Action) (log : Log) → list_any closes as_ ≡ false → is_open (with_actions as_ log) ≡ is_open log
+still-open [] log c = refl
+still-open (a ∷ as_) log c =
+    let p = or_parts (closes a) (list_any closes as_) c in
+    still-open as_ (Sent a ∷ log) p.1 ∙ ap (λ b. not (b || list_any ends_by log)) p.0
+
+-- ---- the causes
+
+record EndFacts (side : Side) (log : Log) : Type 0 where
+  pub closed : is_open log ≡ false → EndedBy side log
+  pub no_fault : is_open log ≡ true → (stream_table side log).progress.ending ≡ None
+
+same-table : (side : Side) (a : Action) (log : Log) → stream_table side (Sent a ∷ log) ≡ stream_table side log
+unfolding stream_table
+same-table side a log = refl
+
+-- a closed connection scans no more
+closed-table : (side : Side) (e : Entry) (log : Log) → is_open (e ∷ log) ≡ false → stream_table side (e ∷ log) ≡ stream_table side log
+unfolding stream_table
+closed-table side e log c = at (is_moment e) (is_open (e ∷ log)) c
+  where
+    at : (m o : Bool) → o ≡ false → apply_if (m && o) (scan_order (transport_view side (e ∷ log)) (call_view (e ∷ log))) (stream_table side log) ≡ stream_table side log
+    at true o c = rw c refl
+    at false o c = refl
+
+late-table : (side : Side) (e : Event) (log : Log) → stream_table side (ReportedLate e ∷ log) ≡ stream_table side log
+unfolding stream_table
+late-table side e log = refl
+
+events-more : (e : Entry) (log : Log) → list_any loses (events_of log) ≡ true → list_any loses (events_of (e ∷ log)) ≡ true
+events-more (Reported e) log p = or_right (loses e) _ p
+events-more _ log p = p
+
+ended-more : (side : Side) (e : Entry) (log : Log) → is_open log ≡ false → stream_table side (e ∷ log) ≡ stream_table side log → EndedBy side log → EndedBy side (e ∷ log)
+ended-more side e log c t (ByLoss l) = ByLoss (events-more e log l)
+ended-more side e log c t (ClosedByCall g turn code reason w x) = ClosedByCall g turn code reason w (e ∷ x.0, ap (λ z. e ∷ z) x.1)
+ended-more side e log c t (ByDriver x q) = ByDriver x (ap (λ (z : StreamTable). z.progress.ending) t ∙ q)
+
+-- an own action
+closed-own : (side : Side) (turn : Turn) (a : Action) (log : Log) → ActionCause side turn log a → EndFacts side log → is_open (Sent a ∷ log) ≡ false → EndedBy side (Sent a ∷ log)
+closed-own side turn (actions.Close code reason) log c f o = ClosedByCall log turn code reason c.1 ([], refl)
+closed-own side turn _ log c f o = ended-more side _ log o (same-table side _ log) (f.closed o)
+
+end-own : (side : Side) (turn : Turn) (a : Action) (log : Log) → ActionCause side turn log a → EndFacts side log → EndFacts side (Sent a ∷ log)
+end-own side turn a log c f = record {
+  closed = closed-own side turn a log c f;
+  no_fault = λ o. ap (λ (z : StreamTable). z.progress.ending) (same-table side a log) ∙ f.no_fault (open-before a log o);
+}
+
+end-owns : (side : Side) (turn : Turn) (own : List Action) (log : Log) → OwnCauses side turn log own → EndFacts side log → EndFacts side (with_actions own log)
+end-owns side turn [] log c f = f
+end-owns side turn (a ∷ own) log c f = end-owns side turn own (Sent a ∷ log) c.1 (end-own side turn a log c.0 f)
+
+same-flushed : (side : Side) (e : Entry) (log : Log) → stream_table side (log_and_flush side log e) ≡ stream_table side (e ∷ log)
+unfolding stream_table
+same-flushed side e log = blind-flush (stream_table side) (λ a g. refl) side e log
+
+-- what a moment leaves: closed where it found an ending
+flushed : (side : Side) (log : Log) (b : Bool) → (is_open log ≡ false → EndedBy side log) → ((b ≡ false) → is_open log ≡ true → (stream_table side log).progress.ending ≡ None) → (b ≡ true → is_open log ≡ true)
+    → (o : Option Ending) → (stream_table side log).progress.ending ≡ o → stream_table side (apply_if b (with_actions (pending_actions side log)) log) ≡ stream_table side log → EndFacts side (apply_if b (with_actions (pending_actions side log)) log)
+flushed side log false f g h o e t = record { closed = f; no_fault = g refl }
+flushed side log true f g h None e t = record {
+  closed = λ c. absurd (let x = still-open (pending_actions side log) log ((fault-closes side log).none e) in let y = h refl in cc);
+  no_fault = λ p. ap (λ (z : StreamTable). z.progress.ending) t ∙ e;
+}
+flushed side log true f g h (Some x) e t = record {
+  closed = λ c. ByDriver x (ap (λ (z : StreamTable). z.progress.ending) t ∙ e);
+  no_fault = λ p. absurd (let y = open-none (pending_actions side log) log p in let z = ending-shown side log x e in cc);
+}
+  where
+    any-later : (xs ys : List Action) → list_any closes ys ≡ true → list_any closes (xs ++ ys) ≡ true
+    any-later [] ys p = p
+    any-later (a ∷ xs) ys p = or_right (closes a) _ (any-later xs ys p)
+
+    ending-shown : (side : Side) (log : Log) (x : Ending) → (stream_table side log).progress.ending ≡ Some x → list_any closes (pending_actions side log) ≡ true
+    ending-shown side log (ByFault code) e = let w = (fault-closes side log).fault code e in rw w.1 (any-later w.0 (actions.Close (code_of code) [] ∷ []) refl)
+    ending-shown side log (BySession code reason b) e = let w = (fault-closes side log).session code reason b e in rw w.1 (any-later w.0 (actions.Close (code_of h3.NoError) [] ∷ []) refl)
+
+end-flush : (side : Side) (e : Entry) (log : Log) → (is_open (e ∷ log) ≡ false → EndedBy side (e ∷ log)) → (is_moment e ≡ true) → EndFacts side (log_and_flush side log e)
+unfolding flush
+end-flush side e log f m =
+    flushed side (e ∷ log) (is_moment e && is_open (e ∷ log)) f (λ b o. absurd (let x = and_from (is_moment e) (is_open (e ∷ log)) m o in cc)) (λ b. (and_parts (is_moment e) _ b).1)
+    (stream_table side (e ∷ log)).progress.ending refl (same-flushed side e log)
+
+keeps-end : (side : Side) (turn : Turn) → Keeps side turn (EndFacts side)
+keeps-end side turn = record {
+  event = λ log e o b f. end-flush side (Reported e) log (λ c. ByLoss (lost e log o c)) refl;
+  late = λ log e o b f. record { closed = λ c. ended-more side (ReportedLate e) log o (late-table side e log) (f.closed o); no_fault = λ c. absurd (cc) };
+  byte = λ log id b o r f. end-flush side (Received id b) log (λ c. absurd (cc)) refl;
+  call = λ log own r c d f.
+      let g = end-owns side turn own log c f in
+      end-flush side (Called r) (with_actions own log) (λ o. ended-more side (Called r) (with_actions own log) o (closed-table side (Called r) (with_actions own log) o) (g.closed o)) refl;
+}
+  where
+    lost : (e : Event) (log : Log) → is_open log ≡ true → is_open (Reported e ∷ log) ≡ false → list_any loses (events_of (Reported e ∷ log)) ≡ true
+    lost e log o c = at (loses e) (list_any ends_by log) o c
+      where
+        at : (b d : Bool) → not d ≡ true → not (b || d) ≡ false → (b || list_any loses (events_of log)) ≡ true
+        at true d o c = refl
+        at false d o c = absurd (cc)
+
+first-end : (side : Side) → EndFacts side []
+unfolding stream_table
+first-end side = record { closed = λ c. absurd (cc); no_fault = λ o. refl }
+
+-- an open connection was neither lost nor closed
+none-lost : (log : Log) → is_open log ≡ true → (list_any loses (events_of log) ≡ false) × (list_any closes (actions_of log) ≡ false)
+none-lost [] o = (refl, refl)
+none-lost (Received id b ∷ log) o = none-lost log o
+none-lost (ReportedLate e ∷ log) o = none-lost log o
+none-lost (Called r ∷ log) o = none-lost log o
+none-lost (Reported e ∷ log) o = let p = none-lost log (open-event e log o) in (or-none (loses e) (list_any ends_by log) _ o p.0, p.1)
+  where
+    or-none : (b d c : Bool) → not (b || d) ≡ true → c ≡ false → (b || c) ≡ false
+    or-none true d c o e = absurd (cc)
+    or-none false d c o e = e
+none-lost (Sent a ∷ log) o = let p = none-lost log (open-before a log o) in (p.0, or-none (closes a) (list_any ends_by log) _ o p.1)
+  where
+    or-none : (b d c : Bool) → not (b || d) ≡ true → c ≡ false → (b || c) ≡ false
+    or-none true d c o e = absurd (cc)
+    or-none false d c o e = e
+
+pub open-exactly : (side : Side) (log : Log) → IsReachable side log → OpenExactly side log
+open-exactly side log r =
+    let f = reached (EndFacts side) (first-end side) (keeps-end side) log r in
+    record { closed = f.closed; no_loss = λ o. (none-lost log o).0; no_close = λ o. (none-lost log o).1; no_fault = f.no_fault }
+
+-- ---- what it is told as
+
+record ToldAs (side : Side) (d t : ConnectionError) (log : Log) : Type 0 where
+  pub closed : is_open log ≡ false
+  pub driver : driver_error side log ≡ d
+  pub transport : transport_error log ≡ t
+
+told-entry : (side : Side) (d t : ConnectionError) (e : Entry) (log : Log) → is_open (e ∷ log) ≡ false → events_of (e ∷ log) ≡ events_of log → stream_table side (e ∷ log) ≡ stream_table side log → ToldAs side d t log → ToldAs side d t (e ∷ log)
+told-entry side d t e log o v s p = record {
+  closed = o;
+  driver = by-table (stream_table side (e ∷ log)) (stream_table side log) s (transport_error (e ∷ log)) (transport_error log) (ap (λ es. loss_or_local (loss_of es)) v) ∙ p.driver;
+  transport = ap (λ es. loss_or_local (loss_of es)) v ∙ p.transport;
+}
+  where
+    by-ending : (o : Option Ending) → transport_error (e ∷ log) ≡ transport_error log → error_of_ending (e ∷ log) o ≡ error_of_ending log o
+    by-ending None q = q
+    by-ending (Some (ByFault code)) q = refl
+    by-ending (Some (BySession code reason b)) q = refl
+
+    by-table : (a b : StreamTable) → a ≡ b → (x y : ConnectionError) → transport_error (e ∷ log) ≡ transport_error log → error_of_ending (e ∷ log) a.progress.ending ≡ error_of_ending log b.progress.ending
+    by-table a b s x y q = by-ending a.progress.ending q ∙ ap (λ (z : StreamTable). error_of_ending log z.progress.ending) s
+
+closed-action : (a : Action) (log : Log) → is_open log ≡ false → is_open (Sent a ∷ log) ≡ false
+closed-action a log o = at (closes a) (list_any ends_by log) o
+  where
+    at : (b d : Bool) → not d ≡ false → not (b || d) ≡ false
+    at true d o = refl
+    at false d o = o
+
+keeps-told : (side : Side) (turn : Turn) (d t : ConnectionError) → Keeps side turn (ToldAs side d t)
+keeps-told side turn d t = by-entries (record {
+  action = λ log a p. told-entry side d t (Sent a) log (closed-action a log p.closed) refl (same-table side a log) p;
+  event = λ log e o b p. absurd (let x = p.closed in cc);
+  late = λ log e o b p. told-entry side d t (ReportedLate e) log p.closed refl (late-table side e log) p;
+  byte = λ log id b o r p. absurd (let x = p.closed in cc);
+  record_ = λ log r c p. told-entry side d t (Called r) log p.closed refl (closed-table side (Called r) log p.closed) p;
+})
+
+pub result-stays : (side : Side) (log : Log) (turn : Turn) → is_lawful side log turn ≡ true → is_open log ≡ false → ResultStays side log turn
+result-stays side log turn l o =
+    let p = keeps-turn (keeps-told side turn (driver_error side log) (transport_error log)) log l (record { closed = o; driver = refl; transport = refl }) in
+    record { closed = p.closed; driver = p.driver; transport = p.transport }

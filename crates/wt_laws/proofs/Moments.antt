@@ -1,0 +1,208 @@
+-- What each moment keeps of the driver's table: a property that every way of writing the table keeps.
+use Rattle.std.specs.Prelude.{[], ◌%◌, ◌&&◌, ◌*◌, ◌+◌, ◌/◌, ◌<◌, ◌==◌, ◌||◌, ◌∷◌, ◌≡◌, Bool, Err, List, None, Ok, Option, Result, Some, drop, false, if◌then◌else◌, is_some, nat_lt, slice_get, suc, true, zero, ℕ}
+use Rattle.std.proofs.Common.{arith, refl, subst}
+use Rattle.std.proofs.lemmas.Bool.{eq-eqb, lt-ltb, ltb-true}
+use Rattle.wt_proto.specs.Bi.{bi_verdict_of}
+use Rattle.wt_message.specs.Datagram.{datagram_of}
+use Rattle.wt_proto.specs.SessionWalk.{session_walk_of}
+use Rattle.wt_proto.specs.Uni.{is_final, uni_verdict_of}
+use Rattle.wt_proto.specs.declared.session_walk.SessionWalk.{SessionWalk}
+use Rattle.wt_proto.specs.declared.verdict.Verdict.{Verdict}
+use Rattle.wt_seam_spec.specs.Reports.{datagrams_of, end_of}
+use Rattle.wt_seam_spec.specs.Streams.{contents, peer_bi, peer_count, peer_uni}
+use Rattle.wt_turn.specs.Log.{Entry, Log, events_of, is_open}
+use Rattle.wt_wire.specs.declared.error.ErrorCode.{ErrorCode}
+use Rattle.wt_wire.specs.declared.side.Side.{Side}
+use Rattle.wt_wire.specs.declared.side.Side.TheVariants.{Client, Server}
+use Rattle.wt_laws.specs.Reachable.{is_among}
+use Rattle.wt_spec.specs.Driver.{apply_if, call_view, is_moment, stream_table, transport_view}
+use Rattle.wt_spec.specs.Scan.{Scan, SlotRule, bi_ids, bi_rule, check_control, check_datagram, check_qpack, check_session, checks, classify, critical_if, dequeue, dequeued_datagram, ended_by, has, in_order, parsed_datagram, scan, scan_bis, scan_order, scan_unis, session_ends, stream_ids, uni_ids, uni_rule, unless_ended, visit, with_classified, with_fault, without_stops}
+use Rattle.wt_spec.specs.StreamTable.{ByFault, BySession, CallView, Consequence, Dispatched, Ending, Progress, StreamTable, TransportView, bi_consequence, dispatched, uni_consequence, verdict_of}
+use Rattle.wt_wire.specs.declared.error.ErrorCode.TheVariants as h3
+use Rattle.wt_proto.specs.declared.session_walk.SessionWalk.TheVariants as walks
+
+-- ---- the ways in which a moment writes the table
+
+-- why a stream is classified, at the table so far, and why one more datagram is dequeued
+pub record Causes : Type 1 where
+  pub classified : StreamTable → ℕ → Verdict → Consequence → Type 0
+  pub datagram : ℕ → Type 0
+
+abbrev pub with_progress : StreamTable → Progress → StreamTable
+with_progress t p = record t { progress = p }
+
+-- a property that each way keeps
+pub record IsKept (c : Causes) (P : StreamTable → Type 0) : Type 0 where
+  pub by_ending : (t : StreamTable) (e : Ending) → P t → P (with_progress t (ended_by e t.progress))
+  pub by_moment : (t : StreamTable) → P t → P (without_stops t)
+  pub by_settings : (t : StreamTable) (b : Bool) → P t → P (with_progress t (record t.progress { settings = t.progress.settings || b }))
+  pub by_datagram : (t : StreamTable) → c.datagram t.progress.datagrams → P t → P (with_progress t (record t.progress { datagrams = suc t.progress.datagrams }))
+  pub by_dequeued : (t : StreamTable) (k : ℕ) → P t → P (record t { dequeued = k ∷ t.dequeued })
+  pub by_classified : (t : StreamTable) (k : ℕ) (v : Verdict) (e : Consequence) → c.classified t k v e → verdict_of k t.classified ≡ None → P t → P (with_classified k v e t)
+
+abbrev pub KeepsTable : (StreamTable → Type 0) → (StreamTable → StreamTable) → Type 0
+KeepsTable P f = (t : StreamTable) → P t → P (f t)
+
+-- ---- the scan
+
+-- why the stream is classified by this rule
+abbrev pub CausedBy : Causes → CallView → SlotRule → ℕ → Type 0
+CausedBy c calls rule k =
+    is_final (rule.verdict k) ≡ true → (t : StreamTable) → c.classified t k (rule.verdict k) (rule.consequence (dispatched calls t.classified) k (rule.verdict k))
+
+abbrev pub AllCaused : Causes → CallView → SlotRule → List ℕ → Type 0
+AllCaused c calls rule [] = Unit {0}
+AllCaused c calls rule (k ∷ ks) = CausedBy c calls rule k × AllCaused c calls rule ks
+
+module _ {c : Causes} (P : StreamTable → Type 0) (i : IsKept c P) (calls : CallView) (rule : SlotRule) where
+  kept-classify : (b : Bool) (k : ℕ) (s : Scan) → is_final (rule.verdict k) ≡ b → CausedBy c calls rule k → verdict_of k s.table.classified ≡ None → P s.table → P (classify b calls rule k s).table
+  kept-classify false k s f q e p = p
+  kept-classify true k s f q e p = i.by_classified s.table k (rule.verdict k) _ (q f s.table) e p
+
+  kept-dequeued : (b : Bool) (k : ℕ) (t : StreamTable) → P t → P (record t { dequeued = if b then t.dequeued else k ∷ t.dequeued })
+  kept-dequeued true k t p = p
+  kept-dequeued false k t p = i.by_dequeued t k p
+
+  kept-dequeue : (b : Bool) (k : ℕ) (s : Scan) → CausedBy c calls rule k → verdict_of k s.table.classified ≡ None → P s.table → P (dequeue b calls rule k s).table
+  kept-dequeue false k s q e p = p
+  kept-dequeue true k s q e p = kept-classify (is_final (rule.verdict k)) k _ refl q e (kept-dequeued (has k s.table.dequeued) k s.table p)
+
+  kept-visit : (ready : Bool) (k : ℕ) (o : Option Verdict) (s : Scan) → CausedBy c calls rule k → verdict_of k s.table.classified ≡ o → P s.table → P (visit ready calls rule k o s).table
+  kept-visit ready k (Some v) s q e p = p
+  kept-visit ready k None s q e p = kept-dequeue (has k s.table.dequeued || (ready && nat_lt s.occupied rule.slots)) k s q e p
+
+  kept-unless : (f : Scan → Scan) → ((s : Scan) → P s.table → P (f s).table) → (o : Option Ending) (s : Scan) → P s.table → P (unless_ended o f s).table
+  kept-unless f g None s p = g s p
+  kept-unless f g (Some e) s p = p
+
+  kept-scan : (ready : Bool) (ks : List ℕ) (s : Scan) → AllCaused c calls rule ks → P s.table → P (scan ready calls rule ks s).table
+  kept-scan ready [] s a p = p
+  kept-scan ready (k ∷ ks) s a p =
+      kept-unless (λ u. scan ready calls rule ks (visit ready calls rule k (verdict_of k u.table.classified) u))
+      (λ u q. kept-scan ready ks _ a.1 (kept-visit ready k (verdict_of k u.table.classified) u a.0 refl q)) s.table.progress.ending s p
+
+-- ---- the checks
+
+module _ {c : Causes} (P : StreamTable → Type 0) (i : IsKept c P) (table : StreamTable) where
+  abbrev At : Progress → Type 0
+  At p = P (with_progress table p)
+
+  kept-critical : (b : Bool) (p : Progress) → At p → At (critical_if b p)
+  kept-critical true p h = i.by_ending (with_progress table p) (ByFault h3.ClosedCriticalStream) h
+  kept-critical false p h = h
+
+  kept-parsed : (r : Result (ℕ × List ℕ) ErrorCode) (p : Progress) → At p → At (parsed_datagram r p)
+  kept-parsed (Ok d) p h = h
+  kept-parsed (Err code) p h = i.by_ending (with_progress table p) (ByFault code) h
+
+  kept-datagram : (o : Option (List ℕ)) (p : Progress) → (is_some o ≡ true → c.datagram p.datagrams) → At p → At (dequeued_datagram o p)
+  kept-datagram None p q h = h
+  kept-datagram (Some piece) p q h = kept-parsed (datagram_of piece) (record p { datagrams = suc p.datagrams }) (i.by_datagram (with_progress table p) (q refl) h)
+
+  kept-check-datagram : (b : Bool) (t : TransportView) (p : Progress) → ((n : ℕ) → is_some (t.datagram n) ≡ true → c.datagram n) → At p → At (check_datagram b t p)
+  kept-check-datagram true t p q h = kept-datagram (t.datagram p.datagrams) p (q p.datagrams) h
+  kept-check-datagram false t p q h = h
+
+  kept-session-ends : (w : SessionWalk) (b : Bool) (p : Progress) → At p → At (session_ends w b p)
+  kept-session-ends walks.Running b p h = h
+  kept-session-ends (walks.Closed code reason) b p h = i.by_ending (with_progress table p) (BySession code reason b) h
+  kept-session-ends (walks.Fault code) b p h = i.by_ending (with_progress table p) (ByFault code) h
+
+  kept-session : (t : TransportView) (o : Option (ℕ × ℕ)) (p : Progress) → At p → At (check_session t o p)
+  kept-session t None p h = h
+  kept-session t (Some s) p h = kept-session-ends (session_walk_of (drop s.1 (t.contents s.0)) (t.end s.0)) _ p h
+
+  kept-with-fault : (o : Option ErrorCode) (p : Progress) → At p → At (with_fault o p)
+  kept-with-fault None p h = h
+  kept-with-fault (Some code) p h = i.by_ending (with_progress table p) (ByFault code) h
+
+  kept-control : (t : TransportView) (o : Option (ℕ × ℕ)) (p : Progress) → At p → At (check_control t o p)
+  kept-control t None p h = h
+  kept-control t (Some x) p h = kept-with-fault _ _ (i.by_settings (with_progress table p) _ h)
+
+  kept-qpack : (t : TransportView) (o : Option (ℕ × ℕ)) (p : Progress) → At p → At (check_qpack t o p)
+  kept-qpack t None p h = h
+  kept-qpack t (Some x) p h = kept-critical _ p h
+
+  abbrev AllKeep : List (Progress → Progress) → Type 0
+  AllKeep [] = Unit {0}
+  AllKeep (f ∷ fs) = ((p : Progress) → At p → At (f p)) × AllKeep fs
+
+  kept-check : (f : Progress → Progress) → ((p : Progress) → At p → At (f p)) → (o : Option Ending) (p : Progress) → At p → At (unless_ended o f p)
+  kept-check f g None p h = g p h
+  kept-check f g (Some e) p h = h
+
+  kept-in-order : (fs : List (Progress → Progress)) → AllKeep fs → (p : Progress) → At p → At (in_order fs p)
+  kept-in-order [] a p h = h
+  kept-in-order (f ∷ fs) a p h = kept-in-order fs a.1 _ (kept-check f a.0 p.ending p h)
+
+  kept-checks : (t : TransportView) (calls : CallView) (d : Dispatched) (p : Progress) → ((n : ℕ) → is_some (t.datagram n) ≡ true → c.datagram n) → At p → At (in_order (checks t calls d) p)
+  kept-checks t calls d p q h = kept-in-order (checks t calls d) (
+    (λ u g. kept-check-datagram (t.ready && calls.datagrams == u.datagrams) t u q g),
+    (
+      (λ u g. kept-session t calls.session u g),
+      (
+        (λ u g. kept-critical t.control_stopped u g),
+        (
+          (λ u g. kept-control t d.control u g),
+          (
+            (λ u g. kept-qpack t d.encoder u g),
+            ((λ u g. kept-qpack t d.decoder u g), tt),
+          ),
+        ),
+      ),
+    ),
+  ) p h
+
+-- ---- a moment
+
+-- the peer's stream k has this verdict, over all that came for it, and this is what classifying it leads to
+pub data ClassifiedAs (side : Side) (log : Log) (t : StreamTable) (k : ℕ) (v : Verdict) (e : Consequence) : Type 0 where
+  AsUni : is_among (peer_uni side) (peer_count side (events_of log) (peer_uni side)) k ≡ true → uni_verdict_of (contents log k) (end_of (events_of log) k) ≡ v → is_final v ≡ true
+      → e ≡ uni_consequence (dispatched (call_view log) t.classified) k v → ClassifiedAs side log t k v e
+  AsBi : is_among (peer_bi side) (peer_count side (events_of log) (peer_bi side)) k ≡ true → bi_verdict_of (contents log k) (end_of (events_of log) k) ≡ v → is_final v ≡ true
+      → e ≡ bi_consequence (dispatched (call_view log) t.classified) k v → ClassifiedAs side log t k v e
+
+abbrev pub causes : Side → Log → Causes
+causes side log = record { classified = ClassifiedAs side log; datagram = λ n. is_some (slice_get (datagrams_of (events_of log)) n) ≡ true }
+
+is-among : (kind n count : ℕ) → nat_lt kind 4 ≡ true → is_among kind (n + suc count) (4 * n + kind) ≡ true
+is-among kind n count e =
+    let f : kind < 4 = ltb-true kind 4 e in
+    let m : (4 * n + kind) % 4 ≡ kind = omega arith in
+    let d : (4 * n + kind) / 4 < n + suc count = omega arith in
+    rw (eq-eqb ((4 * n + kind) % 4) kind m, lt-ltb ((4 * n + kind) / 4) (n + suc count) d) refl
+
+caused-ids : (c : Causes) (calls : CallView) (rule : SlotRule) (kind n count total : ℕ) → nat_lt kind 4 ≡ true → n + count ≡ total
+    → ((k : ℕ) → is_among kind total k ≡ true → CausedBy c calls rule k) → AllCaused c calls rule (stream_ids kind n count)
+caused-ids c calls rule kind n zero total l e f = tt
+caused-ids c calls rule kind n (suc count) total l e f =
+    (f (4 * n + kind) (subst (λ t. is_among kind t (4 * n + kind) ≡ true) e (is-among kind n count l)), caused-ids c calls rule kind (suc n) count total l (omega arith) f)
+
+small-uni : (side : Side) → nat_lt (peer_uni side) 4 ≡ true
+small-uni Client = refl
+small-uni Server = refl
+
+small-bi : (side : Side) → nat_lt (peer_bi side) 4 ≡ true
+small-bi Client = refl
+small-bi Server = refl
+
+pub kept-moment : (P : StreamTable → Type 0) (side : Side) (log : Log) → IsKept (causes side log) P → (t : StreamTable) → P (without_stops t) → P (scan_order (transport_view side log) (call_view log) t)
+kept-moment P side log i t p =
+    let v = transport_view side log in
+    let calls = call_view log in
+    let unis = kept-scan P i calls (uni_rule v) v.ready (uni_ids v) (record { occupied = 0; table = without_stops t })
+    (caused-ids (causes side log) calls (uni_rule v) (peer_uni side) 0 v.unis v.unis (small-uni side) (omega arith) (λ k o f u. AsUni o refl f refl)) p in
+    let bis = kept-scan P i calls (bi_rule v) v.ready (bi_ids v) (record { occupied = 0; table = scan_unis v calls (without_stops t) })
+    (caused-ids (causes side log) calls (bi_rule v) (peer_bi side) 0 v.bis v.bis (small-bi side) (omega arith) (λ k o f u. AsBi o refl f refl)) unis in
+    let table = scan_bis v calls (scan_unis v calls (without_stops t)) in
+    kept-checks P i table v calls (dispatched calls table.classified) table.progress (λ n e. e) bis
+
+kept-if : (P : StreamTable → Type 0) (f : StreamTable → StreamTable) → KeepsTable P f → (b : Bool) → KeepsTable P (apply_if b f)
+kept-if P f k true t p = k t p
+kept-if P f k false t p = p
+
+-- one more entry keeps what each way keeps
+pub kept : (P : StreamTable → Type 0) (side : Side) (e : Entry) (log : Log) → IsKept (causes side (e ∷ log)) P → P (stream_table side log) → P (stream_table side (e ∷ log))
+unfolding stream_table
+kept P side e log i p = kept-if P _ (λ t q. kept-moment P side (e ∷ log) i t (i.by_moment t q)) (is_moment e && is_open (e ∷ log)) _ p

@@ -1,0 +1,288 @@
+-- Sessions: established once, and only after SETTINGS and a request or a response with success.
+use Rattle.std.specs.Prelude.{[], ◌==◌, ◌∷◌, ◌≡◌, Bool, List, None, Option, Some, codes, false, if◌then◌else◌, not, true, ℕ}
+use Rattle.std.proofs.Common.{◌∙◌, ap, refl, subst, sym}
+use Rattle.std.proofs.lemmas.Bool.{and_parts, eq-eqb, eqb-true, or_left}
+use Rattle.std.specs.List.{list_any}
+use Rattle.wt_proto.specs.declared.verdict.Verdict.{Verdict}
+use Rattle.wt_seam_spec.specs.Joined.{send_of}
+use Rattle.wt_turn.specs.Log.{BytesRead, CallRecord, Called, ConnectStarted, DatagramReceived, Entry, HandshakeOver, Log, Received, Reported, ReportedLate, RequestDelivered, ResponseStarted, Sent, SessionEstablished, StreamAccepted, calls_of, with_actions}
+use Rattle.wt_turn.specs.declared.action.Action.{Action}
+use Rattle.wt_turn.specs.declared.reply.Reply.{Reply}
+use Rattle.wt_turn.specs.declared.turn.Turn.{Turn}
+use Rattle.wt_wire.specs.HeaderList.{Fields}
+use Rattle.wt_wire.specs.declared.side.Side.{Side}
+use Rattle.wt_laws.proofs.Calls.{caused}
+use Rattle.wt_laws.proofs.Classified.{classified-stays, first-picked, once}
+use Rattle.wt_laws.proofs.Looks.{from-or}
+use Rattle.wt_laws.proofs.Moments.{Causes, IsKept, kept}
+use Rattle.wt_laws.proofs.Reached.{keeps-turn, reached}
+use Rattle.wt_laws.proofs.Steps.{Keeps, KeepsEntries, blind-actions, by-entries, calls-with}
+use Rattle.wt_laws.specs.Causes.{ByAcceptance, ByAnswer, ByRejection, ByResponse, DeliverCause, EstablishCause, EstablishedBy, FromBefore, RecordCause, ResponseFrom, is_under_way}
+use Rattle.wt_laws.specs.Laws.{AfterRequest, AfterResponse, EstablishedHow, EstablishedRightly, GoesOnFrom, OneSession, SessionTold, SessionsRightly, WasDelivered}
+use Rattle.wt_laws.specs.Reachable.{IsReachable}
+use Rattle.wt_laws.specs.Told.{Logged, NoRecord, OneRecord, Tells, ThenPolled, datagram_told, given_stream, is_quiet, read_piece, request_told, session_told}
+use Rattle.wt_spec.specs.Answers.{is_lawful, log_after}
+use Rattle.wt_spec.specs.Connection.{first_of}
+use Rattle.wt_spec.specs.Driver.{call_view, delivers, established, session_id, settings_came, stream_table}
+use Rattle.wt_spec.specs.Effect.{head_left, is_covered}
+use Rattle.wt_spec.specs.Handshake.{HandshakeState, Requested, Responding, handshake_state, request_end, requested, response_head}
+use Rattle.wt_spec.specs.StreamTable.{StreamTable, awaits_delivery, dispatched, is_request, verdict_of}
+use Rattle.wt_turn.specs.declared.reply.Reply.TheVariants as replies
+use Rattle.wt_proto.specs.declared.verdict.Verdict.TheVariants as verdicts
+
+-- ---- SETTINGS stay
+
+settings-kept : (c : Causes) → IsKept c (λ t. t.progress.settings ≡ true)
+settings-kept c = record {
+  by_ending = λ t e p. p;
+  by_moment = λ t p. p;
+  by_settings = λ t b p. or_left t.progress.settings b p;
+  by_datagram = λ t n p. p;
+  by_dequeued = λ t k p. p;
+  by_classified = λ t k v e x n p. p;
+}
+
+pub settings-stay : (side : Side) (e : Entry) (log : Log) → settings_came side log ≡ true → settings_came side (e ∷ log) ≡ true
+settings-stay side e log p = kept (λ t. t.progress.settings ≡ true) side e log (settings-kept _) p
+
+-- a stream whose request could be delivered
+pub record HadRequest (side : Side) (log : Log) (k : ℕ) : Type 0 where
+  pub settings : settings_came side log ≡ true
+  pub headers : Fields
+  pub at : ℕ
+  pub verdict : verdict_of k (stream_table side log).classified ≡ Some (verdicts.Request headers at)
+
+delivered-stays : (side : Side) (e : Entry) (log : Log) (k : ℕ) → HadRequest side log k → HadRequest side (e ∷ log) k
+delivered-stays side e log k w = record { settings = settings-stay side e log w.settings; headers = w.headers; at = w.at; verdict = classified-stays side k _ e log w.verdict }
+
+-- ---- the handshake
+
+-- a request was delivered and isn't answered whole
+abbrev pub has_request : HandshakeState → Bool
+has_request (Requested id) = true
+has_request (Responding accepts head) = true
+has_request _ = false
+
+abbrev IsAcceptance : List ℕ → Type 0
+IsAcceptance head = (headers : Fields) × (head ≡ response_head (codes "200") headers)
+
+pub record Handshakes (side : Side) (log : Log) : Type 0 where
+  pub none_yet : is_under_way (handshake_state (calls_of log)) ≡ true → established (calls_of log) ≡ None
+  pub acceptance : (head : List ℕ) → handshake_state (calls_of log) ≡ Responding true head → IsAcceptance head
+  pub delivered : (k : ℕ) → list_any (delivers k) (calls_of log) ≡ true → HadRequest side log k
+  pub has_one : has_request (handshake_state (calls_of log)) ≡ true → list_any (delivers (requested (calls_of log))) (calls_of log) ≡ true
+
+pub handshakes-same : (side : Side) (e : Entry) (log : Log) → calls_of (e ∷ log) ≡ calls_of log → Handshakes side log → Handshakes side (e ∷ log)
+handshakes-same side e log c f = record {
+  none_yet = rw c f.none_yet;
+  acceptance = rw c f.acceptance;
+  delivered = λ k x. delivered-stays side e log k (f.delivered k (ap (list_any (delivers k)) (sym c) ∙ x));
+  has_one = rw c f.has_one;
+}
+
+-- where a response comes from, a request was delivered
+pub from-request : (turn : Turn) (cs : List CallRecord) (accepts : Bool) (head : List ℕ) → ResponseFrom turn cs accepts head → has_request (handshake_state cs) ≡ true
+from-request turn cs accepts head (ByAcceptance id headers a t h s) = ap has_request s
+from-request turn cs accepts head (ByRejection id a s) = ap has_request s
+from-request turn cs accepts head (FromBefore s) = ap has_request s
+
+pub accepted-head : (side : Side) (turn : Turn) (log : Log) (head : List ℕ) → Handshakes side log → ResponseFrom turn (calls_of log) true head → IsAcceptance head
+accepted-head side turn log head f (ByAcceptance id headers a t h s) = (headers, h)
+accepted-head side turn log head f (ByRejection id a s) = absurd (cc)
+accepted-head side turn log head f (FromBefore s) = f.acceptance head s
+
+new-none : (side : Side) (turn : Turn) (log : Log) (r : CallRecord) → Handshakes side log → RecordCause side turn log r → is_under_way (handshake_state (r ∷ calls_of log)) ≡ true → established (r ∷ calls_of log) ≡ None
+new-none side turn log (SessionEstablished id at) f c e = absurd (cc)
+new-none side turn log HandshakeOver f c e = absurd (cc)
+new-none side turn log (RequestDelivered k) f c e = f.none_yet (ap is_under_way c.under_way)
+new-none side turn log (ResponseStarted accepts head) f c e = f.none_yet c.1
+new-none side turn log (ConnectStarted reserved head) f c e = rw c.0 refl
+new-none side turn log _ f c e = f.none_yet e
+
+new-acceptance : (side : Side) (turn : Turn) (log : Log) (r : CallRecord) (head : List ℕ) → Handshakes side log → RecordCause side turn log r → handshake_state (r ∷ calls_of log) ≡ Responding true head → IsAcceptance head
+new-acceptance side turn log (ResponseStarted accepts h) head f c e =
+    let i : accepts ≡ true = cc in let j : h ≡ head = cc in
+    accepted-head side turn log head f (subst (λ z. ResponseFrom turn (calls_of log) true z) j (subst (λ b. ResponseFrom turn (calls_of log) b h) i c.0))
+new-acceptance side turn log (SessionEstablished id at) head f c e = absurd (cc)
+new-acceptance side turn log HandshakeOver head f c e = absurd (cc)
+new-acceptance side turn log (RequestDelivered k) head f c e = absurd (cc)
+new-acceptance side turn log (ConnectStarted reserved h) head f c e = absurd (cc)
+new-acceptance side turn log _ head f c e = f.acceptance head e
+
+request-verdict : (v : Verdict) → is_request v ≡ true → (headers : Fields) × (at : ℕ) × (v ≡ verdicts.Request headers at)
+request-verdict (verdicts.Request headers at) e = (headers, at, refl)
+request-verdict _ e = absurd (cc)
+
+pub was-delivered : (side : Side) (log : Log) (k : ℕ) → DeliverCause side log k → HadRequest side log k
+was-delivered side log k c = at (settings_came side log) refl c.first
+  where
+    at : (b : Bool) → settings_came side log ≡ b → (if b then (dispatched (call_view log) (stream_table side log).classified).requests else []) ≡ c.queued ∷ c.later → HadRequest side log k
+    at true s e =
+        let keep = awaits_delivery (call_view log).delivered in
+        let p = first-picked keep (λ x. true) (stream_table side log).classified c.queued (once side log) (ap (first_of (λ x. true)) e) in
+        let a = and_parts (not (list_any (delivers c.queued.id) (calls_of log))) _ p.kept_for in
+        let v = request-verdict c.queued.verdict (and_parts (is_request c.queued.verdict) _ a.1).0 in
+        record { settings = s; headers = v.0; at = v.1; verdict = subst (λ j. verdict_of j (stream_table side log).classified ≡ Some c.queued.verdict) c.same p.among ∙ ap Some v.2 }
+    at false s e = absurd (cc)
+
+new-delivered : (side : Side) (turn : Turn) (log : Log) (k : ℕ) (r : CallRecord) → RecordCause side turn log r → delivers k r ≡ true → HadRequest side log k
+new-delivered side turn log k (RequestDelivered id) c e = subst (λ (n : ℕ). HadRequest side log n) (eqb-true id k e) (was-delivered side log id c)
+new-delivered side turn log k _ c e = absurd (cc)
+
+new-has-one : (side : Side) (turn : Turn) (log : Log) (r : CallRecord) → Handshakes side log → RecordCause side turn log r → has_request (handshake_state (r ∷ calls_of log)) ≡ true → list_any (delivers (requested (r ∷ calls_of log))) (r ∷ calls_of log) ≡ true
+new-has-one side turn log (RequestDelivered k) f c e = or_left (k == k) _ (eq-eqb k k refl)
+new-has-one side turn log (ResponseStarted accepts head) f c e = f.has_one (from-request turn (calls_of log) accepts head c.0)
+new-has-one side turn log (SessionEstablished id at) f c e = absurd (cc)
+new-has-one side turn log HandshakeOver f c e = absurd (cc)
+new-has-one side turn log (ConnectStarted reserved head) f c e = absurd (cc)
+new-has-one side turn log _ f c e = f.has_one e
+
+pub handshakes-record : (side : Side) (turn : Turn) (log : Log) (r : CallRecord) → RecordCause side turn log r → Handshakes side log → Handshakes side (Called r ∷ log)
+handshakes-record side turn log r c f = record {
+  none_yet = new-none side turn log r f c;
+  acceptance = λ head e. new-acceptance side turn log r head f c e;
+  delivered = λ k x. delivered-stays side (Called r) log k (from-or (delivers k r) _ (new-delivered side turn log k r c) (f.delivered k) x);
+  has_one = new-has-one side turn log r f c;
+}
+
+pub handshakes-entries : (side : Side) (turn : Turn) → KeepsEntries side turn (Handshakes side)
+handshakes-entries side turn = record {
+  action = λ log a f. handshakes-same side (Sent a) log refl f;
+  event = λ log e o b f. handshakes-same side (Reported e) log refl f;
+  late = λ log e o b f. handshakes-same side (ReportedLate e) log refl f;
+  byte = λ log id b o r f. handshakes-same side (Received id b) log refl f;
+  record_ = λ log r c f. handshakes-record side turn log r c f;
+}
+
+pub keeps-handshakes : (side : Side) (turn : Turn) → Keeps side turn (Handshakes side)
+keeps-handshakes side turn = by-entries (handshakes-entries side turn)
+
+pub handshakes-first : (side : Side) → Handshakes side []
+handshakes-first side = record { none_yet = λ e. refl; acceptance = λ head e. absurd (cc); delivered = λ k e. absurd (cc); has_one = λ e. absurd (cc) }
+
+pub handshakes-hold : (side : Side) (log : Log) → IsReachable side log → Handshakes side log
+handshakes-hold side log r = reached (Handshakes side) (handshakes-first side) (keeps-handshakes side) log r
+
+-- ---- what own actions don't change
+
+pub handshakes-before : (side : Side) (own : List Action) (log : Log) → Handshakes side (with_actions own log) → Handshakes side log
+unfolding stream_table
+handshakes-before side own log f =
+    let c = calls-with own log in
+    let t = blind-actions (stream_table side) (λ a g. refl) own log in
+    record {
+      none_yet = λ e. ap established (sym c) ∙ f.none_yet (ap (λ cs. is_under_way (handshake_state cs)) c ∙ e);
+      acceptance = λ head e. f.acceptance head (ap handshake_state c ∙ e);
+      delivered = λ k x. let y = f.delivered k (ap (list_any (delivers k)) c ∙ x) in
+          record { settings = ap (λ (z : StreamTable). z.progress.settings) (sym t) ∙ y.settings; headers = y.headers; at = y.at; verdict = ap (λ (z : StreamTable). verdict_of k z.classified) (sym t) ∙ y.verdict };
+      has_one = λ e. ap (λ cs. list_any (delivers (requested cs)) cs) (sym c) ∙ f.has_one (ap (λ cs. has_request (handshake_state cs)) c ∙ e);
+    }
+
+-- ---- the law
+
+one-delivered : (side : Side) (turn : Turn) (log : Log) (head : List ℕ) (s : ℕ) → Handshakes side log → ResponseFrom turn (calls_of log) true head → s ≡ requested (calls_of log) → WasDelivered side log s
+one-delivered side turn log head s f x i =
+    let d : list_any (delivers s) (calls_of log) ≡ true = subst (λ (n : ℕ). list_any (delivers n) (calls_of log) ≡ true) (sym i) (f.has_one (from-request turn (calls_of log) true head x)) in
+    let y = f.delivered s d in
+    record { delivered = d; settings = y.settings; headers = y.headers; at = y.at; verdict = y.verdict }
+
+established-how : (side : Side) (turn : Turn) (log : Log) (own : List Action) (s at : ℕ) → Handshakes side log → EstablishCause side turn log own s at → EstablishedHow side log own s at
+established-how side turn log own s at f (ByAnswer head x i c o a) =
+    let h = accepted-head side turn log head f x in
+    let d = one-delivered side turn log head s f x i in
+    AfterRequest h.0 d (a ∙ ap request_end d.verdict)
+    (subst (λ z. is_covered log s (head_left log s z) ≡ true) h.1 c) (subst (λ z. own ≡ send_of s (head_left log s z)) h.1 o)
+established-how side turn log own s at f (ByResponse reserved head fields z w r c i l) = AfterResponse reserved head fields i z l w r c
+
+settings-of : (side : Side) (log : Log) (own : List Action) (s at : ℕ) → EstablishedHow side log own s at → settings_came side log ≡ true
+settings-of side log own s at (AfterRequest headers w e c o) = w.settings
+settings-of side log own s at (AfterResponse reserved head fields i z l w r c) = w
+
+pub established-rightly : (side : Side) (turn : Turn) (log later : Log) (s at : ℕ) → GoesOnFrom (Called (SessionEstablished s at) ∷ log) later → Handshakes side log → EstablishedBy side turn log s at → EstablishedRightly side later s at
+established-rightly side turn log later s at g f c =
+    let h = handshakes-before side c.own c.before (subst (Handshakes side) c.is f) in
+    let how = established-how side turn c.before c.own s at h c.how in
+    record {
+      before = c.before;
+      own = c.own;
+      follows = subst (λ z. GoesOnFrom (Called (SessionEstablished s at) ∷ z) later) c.is g;
+      was_open = c.was_open;
+      settings = settings-of side c.before c.own s at how;
+      none_before = h.none_yet c.under_way;
+      how = how;
+    }
+
+rightly-later : (side : Side) (e : Entry) (log : Log) (s at : ℕ) → EstablishedRightly side log s at → EstablishedRightly side (e ∷ log) s at
+rightly-later side e log s at x = record { before = x.before; own = x.own; follows = (e ∷ x.follows.0, ap (λ z. e ∷ z) x.follows.1); was_open = x.was_open; settings = x.settings; none_before = x.none_before; how = x.how }
+
+record Sessions (side : Side) (log : Log) : Type 0 where
+  pub handshakes : Handshakes side log
+  pub rightly : SessionsRightly side log
+
+begins_at : Option (ℕ × ℕ) → ℕ
+begins_at None = 0
+begins_at (Some s) = s.1
+
+new-session : (side : Side) (turn : Turn) (log : Log) (r : CallRecord) → RecordCause side turn log r → Sessions side log → (s at : ℕ) → established (r ∷ calls_of log) ≡ Some (s, at) → EstablishedRightly side (Called r ∷ log) s at
+unfolding begins_at
+new-session side turn log (SessionEstablished i a) c f s at e =
+    let x : i ≡ s = ap session_id e in let y : a ≡ at = ap begins_at e in
+    subst (λ (n : ℕ). EstablishedRightly side (Called (SessionEstablished i a) ∷ log) n at) x (subst (λ (m : ℕ). EstablishedRightly side (Called (SessionEstablished i a) ∷ log) i m) y
+    (established-rightly side turn log (Called (SessionEstablished i a) ∷ log) i a ([], refl) f.handshakes c))
+new-session side turn log _ c f s at e = rightly-later side _ log s at (f.rightly s at e)
+
+sessions-entries : (side : Side) (turn : Turn) → KeepsEntries side turn (Sessions side)
+sessions-entries side turn = record {
+  action = λ log a f. record { handshakes = handshakes-same side (Sent a) log refl f.handshakes; rightly = λ s at e. rightly-later side (Sent a) log s at (f.rightly s at e) };
+  event = λ log v o b f. record { handshakes = handshakes-same side (Reported v) log refl f.handshakes; rightly = λ s at e. rightly-later side (Reported v) log s at (f.rightly s at e) };
+  late = λ log v o b f. record { handshakes = handshakes-same side (ReportedLate v) log refl f.handshakes; rightly = λ s at e. rightly-later side (ReportedLate v) log s at (f.rightly s at e) };
+  byte = λ log id b o r f. record { handshakes = handshakes-same side (Received id b) log refl f.handshakes; rightly = λ s at e. rightly-later side (Received id b) log s at (f.rightly s at e) };
+  record_ = λ log r c f. record { handshakes = handshakes-record side turn log r c f.handshakes; rightly = new-session side turn log r c f };
+}
+
+pub sessions-rightly : (side : Side) (log : Log) → IsReachable side log → SessionsRightly side log
+sessions-rightly side log r =
+    (reached (Sessions side) (record { handshakes = handshakes-first side; rightly = λ s at e. absurd (cc) }) (λ turn. by-entries (sessions-entries side turn)) log r).rightly
+
+-- ---- at most one
+
+record EstablishedAs (side : Side) (s at : ℕ) (log : Log) : Type 0 where
+  pub handshakes : Handshakes side log
+  pub is : established (calls_of log) ≡ Some (s, at)
+
+no-other : (side : Side) (turn : Turn) (log : Log) (s at : ℕ) (r : CallRecord) → RecordCause side turn log r → EstablishedAs side s at log → established (r ∷ calls_of log) ≡ Some (s, at)
+no-other side turn log s at (SessionEstablished i a) c p =
+    absurd (let n = (handshakes-before side c.own c.before (subst (Handshakes side) c.is p.handshakes)).none_yet c.under_way in
+    let e = ap established (ap calls_of c.is ∙ calls-with c.own c.before) in let q = p.is in cc)
+no-other side turn log s at _ c p = p.is
+
+established-entries : (side : Side) (turn : Turn) (s at : ℕ) → KeepsEntries side turn (EstablishedAs side s at)
+established-entries side turn s at = record {
+  action = λ log a p. record { handshakes = handshakes-same side (Sent a) log refl p.handshakes; is = p.is };
+  event = λ log v o b p. record { handshakes = handshakes-same side (Reported v) log refl p.handshakes; is = p.is };
+  late = λ log v o b p. record { handshakes = handshakes-same side (ReportedLate v) log refl p.handshakes; is = p.is };
+  byte = λ log id b o r p. record { handshakes = handshakes-same side (Received id b) log refl p.handshakes; is = p.is };
+  record_ = λ log r c p. record { handshakes = handshakes-record side turn log r c p.handshakes; is = no-other side turn log s at r c p };
+}
+
+pub one-session : (side : Side) (log : Log) (turn : Turn) → IsReachable side log → is_lawful side log turn ≡ true → OneSession side log turn
+one-session side log turn r l s at e =
+    (keeps-turn (by-entries (established-entries side turn s at)) log l (record { handshakes = handshakes-hold side log r; is = e })).is
+
+-- ---- the reply
+
+tells-session : (turn : Turn) (s : ℕ) (reply : Reply) → reply ≡ replies.Session s → (r : CallRecord) → Tells turn r reply → (at : ℕ) × ((cs : List CallRecord) → established (r ∷ cs) ≡ Some (s, at))
+tells-session turn s reply e (SessionEstablished i a) t = let q = ap session_told e in let x : i ≡ s = cc in (a, λ cs. ap (λ n. Some (n, a)) x)
+tells-session turn s reply e (BytesRead k n) t = absurd (let y = ap read_piece e in let z = t.1 in cc)
+tells-session turn s reply e (StreamAccepted k) t = absurd (let y = ap given_stream e in cc)
+tells-session turn s reply e DatagramReceived t = absurd (let y = ap datagram_told e in let z = t.1 in cc)
+tells-session turn s reply e (RequestDelivered k) t = absurd (let y = ap request_told e in cc)
+tells-session turn s reply e _ t = absurd (let y = ap is_quiet e in cc)
+
+told-by : (turn : Turn) (s : ℕ) (before after : List CallRecord) (reply : Reply) → reply ≡ replies.Session s → Logged turn before after reply → (at : ℕ) × (established after ≡ Some (s, at))
+told-by turn s before after reply e (NoRecord c q) = absurd (let x = ap is_quiet e in cc)
+told-by turn s before after reply e (OneRecord r c t) = let x = tells-session turn s reply e r t in (x.0, ap established c ∙ x.1 before)
+told-by turn s before after reply e (ThenPolled r c t) = let x = tells-session turn s reply e r t in (x.0, ap established c ∙ x.1 before)
+
+pub session-told : (side : Side) (log : Log) (turn : Turn) → is_lawful side log turn ≡ true → SessionTold side log turn
+session-told side log turn l s e = let c = caused side turn log l in told-by turn s (calls_of c.decided) (calls_of (log_after side log turn)) _ e c.logged

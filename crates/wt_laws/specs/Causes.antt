@@ -1,0 +1,270 @@
+-- Why a call records what it does, and why it sends what it does: each record and each action has one of these causes.
+use Rattle.std.specs.Prelude.{[], ◌%◌, ◌*◌, ◌/◌, ◌==◌, ◌||◌, ◌∷◌, ◌≡◌, ◌≢◌, ◌≤◌, Bool, List, None, Ok, Option, Some, bytes_eq, codes, false, if◌then◌else◌, length, nat_lt, true, ℕ}
+use Rattle.url.specs.Parser.{parse_url}
+use Rattle.url.specs.Parts.{Parts, host_or_empty}
+use Rattle.wt_message.specs.Datagram.{datagram_bytes}
+use Rattle.wt_proto.specs.ResponseWalk.{response_walk_of}
+use Rattle.wt_seam_spec.specs.Joined.{send_of}
+use Rattle.wt_seam_spec.specs.Outgoing.{covered, may_open, next_id, opening}
+use Rattle.wt_seam_spec.specs.Reports.{datagram_fact, end_of, stop_of}
+use Rattle.wt_seam_spec.specs.Sent.{is_finished, is_reset}
+use Rattle.wt_seam_spec.specs.Streams.{contents, local_bi, local_count, local_uni, peer_bi, peer_uni}
+use Rattle.wt_turn.specs.Log.{BytesRead, CallRecord, ConnectStarted, DatagramPassed, DatagramReceived, HandshakeOver, Log, OpeningFailed, OpeningStarted, Polled, PrioritySet, RequestDelivered, ResetUnsent, ResponseStarted, Sent, SessionEstablished, StreamAccepted, StreamGivenUp, StreamPassed, actions_of, calls_of, events_of, is_open, with_actions}
+use Rattle.wt_turn.specs.declared.action.Action.{Action}
+use Rattle.wt_turn.specs.declared.turn.Turn.{Turn}
+use Rattle.wt_wire.specs.Codes.{code_of}
+use Rattle.wt_wire.specs.HeaderList.{Fields}
+use Rattle.wt_wire.specs.declared.addr.Addr.{Addr}
+use Rattle.wt_wire.specs.declared.error.ErrorCode.{ErrorCode}
+use Rattle.wt_wire.specs.declared.lookup.ConnectOutcome.{ConnectOutcome}
+use Rattle.wt_wire.specs.declared.lookup.Lookup.{Lookup}
+use Rattle.wt_wire.specs.declared.side.Side.{Side}
+use Rattle.wt_spec.specs.Answers.{is_client}
+use Rattle.wt_spec.specs.Connect.{address_of, outcome_error, port_of, server_name}
+use Rattle.wt_spec.specs.Connection.{is_for_session, is_opening, next_datagram, next_due, stream_header}
+use Rattle.wt_spec.specs.Driver.{established, settings_came, stream_table}
+use Rattle.wt_spec.specs.Effect.{head_left, is_covered}
+use Rattle.wt_spec.specs.Halves.{has_receiving_half, has_sending_half, is_done, priority, unread, write_error}
+use Rattle.wt_spec.specs.Handshake.{AwaitingRequest, Connecting, Established, HandshakeState, Over, Requested, Responding, handshake_state, has_success, is_refused, queued_requests, request_end, requested, response_head}
+use Rattle.wt_spec.specs.StreamTable.{Classified, verdict_of}
+use Rattle.wt_turn.specs.declared.action.Action.TheVariants as actions
+use Rattle.wt_turn.specs.declared.call.Call.TheVariants as calls
+use Rattle.wt_turn.specs.declared.datagram_fact.DatagramFact.TheVariants as facts
+use Rattle.wt_wire.specs.declared.error.ErrorCode.TheVariants as h3
+use Rattle.wt_proto.specs.declared.response_walk.ResponseWalk.TheVariants as responses
+use Rattle.wt_turn.specs.declared.turn.Turn.TheVariants as turns
+
+-- ---- which call it is
+
+-- the turn accepts a stream
+abbrev pub is_accept : Turn → Bool
+is_accept (turns.Call calls.AcceptUni) = true
+is_accept (turns.Call calls.AcceptBi) = true
+is_accept _ = false
+
+-- the kind of the streams that an accept gives
+abbrev pub accepted_kind : Side → Turn → ℕ
+accepted_kind side (turns.Call calls.AcceptUni) = peer_uni side
+accepted_kind side _ = peer_bi side
+
+-- the turn receives a datagram
+abbrev pub is_receive : Turn → Bool
+is_receive (turns.Call calls.ReceiveDatagram) = true
+is_receive _ = false
+
+-- the turn reads from this stream
+abbrev pub reads_from : ℕ → Turn → Bool
+reads_from k (turns.Call (calls.Read id size)) = id == k
+reads_from k (turns.Call (calls.ReadExact id size)) = id == k
+reads_from k _ = false
+
+-- the bytes that a write hands in for the stream
+abbrev pub bytes_for : ℕ → Turn → Option (List ℕ)
+bytes_for k (turns.Call (calls.Write id bytes)) = if id == k then Some bytes else None
+bytes_for k (turns.Call (calls.WriteAll id bytes)) = if id == k then Some bytes else None
+bytes_for k _ = None
+
+-- the turn polls the opening of this stream
+abbrev pub polls_opening : ℕ → Turn → Bool
+polls_opening k (turns.Call (calls.PollOpening id)) = id == k
+polls_opening k _ = false
+
+-- the turn closes the connection
+abbrev pub is_close : Turn → Bool
+is_close (turns.Call (calls.Close code reason)) = true
+is_close (turns.Call (calls.EndpointClose code reason)) = true
+is_close _ = false
+
+-- the handshake isn't over
+abbrev pub is_under_way : HandshakeState → Bool
+is_under_way (Established id) = false
+is_under_way Over = false
+is_under_way _ = true
+
+-- ---- the causes of records; the log holds the call's own actions already
+
+-- the stream is the next one of its kind for the session
+pub record FoundStream (side : Side) (turn : Turn) (log : Log) (k : ℕ) (for_session : Bool) : Type 0 where
+  pub accepts : is_accept turn ≡ true
+  pub session : ℕ
+  pub at : ℕ
+  pub is_established : established (calls_of log) ≡ Some (session, at)
+  pub found : Classified
+  pub next : next_due side log (accepted_kind side turn) session ≡ Some found
+  pub same : found.id ≡ k
+  pub named : is_for_session session found.verdict ≡ for_session
+
+-- the header of a stream that this end opens is out
+pub record OpenedStream (side : Side) (turn : Turn) (log : Log) (k : ℕ) : Type 0 where
+  pub polls : polls_opening k turn ≡ true
+  pub opening : is_opening log k ≡ true
+  pub session : ℕ
+  pub at : ℕ
+  pub is_established : established (calls_of log) ≡ Some (session, at)
+  pub whole : head_left log k (stream_header k session) ≡ []
+
+-- why an accept gives or passes this stream
+pub data AcceptCause (side : Side) (turn : Turn) (log : Log) (k : ℕ) : Type 0 where
+  ByAccept : FoundStream side turn log k true → AcceptCause side turn log k
+  ByOpening : OpenedStream side turn log k → AcceptCause side turn log k
+
+-- the next datagram is of the session, or it isn't
+pub record FoundDatagram (side : Side) (turn : Turn) (log : Log) (for_session : Bool) : Type 0 where
+  pub receives : is_receive turn ≡ true
+  pub session : ℕ
+  pub at : ℕ
+  pub is_established : established (calls_of log) ≡ Some (session, at)
+  pub datagram : ℕ × List ℕ
+  pub next : next_datagram side log ≡ Some datagram
+  pub named : (4 * datagram.0 == session) ≡ for_session
+
+-- why a request is delivered
+pub record DeliverCause (side : Side) (log : Log) (k : ℕ) : Type 0 where
+  pub under_way : handshake_state (calls_of log) ≡ AwaitingRequest
+  pub queued : Classified
+  pub later : List Classified
+  pub first : queued_requests side log ≡ queued ∷ later
+  pub same : queued.id ≡ k
+
+-- whose response goes on: this call's, or one that was started before
+pub data ResponseFrom (turn : Turn) (before : List CallRecord) (accepts : Bool) (head : List ℕ) : Type 0 where
+  ByAcceptance : (id : ℕ) (headers : Fields) → accepts ≡ true → turn ≡ turns.Call (calls.Accept headers) → head ≡ response_head (codes "200") headers
+      → handshake_state before ≡ Requested id → ResponseFrom turn before accepts head
+  ByRejection : (id : ℕ) → accepts ≡ false → handshake_state before ≡ Requested id → ResponseFrom turn before accepts head
+  FromBefore : handshake_state before ≡ Responding accepts head → ResponseFrom turn before accepts head
+
+-- the rest of an acceptance goes out; or, the whole request being out, a response with a status code from 200 to 299 is read
+pub data EstablishCause (side : Side) (turn : Turn) (log : Log) (own : List Action) (id at : ℕ) : Type 0 where
+  ByAnswer : (head : List ℕ) → ResponseFrom turn (calls_of log) true head → id ≡ requested (calls_of log) → is_covered log id (head_left log id head) ≡ true
+      → own ≡ send_of id (head_left log id head) → at ≡ request_end (verdict_of id (stream_table side log).classified) → EstablishCause side turn log own id at
+  ByResponse : (reserved : Option (List ℕ)) (head : List ℕ) (fields : Fields) → handshake_state (calls_of log) ≡ Connecting reserved head → settings_came side log ≡ true
+      → response_walk_of (contents log id) (end_of (events_of log) id) ≡ responses.Response fields at → has_success fields ≡ true → id ≡ local_bi side → head_left (with_actions own log) id head ≡ [] → EstablishCause side turn log own id at
+
+-- what establishes a session
+pub record EstablishedBy (side : Side) (turn : Turn) (log : Log) (id at : ℕ) : Type 0 where
+  pub before : Log
+  pub own : List Action
+  pub is : log ≡ with_actions own before
+  pub was_open : is_open before ≡ true
+  pub under_way : is_under_way (handshake_state (calls_of before)) ≡ true
+  pub how : EstablishCause side turn before own id at
+
+-- why a stream is opened
+pub record OpeningCause (side : Side) (log : Log) (k session : ℕ) : Type 0 where
+  pub local : (k % 4 == local_uni side || k % 4 == local_bi side) ≡ true
+  pub at : ℕ
+  pub is_established : established (calls_of log) ≡ Some (session, at)
+
+-- why so many bytes of a stream count as read
+pub record ReadCause (side : Side) (turn : Turn) (log : Log) (k count : ℕ) : Type 0 where
+  pub reads : reads_from k turn ≡ true
+  pub has_half : has_receiving_half side log k ≡ true
+  pub within : count ≤ length (unread side log k)
+
+-- why a call leaves this record
+abbrev pub RecordCause : Side → Turn → Log → CallRecord → Type 0
+RecordCause side turn log (StreamAccepted k) = AcceptCause side turn log k
+RecordCause side turn log (StreamPassed k) = FoundStream side turn log k false
+RecordCause side turn log DatagramReceived = FoundDatagram side turn log true
+RecordCause side turn log DatagramPassed = FoundDatagram side turn log false
+RecordCause side turn log (RequestDelivered k) = DeliverCause side log k
+RecordCause side turn log (ResponseStarted accepts head) = ResponseFrom turn (calls_of log) accepts head × is_under_way (handshake_state (calls_of log)) ≡ true
+RecordCause side turn log (ConnectStarted reserved head) = (calls_of log ≡ []) × (is_client side ≡ true)
+RecordCause side turn log (SessionEstablished id at) = EstablishedBy side turn log id at
+RecordCause side turn log HandshakeOver = is_under_way (handshake_state (calls_of log)) ≡ true
+RecordCause side turn log (OpeningStarted k session) = OpeningCause side log k session
+RecordCause side turn log (OpeningFailed k) = is_opening log k ≡ true
+RecordCause side turn log (BytesRead k count) = ReadCause side turn log k count
+RecordCause side turn log (StreamGivenUp k) = has_receiving_half side log k ≡ true
+RecordCause side turn log (ResetUnsent k code) = (has_sending_half side log k ≡ true) × (is_open log ≡ false)
+RecordCause side turn log (PrioritySet k priority) = has_sending_half side log k ≡ true
+RecordCause side turn log Polled = Unit {0}
+
+-- an opening opens the next stream of its kind
+pub record NewOpening (side : Side) (log : Log) (own : List Action) (k session : ℕ) : Type 0 where
+  pub cause : OpeningCause side (with_actions own log) k session
+  pub kind : ℕ
+  pub own_is : own ≡ opening side log kind
+  pub may : may_open side log kind ≡ true
+  pub next : k ≡ next_id side log kind
+  pub small : nat_lt kind 4 ≡ true
+
+-- the cause of a record, with the call's own actions beside it
+abbrev pub CallCause : Side → Turn → Log → List Action → CallRecord → Type 0
+CallCause side turn log own (OpeningStarted k session) = NewOpening side log own k session
+CallCause side turn log own r = RecordCause side turn (with_actions own log) r
+
+-- ---- the causes of actions; the log holds those of the call's own that went out before
+
+-- what a call sends on a stream
+pub data SendCause (side : Side) (turn : Turn) (log : Log) (k : ℕ) (piece : List ℕ) : Type 0 where
+  OfWrite : (bytes : List ℕ) → bytes_for k turn ≡ Some bytes → has_sending_half side log k ≡ true → write_error log k ≡ None → piece ≡ covered log k bytes → SendCause side turn log k piece
+  OfHeader : (session at : ℕ) → established (calls_of log) ≡ Some (session, at) → is_opening log k ≡ true → piece ≡ covered log k (head_left log k (stream_header k session)) → SendCause side turn log k piece
+  OfResponse : (accepts : Bool) (head : List ℕ) → ResponseFrom turn (calls_of log) accepts head → k ≡ requested (calls_of log) → piece ≡ covered log k (head_left log k head) → SendCause side turn log k piece
+  OfRequest : (reserved : Option (List ℕ)) (head : List ℕ) → handshake_state (calls_of log) ≡ Connecting reserved head → k ≡ local_bi side → local_count (actions_of log) (local_bi side) ≢ 0 → piece ≡ covered log k (head_left log k head) → SendCause side turn log k piece
+
+-- why a sending half is finished
+pub data FinishCause (side : Side) (turn : Turn) (log : Log) (k : ℕ) : Type 0 where
+  OfCall : turn ≡ turns.Call (calls.Finish k) → has_sending_half side log k ≡ true → is_finished (actions_of log) k ≡ false → is_reset log k ≡ false → stop_of (events_of log) k ≡ None → FinishCause side turn log k
+  OfRejection : (head : List ℕ) → ResponseFrom turn (calls_of log) false head → k ≡ requested (calls_of log) → head_left log k head ≡ [] → is_finished (actions_of log) k ≡ false → FinishCause side turn log k
+
+-- why a receiving half is stopped
+pub data StopCause (side : Side) (turn : Turn) (log : Log) (k code : ℕ) : Type 0 where
+  OfPass : FoundStream side turn log k false → code ≡ code_of h3.BufferedStreamRejected → StopCause side turn log k code
+  OfCall : turn ≡ turns.Call (calls.StopRecv k code) → has_receiving_half side log k ≡ true → StopCause side turn log k code
+
+-- the code with which a handshake that fails closes the connection
+pub data HandshakeCode (side : Side) (turn : Turn) (log : Log) (code : ℕ) : Type 0 where
+  Plain : code ≡ 0 → HandshakeCode side turn log code
+  StoppedEarly : (accepts : Bool) (head : List ℕ) → ResponseFrom turn (calls_of log) accepts head → is_refused log (requested (calls_of log)) (head_left log (requested (calls_of log)) head) ≡ true
+      → code ≡ code_of h3.ClosedCriticalStream → HandshakeCode side turn log code
+  OfResponse : (fault : ErrorCode) → response_walk_of (contents log (local_bi side)) (end_of (events_of log) (local_bi side)) ≡ responses.Fault fault → code ≡ code_of fault → HandshakeCode side turn log code
+
+-- the application or the endpoint closes, or a handshake that fails does
+pub data CloseCause (side : Side) (turn : Turn) (log : Log) (code : ℕ) (reason : List ℕ) : Type 0 where
+  OfCall : turn ≡ turns.Call (calls.Close code reason) → CloseCause side turn log code reason
+  OfEndpoint : turn ≡ turns.Call (calls.EndpointClose code reason) → CloseCause side turn log code reason
+  OfHandshake : is_under_way (handshake_state (calls_of log)) ≡ true → HandshakeCode side turn log code → reason ≡ [] → CloseCause side turn log code reason
+
+-- the call sends a datagram of the established session, which is these bytes
+pub record DatagramOf (turn : Turn) (log : Log) (bytes : List ℕ) : Type 0 where
+  pub payload : List ℕ
+  pub session : ℕ
+  pub at : ℕ
+  pub sends : turn ≡ turns.Call (calls.SendDatagram payload)
+  pub is_established : established (calls_of log) ≡ Some (session, at)
+  pub bytes_are : bytes ≡ datagram_bytes (session / 4) payload
+
+-- the call connects to a URL of https
+pub record ConnectTo (turn : Turn) : Type 0 where
+  pub text : List ℕ
+  pub headers : Fields
+  pub lookup : Lookup
+  pub outcome : ConnectOutcome
+  pub url : Parts
+  pub connects_to : turn ≡ turns.Call (calls.Connect (text, headers) lookup outcome)
+  pub parsed : parse_url None text ≡ Ok url
+  pub is_https : bytes_eq url.scheme (codes "https") ≡ true
+
+-- its host has this address, under this name, and the endpoint lets it proceed
+pub record DialCause (turn : Turn) (address : Addr) (name : List ℕ) : Type 0 where
+  pub to : ConnectTo turn
+  pub found : address_of (host_or_empty to.url) (port_of to.url) to.lookup ≡ Ok address
+  pub named : name ≡ server_name (host_or_empty to.url)
+  pub proceeds : outcome_error to.outcome ≡ None
+
+-- why this action goes out
+abbrev pub ActionCause : Side → Turn → Log → Action → Type 0
+ActionCause side turn log (actions.Dial address name) = (log ≡ []) × (is_client side ≡ true) × DialCause turn address name
+ActionCause side turn log (actions.Opened id) = (is_open log ≡ true) × (kind : ℕ) × (may_open side log kind ≡ true) × (id ≡ next_id side log kind) × (kind == local_uni side || kind == local_bi side) ≡ true
+ActionCause side turn log (actions.Send id piece) = (is_open log ≡ true) × SendCause side turn log id piece
+ActionCause side turn log (actions.Finish id) = (is_open log ≡ true) × FinishCause side turn log id
+ActionCause side turn log (actions.ResetOut id code) = (is_open log ≡ true) × (turn ≡ turns.Call (calls.ResetSend id code)) × (has_sending_half side log id ≡ true) × (is_done log id ≡ false)
+ActionCause side turn log (actions.StopOut id code) = (is_open log ≡ true) × StopCause side turn log id code
+ActionCause side turn log (actions.DatagramOut piece) = (is_open log ≡ true) × DatagramOf turn log piece × (limit : ℕ) × (datagram_fact (events_of log) ≡ Some (facts.Limit limit)) × (nat_lt limit (length piece) ≡ false)
+ActionCause side turn log (actions.Close code reason) = (is_open log ≡ true) × CloseCause side turn log code reason
+
+-- each of these actions has its cause, those before it counted
+abbrev pub OwnCauses : Side → Turn → Log → List Action → Type 0
+OwnCauses side turn log [] = Unit {0}
+OwnCauses side turn log (a ∷ later) = ActionCause side turn log a × OwnCauses side turn (Sent a ∷ log) later

@@ -1,0 +1,290 @@
+-- The laws of the session layer, over every log that lawful turns lead to and over turns with their answers.
+use Rattle.std.specs.Prelude.{[], ◌%◌, ◌*◌, ◌++◌, ◌/◌, ◌==◌, ◌||◌, ◌∷◌, ◌≡◌, ◌≢◌, ◌≤◌, Bool, List, None, Option, Some, codes, drop, false, if◌then◌else◌, length, nat_lt, take, true, ℕ}
+use Rattle.std.specs.List.{list_any}
+use Rattle.wt_proto.specs.Bi.{bi_verdict_of}
+use Rattle.wt_message.specs.Datagram.{datagram_bytes}
+use Rattle.wt_message.specs.FixedBytes.{local_control_bytes}
+use Rattle.wt_proto.specs.ResponseWalk.{response_walk_of}
+use Rattle.wt_proto.specs.Uni.{uni_verdict_of}
+use Rattle.wt_seam_spec.specs.Joined.{join_all, send_of}
+use Rattle.wt_seam_spec.specs.Reports.{credit, datagrams_of, end_of, unis_allowed}
+use Rattle.wt_seam_spec.specs.Sent.{is_finished, is_reset, sent_on}
+use Rattle.wt_seam_spec.specs.Streams.{contents, local_bi, local_count, local_uni, peer_bi, peer_count, peer_uni}
+use Rattle.wt_turn.specs.Log.{Called, Entry, Log, Sent, SessionEstablished, actions_of, calls_of, closes, events_of, is_open, loses, with_actions}
+use Rattle.wt_turn.specs.declared.action.Action.{Action}
+use Rattle.wt_turn.specs.declared.reply.Reply.{Reply}
+use Rattle.wt_turn.specs.declared.turn.Turn.{Turn}
+use Rattle.wt_wire.specs.Codes.{code_of}
+use Rattle.wt_wire.specs.HeaderList.{Fields}
+use Rattle.wt_wire.specs.declared.error.ErrorCode.{ErrorCode}
+use Rattle.wt_wire.specs.declared.side.Side.{Side}
+use Rattle.wt_laws.specs.Causes.{ActionCause, CloseCause, bytes_for, reads_from}
+use Rattle.wt_laws.specs.Reachable.{Exchange, is_among}
+use Rattle.wt_laws.specs.ReplyCauses.{ReplyCause}
+use Rattle.wt_laws.specs.Told.{datagram_told, read_piece}
+use Rattle.wt_spec.specs.Answers.{answer_to, log_after, run_from}
+use Rattle.wt_spec.specs.Connection.{is_opening, next_due, stream_header, well_formed}
+use Rattle.wt_spec.specs.Driver.{call_view, delivers, established, is_moment, pending_actions, releases, session_id, settings_came, stream_table}
+use Rattle.wt_spec.specs.Effect.{driver_error, head_left, is_covered, transport_error}
+use Rattle.wt_spec.specs.Halves.{body_offset, is_accepted}
+use Rattle.wt_spec.specs.Handshake.{Connecting, handshake_state, has_success, response_head}
+use Rattle.wt_spec.specs.StreamTable.{ByFault, BySession, Classified, Ending, Stopped, dispatched, verdict_of}
+use Rattle.wt_turn.specs.declared.action.Action.TheVariants as actions
+use Rattle.wt_turn.specs.declared.call.Call.TheVariants as calls
+use Rattle.wt_wire.specs.declared.error.ErrorCode.TheVariants as h3
+use Rattle.wt_turn.specs.declared.reply.Reply.TheVariants as replies
+use Rattle.wt_proto.specs.declared.response_walk.ResponseWalk.TheVariants as responses
+use Rattle.wt_turn.specs.declared.turn.Turn.TheVariants as turns
+use Rattle.wt_proto.specs.declared.verdict.Verdict.TheVariants as verdicts
+
+-- the later log goes on from the earlier one
+abbrev pub GoesOnFrom : Log → Log → Type 0
+GoesOnFrom earlier later = (more : Log) × (later ≡ more ++ earlier)
+
+-- a log in the middle of a turn
+pub record IsDuring (side : Side) (log : Log) (turn : Turn) (middle : Log) : Type 0 where
+  pub from_start : GoesOnFrom log middle
+  pub to_end : GoesOnFrom middle (log_after side log turn)
+
+-- ---- accepted streams
+
+-- Stream k is the peer's and of this kind, no call gave or passed it before, its header over all bytes names the
+-- established session, and it is the first such stream in the order in which streams were classified.
+pub record AcceptedRightly (side : Side) (log : Log) (kind k : ℕ) : Type 0 where
+  pub session : ℕ
+  pub at : ℕ  -- where the stream's body begins
+  pub begins : ℕ
+  pub is_established : established (calls_of log) ≡ Some (session, begins)
+  pub opened : is_among kind (peer_count side (events_of log) kind) k ≡ true
+  pub header : kind ≡ peer_uni side → uni_verdict_of (contents log k) (end_of (events_of log) k) ≡ verdicts.WebTransport session at
+  pub bi_header : kind ≡ peer_bi side → bi_verdict_of (contents log k) (end_of (events_of log) k) ≡ verdicts.WebTransport session at
+  pub classified : verdict_of k (stream_table side log).classified ≡ Some (verdicts.WebTransport session at)
+  pub fresh : list_any (releases k) (calls_of log) ≡ false
+  pub is_first : (found : Classified) × (found.id ≡ k) × (next_due side log kind session ≡ Some found)
+
+-- each reply that gives a stream gives it rightly
+pub record StreamsAcceptedRightly (side : Side) (log : Log) (turn : Turn) : Type 0 where
+  pub uni : (k : ℕ) → (answer_to side log turn).reply ≡ replies.Uni k → (middle : Log) × IsDuring side log turn middle × AcceptedRightly side middle (peer_uni side) k
+  pub bi : (k : ℕ) → (answer_to side log turn).reply ≡ replies.Bi k → (middle : Log) × IsDuring side log turn middle × AcceptedRightly side middle (peer_bi side) k
+
+-- ---- sessions
+
+-- a request that was delivered
+pub record WasDelivered (side : Side) (log : Log) (k : ℕ) : Type 0 where
+  pub delivered : list_any (delivers k) (calls_of log) ≡ true
+  pub settings : settings_came side log ≡ true
+  pub headers : Fields
+  pub at : ℕ
+  pub verdict : verdict_of k (stream_table side log).classified ≡ Some (verdicts.Request headers at)
+
+-- How session s comes to be established, by these actions of a call: a server's request was delivered, and the rest of an
+-- acceptance with status 200 goes out; or a client's whole request is out, and a response with a status code from 200 to
+-- 299 was read. The session's part of the stream begins at this offset.
+pub data EstablishedHow (side : Side) (log : Log) (own : List Action) (s at : ℕ) : Type 0 where
+  AfterRequest : (headers : Fields) (request : WasDelivered side log s) → at ≡ request.at → is_covered log s (head_left log s (response_head (codes "200") headers)) ≡ true
+      → own ≡ send_of s (head_left log s (response_head (codes "200") headers)) → EstablishedHow side log own s at
+  AfterResponse : (reserved : Option (List ℕ)) (head : List ℕ) (fields : Fields) → s ≡ local_bi side → handshake_state (calls_of log) ≡ Connecting reserved head → head_left (with_actions own log) s head ≡ [] → settings_came side log ≡ true → response_walk_of (contents log s) (end_of (events_of log) s) ≡ responses.Response fields at → has_success fields ≡ true
+      → EstablishedHow side log own s at
+
+-- right before the session's record, and the call's own actions, the peer's SETTINGS had come, the connection was open, and
+-- no session was established
+pub record EstablishedRightly (side : Side) (log : Log) (s at : ℕ) : Type 0 where
+  pub before : Log
+  pub own : List Action
+  pub follows : GoesOnFrom (Called (SessionEstablished s at) ∷ with_actions own before) log
+  pub was_open : is_open before ≡ true
+  pub settings : settings_came side before ≡ true
+  pub none_before : established (calls_of before) ≡ None
+  pub how : EstablishedHow side before own s at
+
+-- the session that is established was so rightly
+abbrev pub SessionsRightly : Side → Log → Type 0
+SessionsRightly side log = (s at : ℕ) → established (calls_of log) ≡ Some (s, at) → EstablishedRightly side log s at
+
+-- a reply that tells of a session tells of the one that is established from then on
+abbrev pub SessionTold : Side → Log → Turn → Type 0
+SessionTold side log turn = (s : ℕ) → (answer_to side log turn).reply ≡ replies.Session s → (at : ℕ) × (established (calls_of (log_after side log turn)) ≡ Some (s, at))
+
+-- at most one session is ever established
+abbrev pub OneSession : Side → Log → Turn → Type 0
+OneSession side log turn = (s at : ℕ) → established (calls_of log) ≡ Some (s, at) → established (calls_of (log_after side log turn)) ≡ Some (s, at)
+
+-- ---- reads
+
+-- the bytes that were read, with those of one more reply
+abbrev pub more_read : Option (List ℕ) → List ℕ → List ℕ
+more_read None bytes = bytes
+more_read (Some piece) bytes = bytes ++ piece
+
+-- the bytes that reads of the stream gave, joined
+abbrev pub read_from : ℕ → List Exchange → List ℕ
+read_from k [] = []
+read_from k (x ∷ before) = if reads_from k x.turn then more_read (read_piece x.answer.reply) (read_from k before) else read_from k before
+
+-- they are a prefix of what came for the stream behind its header
+abbrev pub ReadsInOrder : Side → List Exchange → Log → Type 0
+ReadsInOrder side before log =
+    (k : ℕ) → (rest : List ℕ) × (read_from k before ++ rest ≡ drop (body_offset (verdict_of k (stream_table side log).classified)) (contents log k))
+
+-- ---- datagrams
+
+-- the payload of a datagram of the session
+abbrev pub payload_for : ℕ → Option (ℕ × List ℕ) → List (List ℕ)
+payload_for s None = []
+payload_for s (Some d) = if 4 * d.0 == s then d.1 ∷ [] else []
+
+-- the payloads of those that name the session, in their order
+abbrev pub payloads_for : ℕ → List (List ℕ) → List (List ℕ)
+payloads_for s [] = []
+payloads_for s (piece ∷ later) = payload_for s (well_formed piece) ++ payloads_for s later
+
+-- the datagrams that were received, with that of one more reply
+abbrev pub more_received : Option (List ℕ) → List (List ℕ) → List (List ℕ)
+more_received None got = got
+more_received (Some payload) got = got ++ payload ∷ []
+
+-- what the replies gave, in their order
+abbrev pub received_by : List Exchange → List (List ℕ)
+received_by [] = []
+received_by (x ∷ before) = more_received (datagram_told x.answer.reply) (received_by before)
+
+-- they are the payloads of the first so many datagrams that were dequeued and name the session
+abbrev pub DatagramsInOrder : Side → List Exchange → Log → Type 0
+DatagramsInOrder side before log =
+    (s at : ℕ) → established (calls_of log) ≡ Some (s, at)
+    → (count : ℕ) × (count ≤ (stream_table side log).progress.datagrams) × (received_by before ≡ payloads_for s (take count (datagrams_of (events_of log))))
+
+-- ---- the end
+
+-- Why a connection isn't open: it was lost, a call closed it, or the driver did, for a fault or since the session ended.
+pub data EndedBy (side : Side) (log : Log) : Type 0 where
+  ByLoss : list_any loses (events_of log) ≡ true → EndedBy side log
+  ClosedByCall : (earlier : Log) (turn : Turn) (code : ℕ) (reason : List ℕ) → CloseCause side turn earlier code reason → GoesOnFrom (Sent (actions.Close code reason) ∷ earlier) log → EndedBy side log
+  ByDriver : (e : Ending) → (stream_table side log).progress.ending ≡ Some e → EndedBy side log
+
+-- a connection is open exactly where none of these ended it
+pub record OpenExactly (side : Side) (log : Log) : Type 0 where
+  pub closed : is_open log ≡ false → EndedBy side log
+  pub no_loss : is_open log ≡ true → list_any loses (events_of log) ≡ false
+  pub no_close : is_open log ≡ true → list_any closes (actions_of log) ≡ false
+  pub no_fault : is_open log ≡ true → (stream_table side log).progress.ending ≡ None
+
+-- a moment that finds a fault closes last, with its code; one at which the session ends, with H3_NO_ERROR; every other closes nothing
+pub record FaultCloses (side : Side) (log : Log) : Type 0 where
+  pub fault : (code : ErrorCode) → (stream_table side log).progress.ending ≡ Some (ByFault code) → (before : List Action) × (pending_actions side log ≡ before ++ actions.Close (code_of code) [] ∷ [])
+  pub session : (code : ℕ) (reason : List ℕ) (b : Bool) → (stream_table side log).progress.ending ≡ Some (BySession code reason b)
+      → (before : List Action) × (pending_actions side log ≡ before ++ actions.Close (code_of h3.NoError) [] ∷ [])
+  pub none : (stream_table side log).progress.ending ≡ None → list_any closes (pending_actions side log) ≡ false
+
+-- after the end what it is told as never changes
+pub record ResultStays (side : Side) (log : Log) (turn : Turn) : Type 0 where
+  pub closed : is_open (log_after side log turn) ≡ false
+  pub driver : driver_error side (log_after side log turn) ≡ driver_error side log
+  pub transport : transport_error (log_after side log turn) ≡ transport_error log
+
+-- nothing goes out after the end
+abbrev pub NothingAfterEnd : Log → Type 0
+NothingAfterEnd [] = Unit {0}
+NothingAfterEnd (Sent a ∷ log) = (is_open log ≡ true) × NothingAfterEnd log
+NothingAfterEnd (_ ∷ log) = NothingAfterEnd log
+
+-- ---- cutting
+
+-- A piece that is cut in two leads to the same log, so every later answer is equal; and its parts' answers, joined, are its own.
+pub record CutsWell (side : Side) (log : Log) (id : ℕ) (first second : List ℕ) : Type 0 where
+  pub same_log : log_after side (log_after side log (turns.Bytes id first)) (turns.Bytes id second) ≡ log_after side log (turns.Bytes id (first ++ second))
+  pub later : (all : List Turn) → run_from side (log_after side (log_after side log (turns.Bytes id first)) (turns.Bytes id second)) all ≡ run_from side (log_after side log (turns.Bytes id (first ++ second))) all
+  pub actions : join_all (answer_to side log (turns.Bytes id first)).actions (answer_to side (log_after side log (turns.Bytes id first)) (turns.Bytes id second)).actions ≡ (answer_to side log (turns.Bytes id (first ++ second))).actions
+
+-- ---- causes
+
+-- why the driver stops a stream as it is classified: a request is refused, or another one is queued
+pub data StoppedFor (side : Side) (log : Log) (classified : List Classified) (stop : Stopped) : Type 0 where
+  IsRefused : is_among (peer_bi side) (peer_count side (events_of log) (peer_bi side)) stop.id ≡ true → bi_verdict_of (contents log stop.id) (end_of (events_of log) stop.id) ≡ verdicts.Refused stop.code → StoppedFor side log classified stop
+  IsSurplus : (headers : Fields) (at : ℕ) (queued : Classified) (later : List Classified) → is_among (peer_bi side) (peer_count side (events_of log) (peer_bi side)) stop.id ≡ true → bi_verdict_of (contents log stop.id) (end_of (events_of log) stop.id) ≡ verdicts.Request headers at
+      → (dispatched (call_view log) classified).requests ≡ queued ∷ later → stop.code ≡ h3.RequestRejected → StoppedFor side log classified stop
+
+-- the action that the driver sends at a moment: of its control stream, a stop of a stream that was classified, or for the end
+pub data DriverCause (side : Side) (log : Log) : Action → Type 0 where
+  OpensControl : unis_allowed (events_of log) ≢ 0 → DriverCause side log (actions.Opened (local_uni side))
+  SendsControl : (piece : List ℕ) → piece ≡ drop (length (sent_on (actions_of log) (local_uni side))) (take (credit (events_of log) (local_uni side)) local_control_bytes) → DriverCause side log (actions.Send (local_uni side) piece)
+  StopsStream : (stop : Stopped) → StoppedFor side log (stream_table side log).classified stop → DriverCause side log (actions.StopOut stop.id (code_of stop.code))
+  ResetsSession : (code : ℕ) (reason : List ℕ) → (stream_table side log).progress.ending ≡ Some (BySession code reason true) → DriverCause side log (actions.ResetOut (session_id (established (calls_of log))) (code_of h3.NoError))
+  ClosesFault : (code : ErrorCode) → (stream_table side log).progress.ending ≡ Some (ByFault code) → DriverCause side log (actions.Close (code_of code) [])
+  ClosesSession : (code : ℕ) (reason : List ℕ) (b : Bool) → (stream_table side log).progress.ending ≡ Some (BySession code reason b) → DriverCause side log (actions.Close (code_of h3.NoError) [])
+
+-- each of these actions has its cause
+abbrev pub DriverCauses : Side → Log → List Action → Type 0
+DriverCauses side log [] = Unit {0}
+DriverCauses side log (a ∷ later) = DriverCause side log a × DriverCauses side log later
+
+-- why an action went out, behind this log: a call's own, or the driver's at the moment before
+pub data SentFor (side : Side) (log : Log) (a : Action) : Type 0 where
+  ForCall : (turn : Turn) → ActionCause side turn log a → SentFor side log a
+  ForDriver : (e : Entry) (earlier : Log) → is_moment e ≡ true → is_open (e ∷ earlier) ≡ true → GoesOnFrom (e ∷ earlier) log → DriverCause side (e ∷ earlier) a → SentFor side log a
+
+-- each action that went out has its cause
+abbrev pub ActionsHaveCauses : Side → Log → Type 0
+ActionsHaveCauses side [] = Unit {0}
+ActionsHaveCauses side (Sent a ∷ log) = SentFor side log a × ActionsHaveCauses side log
+ActionsHaveCauses side (_ ∷ log) = ActionsHaveCauses side log
+
+-- each reply has its cause at the log at which the call decided, which is in the middle of the turn
+abbrev pub ReplyHasCause : Side → Log → Turn → Type 0
+ReplyHasCause side log turn = (middle : Log) × IsDuring side log turn middle × ReplyCause side turn middle (answer_to side log turn).reply
+
+-- ---- this end's SETTINGS
+
+-- While the connection is open and a unidirectional stream is allowed, this end's control stream was opened, and its
+-- type and SETTINGS are out as far as credit goes; what is out is at every time a prefix of them.
+pub record SettingsOut (side : Side) (log : Log) : Type 0 where
+  pub opened : is_open log ≡ true → nat_lt 0 (unis_allowed (events_of log)) ≡ true → local_count (actions_of log) (local_uni side) ≢ 0
+  pub out : is_open log ≡ true → nat_lt 0 (unis_allowed (events_of log)) ≡ true → sent_on (actions_of log) (local_uni side) ≡ take (credit (events_of log) (local_uni side)) local_control_bytes
+  pub prefix : (n : ℕ) × (sent_on (actions_of log) (local_uni side) ≡ take n local_control_bytes)
+
+-- ---- sending
+
+-- what a write accepted of its bytes
+abbrev pub accepted_of : List ℕ → Reply → List ℕ
+accepted_of bytes (replies.Written count) = take count bytes
+accepted_of bytes replies.AllWritten = bytes
+accepted_of bytes (replies.Count count) = take count bytes
+accepted_of bytes _ = []
+
+-- what the turn's answer accepted for the stream
+abbrev pub accepted_by : Option (List ℕ) → Reply → List ℕ
+accepted_by None reply = []
+accepted_by (Some bytes) reply = accepted_of bytes reply
+
+-- From where a stream was given on, exactly what writes accept goes out on it (its header went out before).
+abbrev pub SendsInOrder : Side → Log → Turn → Type 0
+SendsInOrder side log turn =
+    (k : ℕ) → k ≢ local_uni side → is_accepted log k ≡ true
+    → sent_on (actions_of (log_after side log turn)) k ≡ sent_on (actions_of log) k ++ accepted_by (bytes_for k turn) (answer_to side log turn).reply
+
+-- after a finish or a reset nothing more goes out on it
+abbrev pub SendsEnd : Side → Log → Turn → Type 0
+SendsEnd side log turn =
+    (k : ℕ) → k ≢ local_uni side → is_accepted log k ≡ true → (is_finished (actions_of log) k || is_reset log k) ≡ true
+    → sent_on (actions_of (log_after side log turn)) k ≡ sent_on (actions_of log) k
+
+-- ---- what is answered Done went out
+
+-- at once after the log, this went out
+abbrev pub GoesOut : Side → Log → Turn → Action → Type 0
+GoesOut side log turn a = GoesOnFrom (Sent a ∷ log) (log_after side log turn)
+
+-- a datagram that is taken goes out whole; on an open connection so do a close, a reset and a stop
+pub record TakenGoesOut (side : Side) (log : Log) : Type 0 where
+  pub datagram : (payload : List ℕ) → (answer_to side log (turns.Call (calls.SendDatagram payload))).reply ≡ replies.Done
+      → (s : ℕ) × (at : ℕ) × (established (calls_of log) ≡ Some (s, at)) × GoesOut side log (turns.Call (calls.SendDatagram payload)) (actions.DatagramOut (datagram_bytes (s / 4) payload))
+  pub close : (code : ℕ) (reason : List ℕ) → is_open log ≡ true → (answer_to side log (turns.Call (calls.Close code reason))).reply ≡ replies.Done → GoesOut side log (turns.Call (calls.Close code reason)) (actions.Close code reason)
+  pub reset : (k code : ℕ) → is_open log ≡ true → (answer_to side log (turns.Call (calls.ResetSend k code))).reply ≡ replies.Done → GoesOut side log (turns.Call (calls.ResetSend k code)) (actions.ResetOut k code)
+  pub stop : (k code : ℕ) → is_open log ≡ true → (answer_to side log (turns.Call (calls.StopRecv k code))).reply ≡ replies.Done → GoesOut side log (turns.Call (calls.StopRecv k code)) (actions.StopOut k code)
+
+-- ---- headers of streams that this end opens
+
+-- Until such a stream is given, a prefix of its header went out on it; from then on, its header and what follows.
+pub record HeadersOut (side : Side) (log : Log) : Type 0 where
+  pub begun : (k s at : ℕ) → is_opening log k ≡ true → established (calls_of log) ≡ Some (s, at) → (n : ℕ) × (sent_on (actions_of log) k ≡ take n (stream_header k s))
+  pub whole : (k s at : ℕ) → (k % 4 == local_uni side || k % 4 == local_bi side) ≡ true → is_accepted log k ≡ true → established (calls_of log) ≡ Some (s, at) → (rest : List ℕ) × (sent_on (actions_of log) k ≡ stream_header k s ++ rest)

@@ -1,0 +1,5 @@
+pub mod Causes
+pub mod ReplyCauses
+pub mod Reachable
+pub mod Told
+pub mod Laws

@@ -1,0 +1,90 @@
+//! The laws, each a function with an empty body whose contract is the law.
+ghost use Rattle.std.specs.Prelude.{◌≡◌, ℕ, List, [], true, false};
+ghost use Rattle.wt_laws.specs.Laws.{ActionsHaveCauses, CutsWell, DatagramsInOrder, FaultCloses, HeadersOut, NothingAfterEnd, OneSession, OpenExactly, ReadsInOrder, ReplyHasCause, ResultStays, SendsEnd, SendsInOrder, SessionTold, SessionsRightly, SettingsOut, StreamsAcceptedRightly, TakenGoesOut};
+ghost use Rattle.wt_laws.specs.Reachable.{AllLawful, IsReachable, exchanges};
+ghost use Rattle.wt_spec.specs.Answers.{is_lawful, log_from};
+ghost use Rattle.wt_turn.specs.Log.{Log, is_open};
+ghost use Rattle.wt_turn.specs.declared.turn.Turn.{Turn};
+ghost use Rattle.wt_wire.specs.declared.side.Side.{Side};
+
+/// Lawful turns lead to reachable logs.
+#[tactic(auto, using(crate::proofs::Theorems::reachable_theorem))]
+pub fn lawful_turns_are_reachable()
+    ensures reachable { (side : Side) (all : List Turn) → AllLawful side [] all → IsReachable side (log_from side [] all) }
+{}
+
+/// A session is established only after the peer's SETTINGS and a request or a response with
+/// success, on an open connection; there is at most one, and the reply tells of it.
+#[tactic(auto, using(crate::proofs::Theorems::sessions_theorem, crate::proofs::Theorems::one_session_theorem, crate::proofs::Theorems::session_told_theorem))]
+pub fn sessions_are_established_rightly()
+    ensures rightly { (side : Side) (log : Log) → IsReachable side log → SessionsRightly side log }
+    ensures one { (side : Side) (log : Log) (turn : Turn) → IsReachable side log → is_lawful side log turn ≡ true → OneSession side log turn }
+    ensures told { (side : Side) (log : Log) (turn : Turn) → is_lawful side log turn ≡ true → SessionTold side log turn }
+{}
+
+/// A stream that an accept gives is the peer's, of the session, and given once; the first in the
+/// order in which streams were classified.
+#[tactic(auto, using(crate::proofs::Theorems::accepted_theorem))]
+pub fn streams_are_accepted_rightly()
+    ensures accepted { (side : Side) (log : Log) (turn : Turn) → IsReachable side log → is_lawful side log turn ≡ true → StreamsAcceptedRightly side log turn }
+{}
+
+/// What reads of a stream give, joined, is a prefix of what came behind its header.
+#[tactic(auto, using(crate::proofs::Theorems::reads_theorem))]
+pub fn reads_give_what_came()
+    ensures reads { (side : Side) (all : List Turn) → AllLawful side [] all → ReadsInOrder side (exchanges side all) (log_from side [] all) }
+{}
+
+/// The datagrams received are the first so many of the session that were dequeued.
+#[tactic(auto, using(crate::proofs::Theorems::datagrams_theorem))]
+pub fn datagrams_come_in_order()
+    ensures datagrams { (side : Side) (all : List Turn) → AllLawful side [] all → DatagramsInOrder side (exchanges side all) (log_from side [] all) }
+{}
+
+/// A connection is open exactly where no loss, no call and no fault ended it, and from its end on
+/// it is told as the same, and nothing goes out.
+#[tactic(auto, using(crate::proofs::Theorems::open_theorem, crate::proofs::Theorems::fault_theorem, crate::proofs::Theorems::result_theorem, crate::proofs::Theorems::after_end_theorem))]
+pub fn connections_end_for_a_cause()
+    ensures open { (side : Side) (log : Log) → IsReachable side log → OpenExactly side log }
+    ensures fault { (side : Side) (log : Log) → FaultCloses side log }
+    ensures stays { (side : Side) (log : Log) (turn : Turn) → is_lawful side log turn ≡ true → is_open log ≡ false → ResultStays side log turn }
+    ensures after { (side : Side) (log : Log) → IsReachable side log → NothingAfterEnd log }
+{}
+
+/// Each reply and each action has its cause.
+#[tactic(auto, using(crate::proofs::Theorems::reply_theorem, crate::proofs::Theorems::action_theorem))]
+pub fn answers_have_causes()
+    ensures replies { (side : Side) (log : Log) (turn : Turn) → is_lawful side log turn ≡ true → ReplyHasCause side log turn }
+    ensures actions { (side : Side) (log : Log) → IsReachable side log → ActionsHaveCauses side log }
+{}
+
+/// Where a piece of bytes is cut changes no later answer, and its own is that of its parts.
+#[tactic(auto, using(crate::proofs::Theorems::cutting_theorem))]
+pub fn pieces_may_be_cut()
+    ensures cut { (side : Side) (log : Log) (id : ℕ) (first second : List ℕ) → CutsWell side log id first second }
+{}
+
+/// This end's SETTINGS are out as far as credit goes, while the connection is open.
+#[tactic(auto, using(crate::proofs::Theorems::settings_theorem))]
+pub fn settings_go_out()
+    ensures settings { (side : Side) (log : Log) → IsReachable side log → SettingsOut side log }
+{}
+
+/// On a stream that this end opens its header goes out before the stream is given.
+#[tactic(auto, using(crate::proofs::Theorems::headers_theorem))]
+pub fn headers_go_out()
+    ensures headers { (side : Side) (log : Log) → IsReachable side log → HeadersOut side log }
+{}
+
+/// On a stream that was given exactly what writes accept goes out, and nothing after its end.
+#[tactic(auto, using(crate::proofs::Theorems::sends_theorem, crate::proofs::Theorems::sends_end_theorem))]
+pub fn writes_go_out()
+    ensures sends { (side : Side) (log : Log) (turn : Turn) → IsReachable side log → is_lawful side log turn ≡ true → SendsInOrder side log turn }
+    ensures end { (side : Side) (log : Log) (turn : Turn) → IsReachable side log → is_lawful side log turn ≡ true → SendsEnd side log turn }
+{}
+
+/// A datagram that is taken goes out whole; so do a close, a reset and a stop on an open connection.
+#[tactic(auto, using(crate::proofs::Theorems::taken_theorem))]
+pub fn what_is_taken_goes_out()
+    ensures taken { (side : Side) (log : Log) → TakenGoesOut side log }
+{}
