@@ -1,0 +1,10 @@
+//! The driver of a connection (its parts that stand alone, so far): the result that is set once, and
+//! the channel between two ends.
+#![tactic(auto)]
+
+pub mod bichannel;
+pub mod laws;
+pub mod shared_result;
+#[cfg(test)]
+mod tests;
+pub mod utils;

@@ -1,0 +1,2 @@
+pub mod ConnectOptions
+pub mod ConnectTarget
