@@ -1,5 +1,5 @@
 pub mod Readable
-pub mod SeenFacts
+pub mod StreamTableFacts
 pub mod Moments
 pub mod Facts
 pub mod Ranges
@@ -8,6 +8,6 @@ pub mod Replay
 pub mod CallTurns
 pub mod Start
 pub mod ReplayCalls
-pub mod Standing
-pub mod Turned
+pub mod Refinement
+pub mod TurnCases
 pub mod Recorded

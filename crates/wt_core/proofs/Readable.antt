@@ -1,6 +1,7 @@
 -- What the verdicts say of the bytes that are built so far.
+use Rattle.std.specs.Cmp.{first_so, second_so}
 use Rattle.std.proofs.Common.{arith, ◌≡◌, ◌≤◌, ◌<◌, ℕ, zero, suc, Bool, true, false, List, [], ◌∷◌, ◌++◌, length, take, drop, drop-cons, refl, sym, subst, ap, ◌∙◌, append-nil}
-use Rattle.std.specs.Prelude.{◌==◌, ◌&&◌, codes, nat_lt}
+use Rattle.std.specs.Prelude.{◌==◌, ◌&&◌, codes, nat_lt, is_some}
 use Rattle.std.proofs.lemmas.Bool.Decides.{nat_tests}
 use Rattle.std.proofs.lemmas.Bool.{eqb-true}
 use Rattle.std.proofs.lemmas.List.{drop_all}
@@ -10,18 +11,18 @@ use Rattle.wt_proto.specs.declared.verdict.Verdict.TheVariants.{Incomplete, WebT
 use Rattle.wt_proto.specs.Bi.{bi_decides, bi_verdict_of}
 use Rattle.wt_proto.specs.ControlWalk.{control_decides, control_walk_of}
 use Rattle.wt_wire.specs.FieldSection.{string_at, line_at, lines_from}
-use Rattle.wt_proto.specs.FixedBytes.{own_control_bytes}
+use Rattle.wt_message.specs.FixedBytes.{local_control_bytes}
 use Rattle.wt_wire.specs.Frames.{frame_at}
 use Rattle.wt_wire.specs.HeaderList.{Fields}
 use Rattle.wt_wire.specs.PrefixedInteger.{continuation_at, prefixed_at, prefixed_bytes}
-use Rattle.wt_proto.specs.Requests.{request_fields, request_of}
+use Rattle.wt_message.specs.Requests.{request_fields, request_of}
 use Rattle.wt_proto.specs.Uni.{uni_verdict_of, is_final}
 use Rattle.wt_wire.specs.Utf8.{is_text_from}
 use Rattle.wt_wire.specs.Varint.{varint_at, varint_bytes}
 use Rattle.wt_proto.proofs.UniLaws.{uni_verdict_stays}
 use Rattle.wt_proto.proofs.BiLaws.{bi_verdict_stays}
 use Rattle.wt_core.specs.Built.{is_prefix, are_along, empty_control, session_header, one_request}
-use Rattle.wt_seam.specs.Seam.{is_some}
+use Rattle.wt_core.specs.Transport.{}
 use Rattle.wt_core.specs.Session.{accepting_response}
 
 -- ---- fixed bytes
@@ -33,11 +34,11 @@ one_fields = request_fields (codes "h") (codes "/")
 abbrev own_list : List ℕ
 own_list = 0 ∷ 4 ∷ 22 ∷ 1 ∷ 0 ∷ 7 ∷ 0 ∷ 8 ∷ 1 ∷ 51 ∷ 1 ∷ 171 ∷ 96 ∷ 55 ∷ 66 ∷ 1 ∷ 192 ∷ 0 ∷ 0 ∷ 0 ∷ 198 ∷ 113 ∷ 112 ∷ 106 ∷ 1 ∷ []
 
-own-is : own_control_bytes ≡ own_list
+own-is : local_control_bytes ≡ own_list
 unfolding varint_bytes prefixed_bytes
 own-is = refl
 
-pub own_length : length own_control_bytes ≡ 25
+pub own_length : length local_control_bytes ≡ 25
 own_length = rw own-is refl
 
 abbrev response_list : List ℕ
@@ -54,7 +55,7 @@ response-length = rw response-is refl
 pub data IsCons : List ℕ → Type 0 where
   Cons : (x : ℕ) (xs : List ℕ) → IsCons (x ∷ xs)
 
-pub own-cons : IsCons own_control_bytes
+pub own-cons : IsCons local_control_bytes
 own-cons = rw own-is (Cons _ _)
 
 pub response-cons : IsCons (accepting_response [])
@@ -68,14 +69,6 @@ unfolding one_request varint_bytes prefixed_bytes
 request_is = refl
 
 -- ---- prefixes
-
-and-left : (a b : Bool) → (a && b) ≡ true → a ≡ true
-and-left true b e = refl
-and-left false b e = cc
-
-and-right : (a b : Bool) → (a && b) ≡ true → b ≡ true
-and-right true b e = e
-and-right false b e = cc
 
 and-swap : (a b c : Bool) → (a && (b && c)) ≡ ((a && b) && c)
 and-swap true b c = refl
@@ -113,26 +106,26 @@ pub prefix-of-append : (xs ys zs : List ℕ) → is_prefix (xs ++ ys) zs ≡ tru
 prefix-of-append [] ys zs e = refl
 prefix-of-append (x ∷ xs) ys [] e = cc
 prefix-of-append (x ∷ xs) ys (z ∷ zs) e =
-    and-both (x == z) (is_prefix xs zs) (and-left (x == z) (is_prefix (xs ++ ys) zs) e) (prefix-of-append xs ys zs (and-right (x == z) (is_prefix (xs ++ ys) zs) e))
+    and-both (x == z) (is_prefix xs zs) (first_so (x == z) (is_prefix (xs ++ ys) zs) e) (prefix-of-append xs ys zs (second_so (x == z) (is_prefix (xs ++ ys) zs) e))
 
 pub along-of-append : (xs ys zs : List ℕ) → are_along (xs ++ ys) zs ≡ true → are_along xs zs ≡ true
 along-of-append [] ys zs e = refl
 along-of-append (x ∷ xs) ys [] e = refl
 along-of-append (x ∷ xs) ys (z ∷ zs) e =
-    and-both (x == z) (are_along xs zs) (and-left (x == z) (are_along (xs ++ ys) zs) e) (along-of-append xs ys zs (and-right (x == z) (are_along (xs ++ ys) zs) e))
+    and-both (x == z) (are_along xs zs) (first_so (x == z) (are_along (xs ++ ys) zs) e) (along-of-append xs ys zs (second_so (x == z) (are_along (xs ++ ys) zs) e))
 
 prefix-is : (xs ys : List ℕ) → is_prefix xs ys ≡ true → xs ≡ take (length xs) ys
 prefix-is [] ys e = refl
 prefix-is (x ∷ xs) [] e = cc
 prefix-is (x ∷ xs) (y ∷ ys) e =
-    let here : x ≡ y = eqb-true x y (and-left (x == y) (is_prefix xs ys) e) in
-    let rest = prefix-is xs ys (and-right (x == y) (is_prefix xs ys) e) in
+    let here : x ≡ y = eqb-true x y (first_so (x == y) (is_prefix xs ys) e) in
+    let rest = prefix-is xs ys (second_so (x == y) (is_prefix xs ys) e) in
     cc
 
 prefix-length : (xs ys : List ℕ) → is_prefix xs ys ≡ true → length xs ≤ length ys
 prefix-length [] ys e = omega arith
 prefix-length (x ∷ xs) [] e = cc
-prefix-length (x ∷ xs) (y ∷ ys) e = omega (arith, prefix-length xs ys (and-right (x == y) (is_prefix xs ys) e))
+prefix-length (x ∷ xs) (y ∷ ys) e = omega (arith, prefix-length xs ys (second_so (x == y) (is_prefix xs ys) e))
 
 -- ---- verdicts
 
@@ -169,7 +162,7 @@ bi-empty = refl
 pub control-verdict : (bytes : List ℕ) → is_prefix bytes empty_control ≡ true → IsOrWaits (Control 1) (uni_verdict_of bytes Running)
 control-verdict [] e = rw uni-empty Waits
 control-verdict (x ∷ bytes) e =
-    let x-is : x ≡ 0 = eqb-true x 0 (and-left (x == 0) (is_prefix bytes (4 ∷ 0 ∷ [])) e) in
+    let x-is : x ≡ 0 = eqb-true x 0 (first_so (x == 0) (is_prefix bytes (4 ∷ 0 ∷ [])) e) in
     rw (x-is, control-with bytes) Is
 
 header-cut-one : uni_verdict_of (64 ∷ []) Running ≡ Incomplete
@@ -190,19 +183,19 @@ header-with bytes = uni-stays (64 ∷ 84 ∷ 0 ∷ []) bytes (rw header-alone re
 pub session-verdict : (bytes : List ℕ) → are_along bytes session_header ≡ true → IsOrWaits (WebTransport 0 3) (uni_verdict_of bytes Running)
 session-verdict [] e = rw uni-empty Waits
 session-verdict (x ∷ []) e =
-    let x-is : x ≡ 64 = eqb-true x 64 (and-left (x == 64) true e) in
+    let x-is : x ≡ 64 = eqb-true x 64 (first_so (x == 64) true e) in
     rw (x-is, header-cut-one) Waits
 session-verdict (x ∷ y ∷ []) e =
-    let x-is : x ≡ 64 = eqb-true x 64 (and-left (x == 64) (are_along (y ∷ []) (84 ∷ 0 ∷ [])) e) in
-    let e2 : are_along (y ∷ []) (84 ∷ 0 ∷ []) ≡ true = and-right (x == 64) (are_along (y ∷ []) (84 ∷ 0 ∷ [])) e in
-    let y-is : y ≡ 84 = eqb-true y 84 (and-left (y == 84) true e2) in
+    let x-is : x ≡ 64 = eqb-true x 64 (first_so (x == 64) (are_along (y ∷ []) (84 ∷ 0 ∷ [])) e) in
+    let e2 : are_along (y ∷ []) (84 ∷ 0 ∷ []) ≡ true = second_so (x == 64) (are_along (y ∷ []) (84 ∷ 0 ∷ [])) e in
+    let y-is : y ≡ 84 = eqb-true y 84 (first_so (y == 84) true e2) in
     rw (x-is, y-is, header-cut-two) Waits
 session-verdict (x ∷ y ∷ z ∷ bytes) e =
-    let x-is : x ≡ 64 = eqb-true x 64 (and-left (x == 64) (are_along (y ∷ z ∷ bytes) (84 ∷ 0 ∷ [])) e) in
-    let e2 : are_along (y ∷ z ∷ bytes) (84 ∷ 0 ∷ []) ≡ true = and-right (x == 64) (are_along (y ∷ z ∷ bytes) (84 ∷ 0 ∷ [])) e in
-    let y-is : y ≡ 84 = eqb-true y 84 (and-left (y == 84) (are_along (z ∷ bytes) (0 ∷ [])) e2) in
-    let e3 : are_along (z ∷ bytes) (0 ∷ []) ≡ true = and-right (y == 84) (are_along (z ∷ bytes) (0 ∷ [])) e2 in
-    let z-is : z ≡ 0 = eqb-true z 0 (and-left (z == 0) (are_along bytes []) e3) in
+    let x-is : x ≡ 64 = eqb-true x 64 (first_so (x == 64) (are_along (y ∷ z ∷ bytes) (84 ∷ 0 ∷ [])) e) in
+    let e2 : are_along (y ∷ z ∷ bytes) (84 ∷ 0 ∷ []) ≡ true = second_so (x == 64) (are_along (y ∷ z ∷ bytes) (84 ∷ 0 ∷ [])) e in
+    let y-is : y ≡ 84 = eqb-true y 84 (first_so (y == 84) (are_along (z ∷ bytes) (0 ∷ [])) e2) in
+    let e3 : are_along (z ∷ bytes) (0 ∷ []) ≡ true = second_so (y == 84) (are_along (z ∷ bytes) (0 ∷ [])) e2 in
+    let z-is : z ≡ 0 = eqb-true z 0 (first_so (z == 0) (are_along bytes []) e3) in
     rw (x-is, y-is, z-is, header-with bytes) Is
 
 -- ---- the request: each proper prefix of it waits
@@ -226,10 +219,10 @@ all-wait = refl
 
 waits-below : (n k : ℕ) → all_wait n ≡ true → k < n → waits (bi_verdict_of (take k request_list) Running) ≡ true
 waits-below zero k e l = absurd (omega arith)
-waits-below (suc n) k e l = here-or-below (k == n) refl (waits-below n k (and-right (waits (bi_verdict_of (take n request_list) Running)) (all_wait n) e))
+waits-below (suc n) k e l = here-or-below (k == n) refl (waits-below n k (second_so (waits (bi_verdict_of (take n request_list) Running)) (all_wait n) e))
   where
     here-or-below : (b : Bool) → (k == n) ≡ b → (k < n → waits (bi_verdict_of (take k request_list) Running) ≡ true) → waits (bi_verdict_of (take k request_list) Running) ≡ true
-    here-or-below true s below = subst (λ (j : ℕ). waits (bi_verdict_of (take j request_list) Running) ≡ true) (sym (eqb-true k n s)) (and-left (waits (bi_verdict_of (take n request_list) Running)) (all_wait n) e)
+    here-or-below true s below = subst (λ (j : ℕ). waits (bi_verdict_of (take j request_list) Running) ≡ true) (sym (eqb-true k n s)) (first_so (waits (bi_verdict_of (take n request_list) Running)) (all_wait n) e)
     here-or-below false s below = below (grind (arith, nat_tests))
 
 request-whole : bi_verdict_of request_list Running ≡ Request one_fields 83
@@ -254,32 +247,32 @@ request-verdict bytes e =
 
 -- ---- the peer's SETTINGS
 
--- SETTINGS came in these bytes of the control stream, behind its type
-abbrev pub settings_came : List ℕ → Bool
-settings_came bytes = is_some (control_walk_of (drop 1 bytes) Running).settings
+-- SETTINGS came in these bytes of the control stream, after its type
+abbrev pub settings_received : List ℕ → Bool
+settings_received bytes = is_some (control_walk_of (drop 1 bytes) Running).settings
 
-pub none-came : settings_came [] ≡ false
+pub none-came : settings_received [] ≡ false
 unfolding control_walk_of
 none-came = refl
 
-one-came : (x : ℕ) → settings_came (x ∷ []) ≡ false
+one-came : (x : ℕ) → settings_received (x ∷ []) ≡ false
 unfolding control_walk_of
 one-came x = refl
 
-two-came : (x : ℕ) → settings_came (x ∷ 4 ∷ []) ≡ false
+two-came : (x : ℕ) → settings_received (x ∷ 4 ∷ []) ≡ false
 unfolding control_walk_of control_decides frame_at varint_at
 two-came x = refl
 
 -- SETTINGS that came stay
-pub settings-stay : (bytes more : List ℕ) → is_prefix (bytes ++ more) empty_control ≡ true → settings_came bytes ≡ true → settings_came (bytes ++ more) ≡ true
+pub settings-stay : (bytes more : List ℕ) → is_prefix (bytes ++ more) empty_control ≡ true → settings_received bytes ≡ true → settings_received (bytes ++ more) ≡ true
 settings-stay [] more p e = let none : false ≡ true = sym none-came ∙ e in absurd (cc)
 settings-stay (x ∷ []) more p e = let none : false ≡ true = sym (one-came x) ∙ e in absurd (cc)
 settings-stay (x ∷ y ∷ []) more p e =
-    let second : (y == 4 && is_prefix more (0 ∷ [])) ≡ true = and-right (x == 0) (is_prefix (y ∷ more) (4 ∷ 0 ∷ [])) p in
-    let four : y ≡ 4 = eqb-true y 4 (and-left (y == 4) (is_prefix more (0 ∷ [])) second) in
-    let none : false ≡ true = sym (two-came x) ∙ subst (λ (z : ℕ). settings_came (x ∷ z ∷ []) ≡ true) four e in
+    let second : (y == 4 && is_prefix more (0 ∷ [])) ≡ true = second_so (x == 0) (is_prefix (y ∷ more) (4 ∷ 0 ∷ [])) p in
+    let four : y ≡ 4 = eqb-true y 4 (first_so (y == 4) (is_prefix more (0 ∷ [])) second) in
+    let none : false ≡ true = sym (two-came x) ∙ subst (λ (z : ℕ). settings_received (x ∷ z ∷ []) ≡ true) four e in
     absurd (cc)
-settings-stay (x ∷ y ∷ z ∷ bytes) [] p e = subst (λ (b : List ℕ). settings_came b ≡ true) (sym (append-nil (x ∷ y ∷ z ∷ bytes))) e
+settings-stay (x ∷ y ∷ z ∷ bytes) [] p e = subst (λ (b : List ℕ). settings_received b ≡ true) (sym (append-nil (x ∷ y ∷ z ∷ bytes))) e
 settings-stay (x ∷ y ∷ z ∷ []) (m ∷ more) p e = absurd (last (x == 0) (y == 4) (z == 0) p)
   where
     last : (a b c : Bool) → (a && (b && (c && false))) ≡ true → ⊥
@@ -296,10 +289,10 @@ settings-stay (x ∷ y ∷ z ∷ u ∷ bytes) (m ∷ more) p e = absurd (last (x
     last false b c e = cc
 
 -- before the control stream's type is there, no SETTINGS came
-pub settings-waits : (bytes : List ℕ) → is_prefix bytes empty_control ≡ true → uni_verdict_of bytes Running ≡ Incomplete → settings_came bytes ≡ false
+pub settings-waits : (bytes : List ℕ) → is_prefix bytes empty_control ≡ true → uni_verdict_of bytes Running ≡ Incomplete → settings_received bytes ≡ false
 settings-waits [] e w = none-came
 settings-waits (x ∷ bytes) e w =
-    let x-is : x ≡ 0 = eqb-true x 0 (and-left (x == 0) (is_prefix bytes (4 ∷ 0 ∷ [])) e) in
+    let x-is : x ≡ 0 = eqb-true x 0 (first_so (x == 0) (is_prefix bytes (4 ∷ 0 ∷ [])) e) in
     let there : uni_verdict_of (x ∷ bytes) Running ≡ Control 1 = ap (λ (y : ℕ). uni_verdict_of (y ∷ bytes) Running) x-is ∙ control-with bytes in
     let both : Control 1 ≡ Incomplete = sym there ∙ w in
     absurd (cc)

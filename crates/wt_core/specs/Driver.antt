@@ -1,201 +1,218 @@
--- Which of the peer's streams are taken and ripe, and what this end's own control stream sends: one recursion over
--- the moments of a history. That a control stream is opened first, with SETTINGS as its first frame, is RFC 9114,
--- sections 3.2 and 6.2.1; how many streams are taken at once is this repository's own, after the Rust crate.
-use Rattle.std.specs.Prelude.{ℕ, zero, suc, ◌+◌, ◌*◌, List, [], ◌∷◌, ◌++◌, length, take, drop, Option, Some, None, Bool, true, false, nat_lt, ◌==◌, ◌||◌, ◌&&◌, not, if◌then◌else◌}
+-- Which of the peer's streams are dequeued and classified, and what this end's own control stream sends: one recursion over
+-- the moments of a log. That a control stream is opened first, with SETTINGS as its first frame, is RFC 9114,
+-- sections 3.2 and 6.2.1; how many streams are dequeued at once is this repository's own, after the Rust crate.
+use Rattle.std.specs.Prelude.{ℕ, zero, suc, ◌+◌, ◌*◌, List, [], ◌∷◌, ◌++◌, length, take, drop, Option, Some, None, Bool, true, false, nat_lt, ◌==◌, ◌||◌, ◌&&◌, not, if◌then◌else◌, is_some}
 use Rattle.std.specs.List.{list_any}
 use Rattle.wt_wire.specs.declared.side.Side.{Side}
 use Rattle.wt_wire.specs.declared.side.StreamEnd.TheVariants.{Running}
-use Rattle.wt_seam.specs.declared.action.Action.{Action}
-use Rattle.wt_seam.specs.declared.action.Action.TheVariants as actions
+use Rattle.wt_turn.specs.declared.action.Action.{Action}
+use Rattle.wt_turn.specs.declared.action.Action.TheVariants as actions
 use Rattle.wt_proto.specs.declared.verdict.Verdict.{Verdict}
 use Rattle.wt_proto.specs.declared.verdict.Verdict.TheVariants as verdicts
 use Rattle.wt_proto.specs.Bi.{bi_verdict_of}
 use Rattle.wt_proto.specs.ControlWalk.{control_walk_of}
-use Rattle.wt_proto.specs.FixedBytes.{own_control_bytes}
+use Rattle.wt_message.specs.FixedBytes.{local_control_bytes}
 use Rattle.wt_proto.specs.Uni.{uni_verdict_of}
-use Rattle.wt_seam.specs.History.{Deed, HandedOut, Given, Begun, Stands, ReadOut, Asked, Fact, Byte, Came, Out, Did, Past, came, outs, deeds, put}
-use Rattle.wt_seam.specs.Seam.{contents, is_connected, is_some, unis_allowed, credit, end_of, peer_unis, peer_bis, sent, opened, own_uni, peer_uni, peer_bi}
+use Rattle.wt_turn.specs.Log.{CallRecord, StreamAccepted, Entry, ReportedLate, Sent, Log, events_of, actions_of, calls_of, with_actions}
+use Rattle.wt_core.specs.Transport.{contents, is_connected, unis_allowed, credit, end_of, peer_unis, peer_bis, sent, opened, local_uni, peer_uni, peer_bi}
 
 -- ---- what is seen of the peer's streams
 
--- a ripe stream with its verdict
-pub record Ripe : Type 0 where
+-- a classified stream with its verdict
+pub record Classified : Type 0 where
   pub id : ℕ
   pub verdict : Verdict
 
 -- after a moment
-pub record Seen : Type 0 where
-  pub taken : List ℕ  -- the streams that are taken
-  pub ripe : List Ripe  -- the ripe ones, in ripe order: by moment, then unidirectional ones first, then by id
+pub record StreamTable : Type 0 where
+  pub dequeued : List ℕ  -- the streams that are dequeued
+  pub classified : List Classified  -- the classified ones, in the order in which they were classified: by moment, then unidirectional ones first, then by id
   pub settings : Bool  -- the peer's SETTINGS came
 
-abbrev pub start : Seen
-start = record { taken = []; ripe = []; settings = false }
+-- before the first moment
+abbrev pub empty_table : StreamTable
+empty_table = record { dequeued = []; classified = []; settings = false }
 
+-- the id is in the list
 abbrev pub has : ℕ → List ℕ → Bool
 has k [] = false
 has k (x ∷ xs) = x == k || has k xs
 
--- the verdict with which a stream became ripe
-abbrev pub ripe_of : ℕ → List Ripe → Option Verdict
-ripe_of k [] = None
-ripe_of k (r ∷ rs) = if r.id == k then Some r.verdict else ripe_of k rs
+-- the verdict with which a stream was classified
+abbrev pub verdict_of : ℕ → List Classified → Option Verdict
+verdict_of k [] = None
+verdict_of k (r ∷ rs) = if r.id == k then Some r.verdict else verdict_of k rs
 
 -- ---- ready: this end's SETTINGS are out, or may go out now
 
-abbrev pub own_control : Side → ℕ
-own_control side = own_uni side
+-- the id of this end's control stream, the first that it opens of its kind
+abbrev pub local_control : Side → ℕ
+local_control side = local_uni side
 
-abbrev pub is_ready : Side → Past → Bool
+-- the connection is established, this end may open a stream, and its credit covers the own SETTINGS
+abbrev pub is_ready : Side → Log → Bool
 is_ready side h =
-    is_connected (came h) && nat_lt 0 (unis_allowed (came h)) && not (nat_lt (credit (came h) (own_control side)) (length own_control_bytes))
+    is_connected (events_of h) && nat_lt 0 (unis_allowed (events_of h)) && not (nat_lt (credit (events_of h) (local_control side)) (length local_control_bytes))
 
--- ---- taken and ripe
+-- ---- dequeued and classified
 
-abbrev pub hands_out : ℕ → Deed → Bool
-hands_out k (HandedOut id) = id == k
-hands_out k (Given id) = false
-hands_out k (Begun head) = false
-hands_out k (Stands session) = false
-hands_out k (ReadOut id count) = false
-hands_out k Asked = false
+-- a call that accepted this stream
+abbrev pub accepts_stream : ℕ → CallRecord → Bool
+accepts_stream k (StreamAccepted id) = id == k
+accepts_stream k _ = false
 
--- a stream of a session is settled where it was handed out, another one as it is ripe; a fault ends the connection
--- before its stream is settled
-abbrev pub is_settled : Past → ℕ → Verdict → Bool
-is_settled h k verdicts.Incomplete = false
-is_settled h k (verdicts.WebTransport session at) = list_any (hands_out k) (deeds h)
-is_settled h k (verdicts.Control at) = true
-is_settled h k (verdicts.Encoder at) = true
-is_settled h k (verdicts.Decoder at) = true
-is_settled h k (verdicts.Request headers at) = true
-is_settled h k (verdicts.Refused code) = true
-is_settled h k verdicts.Dropped = true
-is_settled h k (verdicts.Fault code) = false
+-- a stream of a session is released where it was accepted, another one as it is classified; a fault ends the connection
+-- before its stream is released
+abbrev pub is_released : Log → ℕ → Verdict → Bool
+is_released h k verdicts.Incomplete = false
+is_released h k (verdicts.WebTransport session at) = list_any (accepts_stream k) (calls_of h)
+is_released h k (verdicts.Control at) = true
+is_released h k (verdicts.Encoder at) = true
+is_released h k (verdicts.Decoder at) = true
+is_released h k (verdicts.Request headers at) = true
+is_released h k (verdicts.Refused code) = true
+is_released h k verdicts.Dropped = true
+is_released h k (verdicts.Fault code) = false
 
 -- a kind of the peer's streams
-pub record Kind : Type 0 where
-  pub most : ℕ  -- a stream is taken where fewer than this many earlier ones are unsettled
+pub record SlotRule : Type 0 where
+  pub most : ℕ  -- a stream is dequeued where fewer than this many earlier ones are unreleased
   pub verdict : ℕ → Verdict
-  pub settled : ℕ → Verdict → Bool
+  pub released : ℕ → Verdict → Bool
 
--- the streams of a kind are looked at by id; so many earlier ones are unsettled
-pub record Pass : Type 0 where
+-- the streams of a kind are looked at by id; so many earlier ones are unreleased
+pub record Scan : Type 0 where
   pub earlier : ℕ
-  pub seen : Seen
+  pub stream_table : StreamTable
 
-abbrev pub counted : Bool → ℕ → ℕ
-counted true n = n
-counted false n = suc n
+-- how many slots are occupied after a stream that was released or not
+abbrev pub occupied : Bool → ℕ → ℕ
+occupied true n = n
+occupied false n = suc n
 
-abbrev pub with_ripe : Seen → ℕ → Verdict → Seen
-with_ripe s k v = record s { ripe = s.ripe ++ record { id = k; verdict = v } ∷ [] }
+-- the table with one more classified stream, as the last
+abbrev pub with_classified : StreamTable → ℕ → Verdict → StreamTable
+with_classified s k v = record s { classified = s.classified ++ record { id = k; verdict = v } ∷ [] }
 
--- a taken stream is ripe where its verdict isn't Incomplete
-abbrev pub judged : Kind → ℕ → Verdict → Pass → Pass
-judged kind k verdicts.Incomplete p = record p { earlier = suc p.earlier }
-judged kind k v p = record { earlier = counted (kind.settled k v) p.earlier; seen = with_ripe p.seen k v }
+-- a dequeued stream is classified where its verdict isn't Incomplete
+abbrev pub classify : SlotRule → ℕ → Verdict → Scan → Scan
+classify kind k verdicts.Incomplete p = record p { earlier = suc p.earlier }
+classify kind k v p = record { earlier = occupied (kind.released k v) p.earlier; stream_table = with_classified p.stream_table k v }
 
-abbrev pub with_taken : ℕ → Seen → Seen
-with_taken k s = record s { taken = if has k s.taken then s.taken else s.taken ++ k ∷ [] }
+-- the table with this stream dequeued, once
+abbrev pub with_dequeued : ℕ → StreamTable → StreamTable
+with_dequeued k s = record s { dequeued = if has k s.dequeued then s.dequeued else s.dequeued ++ k ∷ [] }
 
-abbrev pub taking : Bool → Kind → ℕ → Pass → Pass
-taking false kind k p = record p { earlier = suc p.earlier }
-taking true kind k p = judged kind k (kind.verdict k) (record p { seen = with_taken k p.seen })
+-- a stream that may be dequeued is classified by its verdict; another one stays and occupies a slot
+abbrev pub dequeue : Bool → SlotRule → ℕ → Scan → Scan
+dequeue false kind k p = record p { earlier = suc p.earlier }
+dequeue true kind k p = classify kind k (kind.verdict k) (record p { stream_table = with_dequeued k p.stream_table })
 
--- what is ripe stays so, what was taken stays so; else a stream is taken where few enough earlier ones are
--- unsettled
-abbrev pub meets : Bool → Kind → ℕ → Option Verdict → Pass → Pass
-meets ready kind k (Some v) p = record p { earlier = counted (kind.settled k v) p.earlier }
-meets ready kind k None p = taking (has k p.seen.taken || (ready && nat_lt p.earlier kind.most)) kind k p
+-- what is classified stays so, what was dequeued stays so; else a stream is dequeued where few enough earlier ones are
+-- unreleased
+abbrev pub visit : Bool → SlotRule → ℕ → Option Verdict → Scan → Scan
+visit ready kind k (Some v) p = record p { earlier = occupied (kind.released k v) p.earlier }
+visit ready kind k None p = dequeue (has k p.stream_table.dequeued || (ready && nat_lt p.earlier kind.most)) kind k p
 
-abbrev pub over : Bool → Kind → List ℕ → Pass → Pass
-over ready kind [] p = p
-over ready kind (k ∷ ks) p = over ready kind ks (meets ready kind k (ripe_of k p.seen.ripe) p)
+-- one look at these streams after another, in order of their ids
+abbrev pub scan : Bool → SlotRule → List ℕ → Scan → Scan
+scan ready kind [] p = p
+scan ready kind (k ∷ ks) p = scan ready kind ks (visit ready kind k (verdict_of k p.stream_table.classified) p)
 
 -- the ids of the streams of a kind from this one on
 abbrev pub ids : ℕ → ℕ → ℕ → List ℕ
 ids kind n zero = []
 ids kind n (suc count) = (4 * n + kind) ∷ ids kind (suc n) count
 
-abbrev pub over_unis : Side → Past → Seen → Seen
-over_unis side h s =
-    (over (is_ready side h)
-    (record { most = 4; verdict = λ k. uni_verdict_of (contents h k) (end_of (came h) k); settled = is_settled h })
-    (ids (peer_uni side) 0 (peer_unis (came h))) (record { earlier = 0; seen = s })).seen
+-- one look at the peer's unidirectional streams, of which at most 4 are dequeued and unreleased
+abbrev pub scan_unis : Side → Log → StreamTable → StreamTable
+scan_unis side h s =
+    (scan (is_ready side h)
+    (record { most = 4; verdict = λ k. uni_verdict_of (contents h k) (end_of (events_of h) k); released = is_released h })
+    (ids (peer_uni side) 0 (peer_unis (events_of h))) (record { earlier = 0; stream_table = s })).stream_table
 
-abbrev pub over_bis : Side → Past → Seen → Seen
-over_bis side h s =
-    (over (is_ready side h)
-    (record { most = 1; verdict = λ k. bi_verdict_of (contents h k) (end_of (came h) k); settled = is_settled h })
-    (ids (peer_bi side) 0 (peer_bis (came h))) (record { earlier = 0; seen = s })).seen
+-- one look at the peer's bidirectional streams, of which at most 1 is dequeued and unreleased
+abbrev pub scan_bis : Side → Log → StreamTable → StreamTable
+scan_bis side h s =
+    (scan (is_ready side h)
+    (record { most = 1; verdict = λ k. bi_verdict_of (contents h k) (end_of (events_of h) k); released = is_released h })
+    (ids (peer_bi side) 0 (peer_bis (events_of h))) (record { earlier = 0; stream_table = s })).stream_table
 
 -- ---- the peer's SETTINGS
 
-abbrev pub control_at : Verdict → Option ℕ
-control_at (verdicts.Control at) = Some at
-control_at _ = None
+-- the offset after the type of a control stream
+abbrev pub control_offset : Verdict → Option ℕ
+control_offset (verdicts.Control at) = Some at
+control_offset _ = None
 
 -- the bytes are those of a control stream on which SETTINGS came
-abbrev pub control_came : Verdict → List ℕ → Bool
-control_came (verdicts.Control at) bytes = is_some (control_walk_of (drop at bytes) Running).settings
-control_came _ bytes = false
+abbrev pub control_received_settings : Verdict → List ℕ → Bool
+control_received_settings (verdicts.Control at) bytes = is_some (control_walk_of (drop at bytes) Running).settings
+control_received_settings _ bytes = false
 
--- the first ripe stream of which this tells where its part begins
-abbrev pub first_at : (Verdict → Option ℕ) → List Ripe → Option (ℕ × ℕ)
-first_at tells [] = None
-first_at tells (r ∷ rs) = elim (tells r.verdict) [ Some at ↦ Some (r.id, at) | None ↦ first_at tells rs ]
+-- the first classified stream of which this tells where its part begins
+abbrev pub first_offset : (Verdict → Option ℕ) → List Classified → Option (ℕ × ℕ)
+first_offset tells [] = None
+first_offset tells (r ∷ rs) = elim (tells r.verdict) [ Some at ↦ Some (r.id, at) | None ↦ first_offset tells rs ]
 
-abbrev pub over_control : Past → Option (ℕ × ℕ) → Seen → Seen
-over_control h None s = s
-over_control h (Some x) s =
-    record s { settings = s.settings || is_some (control_walk_of (drop x.1 (contents h x.0)) (end_of (came h) x.0)).settings }
+-- the peer's SETTINGS are received once the control walk of the control stream has read them
+abbrev pub scan_control : Log → Option (ℕ × ℕ) → StreamTable → StreamTable
+scan_control h None s = s
+scan_control h (Some x) s =
+    record s { settings = s.settings || is_some (control_walk_of (drop x.1 (contents h x.0)) (end_of (events_of h) x.0)).settings }
 
 -- ---- a moment: what it looks at, in order
 
-abbrev pub in_order : Seen → List (Seen → Seen) → Seen
+-- these looks, one after another
+abbrev pub in_order : StreamTable → List (StreamTable → StreamTable) → StreamTable
 in_order s [] = s
 in_order s (f ∷ fs) = in_order (f s) fs
 
-abbrev pub steps : Side → Past → List (Seen → Seen)
-steps side h = over_unis side h ∷ over_bis side h ∷ (λ s. over_control h (first_at control_at s.ripe) s) ∷ []
+-- what a moment looks at, in order: unidirectional streams, bidirectional streams, the control stream
+abbrev pub scan_order : Side → Log → List (StreamTable → StreamTable)
+scan_order side h = scan_unis side h ∷ scan_bis side h ∷ (λ s. scan_control h (first_offset control_offset s.classified) s) ∷ []
 
-abbrev pub at_moment : Side → Past → Seen → Seen
-at_moment side h s = in_order s (steps side h)
+-- the table after one more moment
+abbrev pub at_moment : Side → Log → StreamTable → StreamTable
+at_moment side h s = in_order s (scan_order side h)
 
 -- what is seen after the newest moment; an action is no moment
-unfoldable pub seen : Side → Past → Seen
-seen side [] = start
-seen side (Out a ∷ h) = seen side h
-seen side (Came e ∷ h) = at_moment side (Came e ∷ h) (seen side h)
-seen side (Byte id byte ∷ h) = at_moment side (Byte id byte ∷ h) (seen side h)
-seen side (Did d ∷ h) = at_moment side (Did d ∷ h) (seen side h)
+unfoldable pub stream_table : Side → Log → StreamTable
+stream_table side [] = empty_table
+stream_table side (Sent a ∷ h) = stream_table side h
+stream_table side (ReportedLate e ∷ h) = stream_table side h
+stream_table side (m ∷ h) = at_moment side (m ∷ h) (stream_table side h)
 
 -- ---- what goes out at a moment: this end's control stream, as soon as it may be opened and as far as credit lets it
 
+-- a stream is opened, where the test says so
 abbrev pub opening : Bool → ℕ → List Action
 opening true id = actions.Opened id ∷ []
 opening false id = []
 
+-- bytes are sent on a stream, where there are any
 abbrev pub sending : ℕ → List ℕ → List Action
 sending k [] = []
 sending k (byte ∷ bytes) = actions.Send k (byte ∷ bytes) ∷ []
 
-abbrev pub may_open_control : Side → Past → Bool
-may_open_control side h = nat_lt 0 (unis_allowed (came h))
+-- this end may open a unidirectional stream
+abbrev pub may_open_control : Side → Log → Bool
+may_open_control side h = nat_lt 0 (unis_allowed (events_of h))
 
 -- what of these bytes isn't out on a stream, and has credit
-abbrev pub rest_of : Past → ℕ → List ℕ → List ℕ
-rest_of h k bytes = drop (length (sent (outs h) k)) (take (credit (came h) k) bytes)
+abbrev pub rest_of : Log → ℕ → List ℕ → List ℕ
+rest_of h k bytes = drop (length (sent (actions_of h) k)) (take (credit (events_of h) k) bytes)
 
-abbrev pub own_part : Bool → Side → Past → List Action
-own_part false side h = []
-own_part true side h =
-    opening (opened (outs h) (own_uni side) == 0) (own_control side) ++ sending (own_control side) (rest_of h (own_control side) own_control_bytes)
+-- this end's control stream is opened once, and sends what of its head isn't out and has credit
+abbrev pub local_control_actions : Bool → Side → Log → List Action
+local_control_actions false side h = []
+local_control_actions true side h =
+    opening (opened (actions_of h) (local_uni side) == 0) (local_control side) ++ sending (local_control side) (rest_of h (local_control side) local_control_bytes)
 
-abbrev pub work : Side → Past → List Action
-work side h = own_part (may_open_control side h) side h
+-- what goes out at this moment
+abbrev pub pending_actions : Side → Log → List Action
+pending_actions side h = local_control_actions (may_open_control side h) side h
 
 -- one more moment, with what it sends
-unfoldable pub moment : Side → Past → Fact → Past
-moment side h m = put (work side (m ∷ h)) (m ∷ h)
+unfoldable pub log_and_flush : Side → Log → Entry → Log
+log_and_flush side h m = with_actions (pending_actions side (m ∷ h)) (m ∷ h)

@@ -1,7 +1,8 @@
+pub mod Transport
 pub mod Driver
 pub mod Session
 pub mod Calls
 pub mod Built
 pub mod Next
-pub mod Kept
+pub mod CoreState
 pub mod Step

@@ -3,7 +3,7 @@ ghost use Rattle.std.specs.Prelude.{◌≡◌, ◌++◌};
 ghost use Rattle.wt_core.specs.Built.{are_along, empty_control, is_built_call, is_prefix, is_readable, one_request, session_header};
 
 use crate::streams::behind;
-use wt_seam::turn::Call;
+use wt_turn::Call;
 use wt_wire::ids::StreamId;
 
 /// The one request that may come: for a session at the path `/` of the authority `h`.
@@ -58,7 +58,7 @@ fn run_along(bytes: &[u8], whole: &[u8]) -> bool
     true
 }
 
-/// Whether the whole begins with these contents and a piece behind them.
+/// Whether the whole begins with these contents and a piece after them.
 #[tactic(auto, using(crate::proofs::Readable::is_prefix_append))]
 fn goes_on(contents: &[u8], piece: &[u8], whole: &[u8]) -> bool
     ensures { result ≡ is_prefix (contents.now ++ piece.now) whole.now }
@@ -66,7 +66,7 @@ fn goes_on(contents: &[u8], piece: &[u8], whole: &[u8]) -> bool
     begins(contents, whole) && begins(piece, behind(whole, contents.len()))
 }
 
-/// Whether the contents with a piece behind them begin with the whole or are its beginning.
+/// Whether the contents with a piece after them begin with the whole or are its beginning.
 #[tactic(auto, using(crate::proofs::Readable::are_along_append))]
 fn runs_on(contents: &[u8], piece: &[u8], whole: &[u8]) -> bool
     ensures { result ≡ are_along (contents.now ++ piece.now) whole.now }
@@ -74,7 +74,7 @@ fn runs_on(contents: &[u8], piece: &[u8], whole: &[u8]) -> bool
     run_along(contents, whole) && run_along(piece, behind(whole, contents.len()))
 }
 
-/// Whether the piece may come behind these contents of the stream.
+/// Whether the piece may come after these contents of the stream.
 pub(crate) fn is_readable_piece(id: StreamId, contents: &[u8], piece: &[u8]) -> bool
     ensures { result ≡ is_readable id (contents.now ++ piece.now) }
 {
@@ -93,5 +93,6 @@ pub(crate) fn is_call_built(call: &Call) -> bool
     match call {
         Call::Accept { headers } => headers.is_empty(),
         Call::Incoming | Call::AcceptUni | Call::Read { .. } => true,
+        _ => false,
     }
 }

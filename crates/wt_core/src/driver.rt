@@ -2,22 +2,22 @@
 ghost use Rattle.std.specs.Prelude.{◌≡◌, ◌<◌, ◌+◌, ◌^◌, IfOk, IfSome, length};
 ghost use Rattle.wt_proto.specs.Uni.{uni_verdict_of};
 ghost use Rattle.wt_wire.specs.declared.side.StreamEnd.TheVariants.{Running};
-ghost use Rattle.wt_core.specs.Driver.{control_came};
-ghost use Rattle.wt_core.specs.Step.{is_left, left_from, request_on, settings_came, unread_of};
+ghost use Rattle.wt_core.specs.Driver.{control_received_settings};
+ghost use Rattle.wt_core.specs.Step.{is_left, left_from, request_on, settings_received, unread_of};
 
 use crate::streams::{Stream, behind};
 use std::alloc::Global;
 use wt_proto::bi::bi_verdict;
 use wt_proto::control_walk::control_walk;
 use wt_proto::verdict::{Verdict, uni_verdict};
-use wt_seam::piece::Piece;
+use wt_turn::piece::Piece;
 use wt_wire::error::OutOfMemory;
 use wt_wire::ids::SessionId;
 use wt_wire::side::StreamEnd;
 
 /// Whether these are the bytes of a control stream on which SETTINGS came.
 fn brings_settings(alloc: Global, contents: &[u8]) -> Result<bool, OutOfMemory>
-    ensures { IfOk result (λ came. came ≡ control_came (uni_verdict_of contents.now Running) contents.now) }
+    ensures { IfOk result (λ received. received ≡ control_received_settings (uni_verdict_of contents.now Running) contents.now) }
 {
     match uni_verdict(contents, StreamEnd::Running) {
         Verdict::Control(at) => {
@@ -30,7 +30,7 @@ fn brings_settings(alloc: Global, contents: &[u8]) -> Result<bool, OutOfMemory>
 
 /// Whether the peer's SETTINGS came.
 pub(crate) fn have_settings_come(alloc: Global, unis: &[Stream]) -> Result<bool, OutOfMemory>
-    ensures { IfOk result (λ came. came ≡ settings_came unis.now) }
+    ensures { IfOk result (λ received. received ≡ settings_received unis.now) }
 {
     for stream in unis {
         if brings_settings(alloc, stream.contents.as_slice())? {
@@ -50,17 +50,17 @@ pub(crate) fn request_verdict(alloc: Global, bis: &[Piece]) -> Result<Verdict, O
     }
 }
 
-/// Whether the stream is the session's and wasn't handed out.
+/// Whether the stream is the session's and wasn't accepted.
 fn is_waiting(session: SessionId, stream: &Stream) -> bool
     ensures { result ≡ is_left session stream.now }
 {
     match uni_verdict(stream.contents.as_slice(), StreamEnd::Running) {
-        Verdict::WebTransport(named, _) => named == session && !stream.handed_out,
+        Verdict::WebTransport(named, _) => named == session && !stream.accepted,
         _ => false,
     }
 }
 
-/// The place of the session's first stream that wasn't handed out.
+/// The index of the session's first stream that wasn't accepted.
 pub(crate) fn next_uni(session: SessionId, unis: &[Stream]) -> Option<usize>
     ensures place { result ≡ left_from session 0 unis.now }
     ensures within { IfSome result (λ place. place < length unis.now) }

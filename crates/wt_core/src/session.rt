@@ -1,58 +1,57 @@
 //! The handshake of a server's session, and the calls on a session and its streams.
 ghost use Rattle.std.specs.Prelude.{◌≡◌, ◌<◌, ◌/◌, [], IfOk, IfSome, OnOk, length, take};
 ghost use Rattle.wt_core.specs.Session.{accepting_response};
-ghost use Rattle.wt_core.specs.Step.{asked_for, is_waiting, left_in, read_on, read_reply, session_named, uni_at, uni_reply, unread_of, was_given, with_handed, with_uni};
+ghost use Rattle.wt_core.specs.Step.{request_reply, is_awaiting, left_in, read_on, step_read_reply, session_in, uni_at, uni_reply, unread_of, is_requested, with_accepted_at, with_uni};
 
-use crate::answer::Reply;
 use crate::driver::{next_uni, unread};
 use crate::streams::Stream;
 use std::alloc::Global;
 use wt_proto::session::SessionResponse;
 use wt_proto::verdict::Verdict;
-use wt_seam::piece::Piece;
+use wt_turn::{Piece, Reply};
 use wt_wire::error::OutOfMemory;
 use wt_wire::ids::{SessionId, StreamId};
 use wt_wire::varint::VarInt;
 
 /// How far the handshake is.
 #[derive(Clone, Copy, Debug)]
-pub enum Progress {
+pub enum HandshakeState {
     /// No request was given.
-    Waiting,
+    AwaitingRequest,
     /// The request on this stream was given, and not responded to.
-    Given(SessionId),
-    /// The session stands.
-    Standing(SessionId),
+    Requested(SessionId),
+    /// The session is established.
+    Established(SessionId),
 }
 
-impl Progress {
-    pub(crate) fn is_waiting(&self) -> bool
-        ensures { result ≡ is_waiting self.now }
+impl HandshakeState {
+    pub(crate) fn is_awaiting(&self) -> bool
+        ensures { result ≡ is_awaiting self.now }
     {
         match self {
-            Progress::Waiting => true,
-            Progress::Given(_) | Progress::Standing(_) => false,
+            HandshakeState::AwaitingRequest => true,
+            HandshakeState::Requested(_) | HandshakeState::Established(_) => false,
         }
     }
 
-    pub(crate) fn was_given(&self) -> bool
-        ensures { result ≡ was_given self.now }
+    pub(crate) fn is_requested(&self) -> bool
+        ensures { result ≡ is_requested self.now }
     {
         match self {
-            Progress::Given(_) => true,
-            Progress::Waiting | Progress::Standing(_) => false,
+            HandshakeState::Requested(_) => true,
+            HandshakeState::AwaitingRequest | HandshakeState::Established(_) => false,
         }
     }
 }
 
-impl Progress {
+impl HandshakeState {
     /// The session that the handshake is about; before a request was given the first.
     pub(crate) fn session(&self) -> SessionId
-        ensures { result ≡ session_named self.now }
+        ensures { result ≡ session_in self.now }
     {
         match self {
-            Progress::Given(session) | Progress::Standing(session) => *session,
-            Progress::Waiting => first_session(),
+            HandshakeState::Requested(session) | HandshakeState::Established(session) => *session,
+            HandshakeState::AwaitingRequest => first_session(),
         }
     }
 }
@@ -69,7 +68,7 @@ fn first_session() -> SessionId
 
 /// The request, where SETTINGS came and the stream says one.
 pub(crate) fn reply_with_request(has_settings: bool, verdict: Verdict) -> Result<Reply, OutOfMemory>
-    ensures { IfOk result (λ reply. reply ≡ asked_for has_settings verdict) }
+    ensures { IfOk result (λ reply. reply ≡ request_reply has_settings verdict) }
 {
     match verdict {
         Verdict::Request(request, _) if has_settings => Ok(Reply::Request {
@@ -91,59 +90,59 @@ pub(crate) fn response_frame(alloc: Global) -> Result<Piece, OutOfMemory>
     Ok(Piece::from_vec(bytes))
 }
 
-/// The place of the stream that an accept gives.
-pub(crate) fn accepted_place(progress: &Progress, unis: &[Stream]) -> Option<usize>
-    ensures place { result ≡ left_in progress.now unis.now }
+/// The index of the stream that an accept gives.
+pub(crate) fn accepted_place(handshake: &HandshakeState, unis: &[Stream]) -> Option<usize>
+    ensures place { result ≡ left_in handshake.now unis.now }
     ensures within { IfSome result (λ place. place < length unis.now) }
 {
-    match progress {
-        Progress::Standing(session) => next_uni(*session, unis),
-        Progress::Waiting | Progress::Given(_) => None,
+    match handshake {
+        HandshakeState::Established(session) => next_uni(*session, unis),
+        HandshakeState::AwaitingRequest | HandshakeState::Requested(_) => None,
     }
 }
 
-/// Hands out the stream of this place.
+/// Accepts the stream of this index.
 fn hand_out(unis: &mut [Stream], place: Option<usize>)
     requires { IfSome place (λ place. place < length unis.old) }
-    ensures { unis.new ≡ with_handed unis.old place }
+    ensures { unis.new ≡ with_accepted_at unis.old place }
 {
     if let Some(place) = place {
         let stream = &mut unis[place];
-        stream.handed_out = true;
+        stream.accepted = true;
     }
 }
 
-/// The stream of this place, where a session stands.
-fn reply_with_uni(progress: &Progress, unis: &[Stream], place: Option<usize>) -> Reply
+/// The stream of this index, where a session is established.
+fn reply_with_uni(handshake: &HandshakeState, unis: &[Stream], place: Option<usize>) -> Reply
     requires { IfSome place (λ place. place < length unis.now) }
-    ensures { result ≡ uni_reply progress.now unis.now place }
+    ensures { result ≡ uni_reply handshake.now unis.now place }
 {
-    match progress {
-        Progress::Standing(_) => match place {
+    match handshake {
+        HandshakeState::Established(_) => match place {
             Some(place) => {
                 let stream = &unis[place];
                 Reply::Uni(stream.id)
             }
             None => Reply::Pending,
         },
-        Progress::Waiting | Progress::Given(_) => Reply::NoSession,
+        HandshakeState::AwaitingRequest | HandshakeState::Requested(_) => Reply::NoSession,
     }
 }
 
-/// Gives the session's next stream: the reply, and the stream as handed out.
-pub(crate) fn accept_uni(progress: &Progress, unis: &mut [Stream]) -> Reply
-    ensures reply { result ≡ uni_reply progress.now unis.old (left_in progress.now unis.old) }
-    ensures state { unis.new ≡ with_handed unis.old (left_in progress.now unis.old) }
+/// Gives the session's next stream: the reply, and the stream as accepted.
+pub(crate) fn accept_uni(handshake: &HandshakeState, unis: &mut [Stream]) -> Reply
+    ensures reply { result ≡ uni_reply handshake.now unis.old (left_in handshake.now unis.old) }
+    ensures state { unis.new ≡ with_accepted_at unis.old (left_in handshake.now unis.old) }
 {
-    let place = accepted_place(progress, unis);
-    let reply = reply_with_uni(progress, unis, place);
+    let place = accepted_place(handshake, unis);
+    let reply = reply_with_uni(handshake, unis, place);
     hand_out(unis, place);
     reply
 }
 
 /// At most so many of the unread bytes.
 fn reply_with_bytes(alloc: Global, unread: &[u8], size: u64) -> Result<Reply, OutOfMemory>
-    ensures { IfOk result (λ reply. reply ≡ read_reply size unread.now) }
+    ensures { IfOk result (λ reply. reply ≡ step_read_reply size unread.now) }
 {
     if unread.is_empty() && size != 0 {
         return Ok(Reply::Pending);
@@ -171,7 +170,7 @@ pub(crate) fn read(
     size: u64,
 ) -> Result<Reply, OutOfMemory>
     requires { id / 4 < length unis.old }
-    ensures reply { IfOk result (λ reply. reply ≡ read_reply size (unread_of (uni_at unis.old id))) }
+    ensures reply { IfOk result (λ reply. reply ≡ step_read_reply size (unread_of (uni_at unis.old id))) }
     ensures state { OnOk result (unis.new ≡ with_uni unis.old id (read_on size (uni_at unis.old id))) }
 {
     let stream = &mut unis[(id.into_u64() / 4) as usize];

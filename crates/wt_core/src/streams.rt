@@ -1,10 +1,10 @@
 //! What is kept of the transport: the peer's streams, and the bytes that came for them.
 ghost use Rattle.std.specs.Prelude.{◌≡◌, ◌<◌, ◌^◌, ◌+◌, ◌*◌, ◌/◌, ◌++◌, ◌∷◌, [], OnOk, OnErr, length, drop, slice_set};
-ghost use Rattle.wt_seam.specs.Seam.{is_among, own_uni, peer_bi, peer_uni};
-ghost use Rattle.wt_core.specs.Step.{fresh, grown, uni_at, bi_at};
+ghost use Rattle.wt_core.specs.Transport.{is_among, local_uni, peer_bi, peer_uni};
+ghost use Rattle.wt_core.specs.Step.{new_stream, with_received, uni_at, bi_at};
 
 use std::alloc::Global;
-use wt_seam::piece::Piece;
+use wt_turn::piece::Piece;
 use wt_wire::error::OutOfMemory;
 use wt_wire::ids::StreamId;
 use wt_wire::side::Side;
@@ -17,8 +17,8 @@ pub struct Stream {
     /// All bytes that came.
     pub contents: Piece,
     /// An accept gave it.
-    pub handed_out: bool,
-    /// How many bytes behind its header were read.
+    pub accepted: bool,
+    /// How many bytes after its header were read.
     pub read: usize,
 }
 
@@ -42,9 +42,19 @@ pub(crate) fn peer_bi_kind(side: Side) -> u64
     }
 }
 
+/// The low two bits of the ids of this end's unidirectional streams.
+pub(crate) fn local_uni_kind(side: Side) -> u64
+    ensures { result ≡ local_uni side }
+{
+    match side {
+        Side::Client => 2,
+        Side::Server => 3,
+    }
+}
+
 /// This end's own control stream: the first unidirectional stream that it opens.
-pub(crate) fn own_control(side: Side) -> StreamId
-    ensures { result ≡ own_uni side }
+pub(crate) fn local_control(side: Side) -> StreamId
+    ensures { result ≡ local_uni side }
 {
     match side {
         Side::Client => StreamId::new(VarInt::from_u32(2)),
@@ -86,13 +96,13 @@ pub(crate) fn behind(bytes: &[u8], at: usize) -> &[u8]
 /// The peer's next unidirectional stream, of which no bytes came.
 pub(crate) fn open_uni(alloc: Global, side: Side, unis: &mut Vec<Stream>) -> Result<(), OutOfMemory>
     requires { length unis.old.items < 2 ^ 60 }
-    ensures { OnOk result (unis.new.items ≡ unis.old.items ++ fresh (4 * length unis.old.items + peer_uni side) ∷ []) }
+    ensures { OnOk result (unis.new.items ≡ unis.old.items ++ new_stream (4 * length unis.old.items + peer_uni side) ∷ []) }
 {
     let id = stream_id(peer_uni_kind(side), unis.len());
     unis.push(Stream {
         id,
         contents: Piece::new(alloc),
-        handed_out: false,
+        accepted: false,
         read: 0,
     })?;
     Ok(())
@@ -101,7 +111,7 @@ pub(crate) fn open_uni(alloc: Global, side: Side, unis: &mut Vec<Stream>) -> Res
 /// More bytes of a unidirectional stream.
 pub(crate) fn grow_uni(unis: &mut [Stream], id: StreamId, piece: &Piece) -> Result<(), OutOfMemory>
     requires { id / 4 < length unis.old }
-    ensures { OnOk result (unis.new ≡ slice_set unis.old (id / 4) (grown (uni_at unis.old id) piece.now)) }
+    ensures { OnOk result (unis.new ≡ slice_set unis.old (id / 4) (with_received (uni_at unis.old id) piece.now)) }
 {
     let stream = &mut unis[(id.into_u64() / 4) as usize];
     stream.contents.append(piece)

@@ -1,4 +1,3 @@
 //! What the contracts leave open: that memory suffices where there is enough.
-mod answer;
 mod machine;
 mod vocabulary;

@@ -1,7 +1,10 @@
 pub mod OutsideLaws
 pub mod RunLaws
-pub mod Tells
+pub mod ExchangeFacts
 pub mod EachTurn
 pub mod AllTurns
 pub mod Cutting
 pub mod LawsHold
+pub mod ProgramLaws
+pub mod GenerateLaws
+pub mod CutRuns

@@ -3,3 +3,4 @@ pub mod Laws
 pub mod Outside
 pub mod Trace
 pub mod Program
+pub mod Generate

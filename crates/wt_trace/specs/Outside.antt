@@ -13,7 +13,18 @@ pub record AppendsPart (old new : Option (List ℕ)) (text : List ℕ) : Type 0 
   pub whole : part ++ rest ≡ text
   pub appends : Appends old new part
 
--- a source's bytes that are left, or a sink's that were taken, and how often it failed
+-- of a text a first part was written, and the rest waits
+pub record Passes (old new : Option (List ℕ)) (text waiting : List ℕ) : Type 0 where
+  pub written : List ℕ
+  pub whole : written ++ waiting ≡ text
+  pub appends : Appends old new written
+
+-- the bytes that a reader has left or that a writer holds, where it tells them, and how often it failed
+pub record Outside : Type 0 where
+  pub bytes : Option (List ℕ)
+  pub faults : ℕ
+
+-- the bytes that a source in memory has left or that a sink took, and how often it failed
 pub record InMemory : Type 0 where
   pub bytes : List ℕ
   pub faults : ℕ

@@ -1,8 +1,10 @@
 //! Traces: a list of turns in, the one answer to each out.
 //!
-//! [`run_trace`] answers a list of turns, [`run_program`] does it for a script of them.
+//! [`run_trace`] answers a list of turns, [`run_program`] does it for a script of them, and
+//! [`generate::generate`] makes a long list by rule.
 #![tactic(auto)]
 
+pub mod generate;
 pub mod outside;
 pub mod program;
 #[cfg(test)]

@@ -1,26 +1,28 @@
 //! The program: a script comes in, the lines of its answers go out.
-ghost use Rattle.std.specs.Prelude.{◌≡◌, ◌+◌, ◌++◌, ◌<◌, ◌≤◌, ℕ, List, Option, map, string_bytes, ◌≢◌, ◌⊎◌, IfOk, IfErr, IfSome, IsTrue, MatchResult, OnOk, OnErr, length, codes, false, true};
+ghost use Rattle.std.specs.Prelude.{◌≡◌, ◌+◌, ◌++◌, ◌<◌, ◌≤◌, ℕ, List, Option, map, string_bytes, ◌≢◌, ◌⊎◌, IfOk, IfErr, IsErr, IfSome, IsTrue, MatchResult, OnOk, OnErr, length, codes, false, true};
 ghost use Rattle.std.specs.Fmt.{decimal};
 ghost use Rattle.std.specs.Io.KnownBytes.{Consumes, Appends, Keeps, IsAtEnd};
 ghost use Rattle.wt_core.specs.Next.{run};
-ghost use Rattle.wt_trace.specs.Outside.{Rose, AppendsPart};
+ghost use Rattle.wt_trace.specs.Outside.{Rose, AppendsPart, Passes};
 ghost use Rattle.wt_script.specs.Print.{answer_line, print};
-ghost use Rattle.wt_trace.specs.Laws.{ScriptKeepsLaws};
-ghost use Rattle.wt_trace.specs.Program.{is_trace, is_cut_short, tells_script, tells_input, script_limit, usage, refused_at, run_outcome, input_outcome, outcome, ReadsFew, AnswersInput, cut_status, Cuts, CutsReading, CutsWriting};
-ghost use Rattle.wt_script.specs.Script.{script_of};
+ghost use Rattle.wt_trace.specs.Program.{is_trace, is_cut_short, is_script_status, is_input_status, is_run_status, script_limit, usage, refused_at, run_outcome, input_outcome, outcome, ReadsFew, AnswersInput, AnswersKeepLaws};
 
 use crate::outside::{Sink, Source};
 use crate::trace::{TraceError, run_trace};
 use std::alloc::Global;
-use wt_core::answer::Answer;
 use wt_script::print::push_answer;
 use wt_script::script::{Script, read_script};
+use wt_turn::answer::Answer;
 use wt_wire::error::OutOfMemory;
 
 /// The greatest script, in bytes.
 const SCRIPT_LIMIT: usize = 16_777_216;
 
-/// The status where memory was wanting.
+/// The size from which gathered text is written, in bytes: a system call for each line would take most
+/// of the time of a long run.
+const PIECE_SIZE: usize = 65_536;
+
+/// The status where the program ran out of memory.
 pub const OUT_OF_MEMORY: u8 = 6;
 
 /// Why no whole answer was given.
@@ -29,18 +31,6 @@ enum CutShort {
     SourceFailed,
     SinkFailed,
     OutOfMemory,
-}
-
-impl CutShort {
-    fn status(self) -> u8
-        ensures { result ≡ cut_status self }
-    {
-        match self {
-            CutShort::SourceFailed => 4,
-            CutShort::SinkFailed => 5,
-            CutShort::OutOfMemory => OUT_OF_MEMORY,
-        }
-    }
 }
 
 impl From<OutOfMemory> for CutShort {
@@ -63,12 +53,12 @@ impl From<OutOfMemory> for CutShort {
 /// | 0 | the run reached its end | the answers |
 /// | 1 | the words are others | the usage line |
 /// | 2 | line n is the first that isn't in the grammar | `line <n> refused` |
-/// | 3 | the turn at this place isn't lawful | the answers before, `turn <at> unlawful` |
+/// | 3 | the turn at this index isn't lawful | the answers before, `turn <at> unlawful` |
 /// | 4 | the source failed | nothing |
 /// | 5 | the sink failed | a first part of the text |
-/// | 6 | memory was wanting | a first part of the text |
+/// | 6 | the program ran out of memory | a first part of the text |
 /// | 7 | the source gave more than 16,777,216 bytes | `script too long` |
-/// | 8 | the turn at this place is lawful and has no answer yet | the answers before, `turn <at> unbuilt` |
+/// | 8 | the turn at this index is lawful and has no answer yet | the answers before, `turn <at> unbuilt` |
 pub fn run_program<S: Source, K: Sink>(
     alloc: Global,
     words: &[String],
@@ -80,20 +70,22 @@ pub fn run_program<S: Source, K: Sink>(
     ensures input { is_cut_short result ≡ false → is_trace (map string_bytes words.now) ≡ true → AnswersInput (S.left source.old) (S.left source.new) (K.took sink.old) (K.took sink.new) result }
     ensures reads { ReadsFew (S.left source.old) (S.left source.new) }
     ensures part { IfSome (S.left source.old) (λ input. AppendsPart (K.took sink.old) (K.took sink.new) (outcome (map string_bytes words.now) input).text) }
-    ensures end { IsTrue (tells_script result) → IsAtEnd (S.left source.new) }
+    ensures end { IsTrue (is_script_status result) → IsAtEnd (S.left source.new) }
     ensures usage { is_trace (map string_bytes words.now) ≡ false → (result ≡ 1) ⊎ (result ≡ 5) }
     ensures usage_text { result ≡ 1 → Appends (K.took sink.old) (K.took sink.new) usage.text }
     ensures trace { is_trace (map string_bytes words.now) ≡ true → result ≢ 1 }
     ensures read_fault { result ≡ 4 → Rose (S.faults source.old) (S.faults source.new) }
     ensures write_fault { result ≡ 5 → Rose (K.faults sink.old) (K.faults sink.new) }
     ensures nothing { result ≡ 4 → K.took sink.new ≡ K.took sink.old }
-    ensures source_same { is_cut_short result ≡ false → S.faults source.new ≡ S.faults source.old }
-    ensures sink_same { is_cut_short result ≡ false → K.faults sink.new ≡ K.faults sink.old }
-    ensures laws { (input : List ℕ) → ScriptKeepsLaws (script_of input) }
+    ensures source_same { result ≢ 4 → S.faults source.new ≡ S.faults source.old }
+    ensures sink_same { result ≢ 5 → K.faults sink.new ≡ K.faults sink.old }
+    ensures laws { IsTrue (is_run_status result) → AnswersKeepLaws (S.left source.old) (S.left source.new) (K.took sink.old) (K.took sink.new) }
 {
     match answer(alloc, words, source, sink) {
         Ok(status) => status,
-        Err(cut) => cut.status(),
+        Err(CutShort::SourceFailed) => 4,
+        Err(CutShort::SinkFailed) => 5,
+        Err(CutShort::OutOfMemory) => OUT_OF_MEMORY,
     }
 }
 
@@ -108,13 +100,15 @@ fn answer<S: Source, K: Sink>(
     ensures input { is_trace (map string_bytes words.now) ≡ true → IfOk result (AnswersInput (S.left source.old) (S.left source.new) (K.took sink.old) (K.took sink.new)) }
     ensures reads { ReadsFew (S.left source.old) (S.left source.new) }
     ensures part { IfSome (S.left source.old) (λ input. AppendsPart (K.took sink.old) (K.took sink.new) (outcome (map string_bytes words.now) input).text) }
-    ensures end { IfOk result (λ status. IsTrue (tells_script status) → IsAtEnd (S.left source.new)) }
+    ensures end { IfOk result (λ status. IsTrue (is_script_status status) → IsAtEnd (S.left source.new)) }
     ensures usage { is_trace (map string_bytes words.now) ≡ false → MatchResult result (λ status. status ≡ 1) (λ cut. cut ≡ CutShort.SinkFailed) }
     ensures usage_text { IfOk result (λ status. status ≡ 1 → Appends (K.took sink.old) (K.took sink.new) usage.text) }
-    ensures trace { is_trace (map string_bytes words.now) ≡ true → IfOk result (λ status. IsTrue (tells_input status)) }
-    ensures source_same { OnOk result (S.faults source.new ≡ S.faults source.old) }
-    ensures sink_same { OnOk result (K.faults sink.new ≡ K.faults sink.old) }
-    ensures cause { IfErr result (Cuts (S.faults source.old) (S.faults source.new) (K.faults sink.old) (K.faults sink.new) (K.took sink.new ≡ K.took sink.old)) }
+    ensures trace { is_trace (map string_bytes words.now) ≡ true → IfOk result (λ status. IsTrue (is_input_status status)) }
+    ensures source_same { result ≢ Err CutShort.SourceFailed → S.faults source.new ≡ S.faults source.old }
+    ensures sink_same { result ≢ Err CutShort.SinkFailed → K.faults sink.new ≡ K.faults sink.old }
+    ensures read_fault { result ≡ Err CutShort.SourceFailed → Rose (S.faults source.old) (S.faults source.new) }
+    ensures write_fault { result ≡ Err CutShort.SinkFailed → Rose (K.faults sink.old) (K.faults sink.new) }
+    ensures nothing { result ≡ Err CutShort.SourceFailed → K.took sink.new ≡ K.took sink.old }
 {
     if asks_trace(words) {
         answer_trace(alloc, source, sink)
@@ -129,7 +123,8 @@ fn answer_usage<K: Sink>(sink: &mut K) -> Result<u8, CutShort>
     ensures text { OnOk result (Appends (K.took sink.old) (K.took sink.new) usage.text) }
     ensures part { AppendsPart (K.took sink.old) (K.took sink.new) usage.text }
     ensures same { OnOk result (K.faults sink.new ≡ K.faults sink.old) }
-    ensures cause { IfErr result (λ cut. (cut ≡ CutShort.SinkFailed) × Rose (K.faults sink.old) (K.faults sink.new)) }
+    ensures cause { IfErr result (λ cut. cut ≡ CutShort.SinkFailed) }
+    ensures fault { IsErr result → Rose (K.faults sink.old) (K.faults sink.new) }
 {
     write_all(sink, b"usage: trace\n")?;
     Ok(1)
@@ -146,11 +141,13 @@ fn answer_trace<S: Source, K: Sink>(
     ensures input { IfOk result (AnswersInput (S.left source.old) (S.left source.new) (K.took sink.old) (K.took sink.new)) }
     ensures reads { ReadsFew (S.left source.old) (S.left source.new) }
     ensures part { IfSome (S.left source.old) (λ input. AppendsPart (K.took sink.old) (K.took sink.new) (input_outcome input).text) }
-    ensures end { IfOk result (λ status. IsTrue (tells_script status) → IsAtEnd (S.left source.new)) }
-    ensures told { IfOk result (λ status. IsTrue (tells_input status)) }
-    ensures source_same { OnOk result (S.faults source.new ≡ S.faults source.old) }
-    ensures sink_same { OnOk result (K.faults sink.new ≡ K.faults sink.old) }
-    ensures cause { IfErr result (Cuts (S.faults source.old) (S.faults source.new) (K.faults sink.old) (K.faults sink.new) (K.took sink.new ≡ K.took sink.old)) }
+    ensures end { IfOk result (λ status. IsTrue (is_script_status status) → IsAtEnd (S.left source.new)) }
+    ensures told { IfOk result (λ status. IsTrue (is_input_status status)) }
+    ensures source_same { result ≢ Err CutShort.SourceFailed → S.faults source.new ≡ S.faults source.old }
+    ensures sink_same { result ≢ Err CutShort.SinkFailed → K.faults sink.new ≡ K.faults sink.old }
+    ensures read_fault { result ≡ Err CutShort.SourceFailed → Rose (S.faults source.old) (S.faults source.new) }
+    ensures write_fault { result ≡ Err CutShort.SinkFailed → Rose (K.faults sink.old) (K.faults sink.new) }
+    ensures nothing { result ≡ Err CutShort.SourceFailed → K.took sink.new ≡ K.took sink.old }
 {
     let input = read_input(alloc, source)?;
     answer_input(alloc, input.as_slice(), sink)
@@ -171,8 +168,9 @@ fn read_input<S: Source>(alloc: Global, source: &mut S) -> Result<Vec<u8>, CutSh
     ensures few { IfOk result (λ v. length v.items ≤ script_limit + 1) }
     ensures reads { ReadsFew (S.left source.old) (S.left source.new) }
     ensures end { IfOk result (λ v. length v.items ≤ script_limit → IsAtEnd (S.left source.new)) }
-    ensures same { OnOk result (S.faults source.new ≡ S.faults source.old) }
-    ensures cause { IfErr result (CutsReading (S.faults source.old) (S.faults source.new)) }
+    ensures same { result ≢ Err CutShort.SourceFailed → S.faults source.new ≡ S.faults source.old }
+    ensures fault { result ≡ Err CutShort.SourceFailed → Rose (S.faults source.old) (S.faults source.new) }
+    ensures causes { result ≢ Err CutShort.SinkFailed }
 {
     let mut bytes: Vec<u8> = Vec::new(alloc);
     let mut buffer = [0u8; 8192];
@@ -195,10 +193,11 @@ fn answer_input<K: Sink>(alloc: Global, input: &[u8], sink: &mut K) -> Result<u8
     ensures status { IfOk result (λ status. status ≡ (input_outcome input.now).status) }
     ensures text { OnOk result (Appends (K.took sink.old) (K.took sink.new) (input_outcome input.now).text) }
     ensures part { AppendsPart (K.took sink.old) (K.took sink.new) (input_outcome input.now).text }
-    ensures told { IfOk result (λ status. IsTrue (tells_input status)) }
-    ensures within { IfOk result (λ status. IsTrue (tells_script status) → length input.now ≤ script_limit) }
-    ensures same { OnOk result (K.faults sink.new ≡ K.faults sink.old) }
-    ensures cause { IfErr result (CutsWriting (K.faults sink.old) (K.faults sink.new)) }
+    ensures told { IfOk result (λ status. IsTrue (is_input_status status)) }
+    ensures within { IfOk result (λ status. IsTrue (is_script_status status) → length input.now ≤ script_limit) }
+    ensures same { result ≢ Err CutShort.SinkFailed → K.faults sink.new ≡ K.faults sink.old }
+    ensures fault { result ≡ Err CutShort.SinkFailed → Rose (K.faults sink.old) (K.faults sink.new) }
+    ensures causes { result ≢ Err CutShort.SourceFailed }
 {
     if input.len() > SCRIPT_LIMIT {
         write_all(sink, b"script too long\n")?;
@@ -216,8 +215,9 @@ fn answer_input<K: Sink>(alloc: Global, input: &[u8], sink: &mut K) -> Result<u8
 fn write_refusal<K: Sink>(alloc: Global, line: u64, sink: &mut K) -> Result<(), CutShort>
     ensures text { OnOk result (Appends (K.took sink.old) (K.took sink.new) (refused_at line).text) }
     ensures part { AppendsPart (K.took sink.old) (K.took sink.new) (refused_at line).text }
-    ensures same { OnOk result (K.faults sink.new ≡ K.faults sink.old) }
-    ensures cause { IfErr result (CutsWriting (K.faults sink.old) (K.faults sink.new)) }
+    ensures same { result ≢ Err CutShort.SinkFailed → K.faults sink.new ≡ K.faults sink.old }
+    ensures fault { result ≡ Err CutShort.SinkFailed → Rose (K.faults sink.old) (K.faults sink.new) }
+    ensures causes { result ≢ Err CutShort.SourceFailed }
 {
     let text = number_line(alloc, "line ", line, " refused\n")?;
     write_all(sink, text.as_bytes())
@@ -243,13 +243,14 @@ fn answer_script<K: Sink>(alloc: Global, script: &Script, sink: &mut K) -> Resul
     ensures status { IfOk result (λ status. status ≡ (run_outcome (run script.now.side script.now.turns)).status) }
     ensures text { OnOk result (Appends (K.took sink.old) (K.took sink.new) (run_outcome (run script.now.side script.now.turns)).text) }
     ensures part { AppendsPart (K.took sink.old) (K.took sink.new) (run_outcome (run script.now.side script.now.turns)).text }
-    ensures told { IfOk result (λ status. IsTrue (tells_script status)) }
-    ensures same { OnOk result (K.faults sink.new ≡ K.faults sink.old) }
-    ensures cause { IfErr result (CutsWriting (K.faults sink.old) (K.faults sink.new)) }
+    ensures told { IfOk result (λ status. IsTrue (is_script_status status)) }
+    ensures same { result ≢ Err CutShort.SinkFailed → K.faults sink.new ≡ K.faults sink.old }
+    ensures fault { result ≡ Err CutShort.SinkFailed → Rose (K.faults sink.old) (K.faults sink.new) }
+    ensures causes { result ≢ Err CutShort.SourceFailed }
 {
     match run_trace(alloc, script.side, script.turns.as_slice()) {
         Ok(answers) => {
-            write_answers(alloc, answers.as_slice(), sink)?;
+            write_answers(alloc, answers.as_slice(), "", sink)?;
             Ok(0)
         }
         Err(TraceError::Unlawful { at, answers }) => {
@@ -264,7 +265,7 @@ fn answer_script<K: Sink>(alloc: Global, script: &Script, sink: &mut K) -> Resul
     }
 }
 
-/// Writes the answers before the turn at this place, and that there is none to it.
+/// Writes the answers before the turn at this index, and that there is none to it.
 fn write_stopped<K: Sink>(
     alloc: Global,
     answers: &[Answer],
@@ -274,53 +275,66 @@ fn write_stopped<K: Sink>(
 ) -> Result<(), CutShort>
     ensures text { OnOk result (Appends (K.took sink.old) (K.took sink.new) (print answers.now ++ (codes "turn " ++ decimal at ++ reason.now))) }
     ensures part { AppendsPart (K.took sink.old) (K.took sink.new) (print answers.now ++ (codes "turn " ++ decimal at ++ reason.now)) }
-    ensures same { OnOk result (K.faults sink.new ≡ K.faults sink.old) }
-    ensures cause { IfErr result (CutsWriting (K.faults sink.old) (K.faults sink.new)) }
+    ensures same { result ≢ Err CutShort.SinkFailed → K.faults sink.new ≡ K.faults sink.old }
+    ensures fault { result ≡ Err CutShort.SinkFailed → Rose (K.faults sink.old) (K.faults sink.new) }
+    ensures causes { result ≢ Err CutShort.SourceFailed }
 {
-    write_answers(alloc, answers, sink)?;
-    let text = number_line(alloc, "turn ", at, reason)?;
-    write_all(sink, text.as_bytes())
+    let stop = number_line(alloc, "turn ", at, reason)?;
+    write_answers(alloc, answers, stop.as_str(), sink)
 }
 
-/// Writes a line for each answer.
-fn write_answers<K: Sink>(alloc: Global, answers: &[Answer], sink: &mut K) -> Result<(), CutShort>
-    ensures text { OnOk result (Appends (K.took sink.old) (K.took sink.new) (print answers.now)) }
-    ensures part { AppendsPart (K.took sink.old) (K.took sink.new) (print answers.now) }
-    ensures same { OnOk result (K.faults sink.new ≡ K.faults sink.old) }
-    ensures cause { IfErr result (CutsWriting (K.faults sink.old) (K.faults sink.new)) }
+/// Writes a line for each answer and then this text, gathered into pieces.
+fn write_answers<K: Sink>(
+    alloc: Global,
+    answers: &[Answer],
+    last: &str,
+    sink: &mut K,
+) -> Result<(), CutShort>
+    ensures text { OnOk result (Appends (K.took sink.old) (K.took sink.new) (print answers.now ++ last.now)) }
+    ensures part { AppendsPart (K.took sink.old) (K.took sink.new) (print answers.now ++ last.now) }
+    ensures same { result ≢ Err CutShort.SinkFailed → K.faults sink.new ≡ K.faults sink.old }
+    ensures fault { result ≡ Err CutShort.SinkFailed → Rose (K.faults sink.old) (K.faults sink.new) }
+    ensures causes { result ≢ Err CutShort.SourceFailed }
 {
-    let mut line = String::new(alloc);
+    let mut gathered = String::new(alloc);
     for answer in answers {
-        if let Err(cut) = write_answer(alloc, answer, &mut line, sink) {
+        if let Err(cut) = gather_answer(alloc, answer, &mut gathered, sink) {
             return Err(cut);
         }
+    }
+    if gathered.push_str(last).is_err() {
+        return Err(CutShort::OutOfMemory);
+    }
+    write_all(sink, gathered.as_bytes())
+}
+
+/// Adds the line of an answer to what was gathered, and writes that where it makes a piece.
+fn gather_answer<K: Sink>(
+    alloc: Global,
+    answer: &Answer,
+    gathered: &mut String,
+    sink: &mut K,
+) -> Result<(), CutShort>
+    ensures text { OnOk result (Passes (K.took sink.old) (K.took sink.new) (string_bytes gathered.old ++ answer_line answer.now) (string_bytes gathered.new)) }
+    ensures part { AppendsPart (K.took sink.old) (K.took sink.new) (string_bytes gathered.old ++ answer_line answer.now) }
+    ensures same { result ≢ Err CutShort.SinkFailed → K.faults sink.new ≡ K.faults sink.old }
+    ensures fault { result ≡ Err CutShort.SinkFailed → Rose (K.faults sink.old) (K.faults sink.new) }
+    ensures causes { result ≢ Err CutShort.SourceFailed }
+{
+    push_line(alloc, answer, gathered)?;
+    if gathered.len() >= PIECE_SIZE {
+        write_all(sink, gathered.as_bytes())?;
+        gathered.clear();
     }
     Ok(())
 }
 
-/// Writes the line of an answer, over this buffer.
-fn write_answer<K: Sink>(
-    alloc: Global,
-    answer: &Answer,
-    line: &mut String,
-    sink: &mut K,
-) -> Result<(), CutShort>
-    ensures text { OnOk result (Appends (K.took sink.old) (K.took sink.new) (answer_line answer.now)) }
-    ensures part { AppendsPart (K.took sink.old) (K.took sink.new) (answer_line answer.now) }
-    ensures same { OnOk result (K.faults sink.new ≡ K.faults sink.old) }
-    ensures cause { IfErr result (CutsWriting (K.faults sink.old) (K.faults sink.new)) }
+/// Adds the line of an answer.
+fn push_line(alloc: Global, answer: &Answer, text: &mut String) -> Result<(), OutOfMemory>
+    ensures { OnOk result (string_bytes text.new ≡ string_bytes text.old ++ answer_line answer.now) }
 {
-    put_line(alloc, answer, line)?;
-    write_all(sink, line.as_bytes())
-}
-
-/// Puts the line of an answer in place of what the buffer held.
-fn put_line(alloc: Global, answer: &Answer, line: &mut String) -> Result<(), OutOfMemory>
-    ensures { OnOk result (string_bytes line.new ≡ answer_line answer.now) }
-{
-    line.clear();
-    push_answer(alloc, line, answer)?;
-    line.push_str("\n")?;
+    push_answer(alloc, text, answer)?;
+    text.push_str("\n")?;
     Ok(())
 }
 
@@ -329,7 +343,8 @@ fn write_all<K: Sink>(sink: &mut K, text: &[u8]) -> Result<(), CutShort>
     ensures text { OnOk result (Appends (K.took sink.old) (K.took sink.new) text.now) }
     ensures part { AppendsPart (K.took sink.old) (K.took sink.new) text.now }
     ensures same { OnOk result (K.faults sink.new ≡ K.faults sink.old) }
-    ensures cause { IfErr result (λ cut. (cut ≡ CutShort.SinkFailed) × Rose (K.faults sink.old) (K.faults sink.new)) }
+    ensures cause { IfErr result (λ cut. cut ≡ CutShort.SinkFailed) }
+    ensures fault { IsErr result → Rose (K.faults sink.old) (K.faults sink.new) }
 {
     let mut at = 0;
     while at < text.len() {

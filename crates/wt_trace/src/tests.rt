@@ -1,4 +1,5 @@
 //! What the contracts leave open: that memory suffices where there is enough, and whole sessions.
+mod generated;
 mod outside;
 mod program;
 mod trace;

@@ -1,26 +1,26 @@
 //! A whole list of turns.
 ghost use Rattle.std.specs.Prelude.{◌≡◌, ◌≤◌, ℕ, IsTrue, List, [], length, take};
-ghost use Rattle.wt_core.specs.Kept.{all_good};
-ghost use Rattle.wt_trace.specs.Laws.{ActionsHaveCauses, CutsWell, HoldsOf, IfAnswered, PendingWhereNothingIsLeft, ReadsInOrder, RepliesHaveCauses, SessionsStandRightly, StandsWhereItMay, StreamsGivenRightly};
-ghost use Rattle.wt_core.specs.Next.{meaning, past_of};
+ghost use Rattle.wt_core.specs.CoreState.{all_lawful_and_built};
+ghost use Rattle.wt_trace.specs.Laws.{ActionsHaveCauses, CutsWell, HoldsOf, IfAnswered, PendingWhereNothingIsLeft, ReadsInOrder, RepliesHaveCauses, SessionsEstablishedRightly, EstablishedWhereItMay, StreamsAcceptedRightly};
+ghost use Rattle.wt_core.specs.Next.{answers_to};
 ghost use Rattle.wt_trace.specs.Trace.{IsTrace};
 
 use std::alloc::Global;
-use wt_core::answer::Answers;
 use wt_core::machine::Core;
-use wt_seam::turn::Turn;
+use wt_turn::Turn;
+use wt_turn::answer::Answers;
 use wt_wire::error::OutOfMemory;
 use wt_wire::side::Side;
 
 /// Why a list of turns has no answer to each.
 #[derive(Debug, Drop)]
 pub enum TraceError {
-    /// The turn of this place, counted from 0, isn't lawful after those before it, which have these
+    /// The turn of this index, counted from 0, isn't lawful after those before it, which have these
     /// answers.
     Unlawful { at: u64, answers: Answers },
-    /// The turn of this place is lawful and not built yet; those before it have these answers.
+    /// The turn of this index is lawful and not built yet; those before it have these answers.
     Unbuilt { at: u64, answers: Answers },
-    /// Memory was wanting.
+    /// Out of memory.
     OutOfMemory,
 }
 
@@ -38,20 +38,20 @@ impl From<OutOfMemory> for TraceError {
 /// lawful and built.
 ///
 /// `trace` says them whole; the clauses after it say what is true of them in the words of turns and
-/// answers: where a session stands, which streams are accepted, what reads give, where a call is
+/// answers: where a session is established, which streams are accepted, what reads give, where a call is
 /// pending, each reply's and each action's cause, and that a piece may come cut in two.
 pub fn run_trace(alloc: Global, side: Side, turns: &[Turn]) -> Result<Answers, TraceError>
     ensures trace { IsTrace side turns.now result }
-    ensures meaning { IfAnswered result (λ answers. answers ≡ meaning side (take (length answers) turns.now)) }
-    ensures good { IfAnswered result (λ answers. IsTrue (all_good side [] (take (length answers) turns.now))) }
-    ensures sessions { IfAnswered result (HoldsOf (SessionsStandRightly side) turns.now) }
-    ensures allowed { IfAnswered result (λ answers. (n : ℕ) → n ≤ length answers → StandsWhereItMay side turns.now n) }
-    ensures streams { IfAnswered result (HoldsOf (StreamsGivenRightly side) turns.now) }
+    ensures answers { IfAnswered result (λ answers. answers ≡ answers_to side (take (length answers) turns.now)) }
+    ensures good { IfAnswered result (λ answers. IsTrue (all_lawful_and_built side [] (take (length answers) turns.now))) }
+    ensures sessions { IfAnswered result (HoldsOf (SessionsEstablishedRightly side) turns.now) }
+    ensures allowed { IfAnswered result (λ answers. (n : ℕ) → n ≤ length answers → EstablishedWhereItMay side turns.now n) }
+    ensures streams { IfAnswered result (HoldsOf (StreamsAcceptedRightly side) turns.now) }
     ensures reads { IfAnswered result (HoldsOf ReadsInOrder turns.now) }
     ensures pending { IfAnswered result (HoldsOf (PendingWhereNothingIsLeft side) turns.now) }
     ensures replies { IfAnswered result (HoldsOf (RepliesHaveCauses side) turns.now) }
     ensures actions { IfAnswered result (HoldsOf (ActionsHaveCauses side) turns.now) }
-    ensures cutting { (n id : ℕ) (first second : List ℕ) → CutsWell side (past_of side (take n turns.now)) id first second }
+    ensures cutting { IfAnswered result (CutsWell side turns.now) }
 {
     run_turns(alloc, side, turns)
 }

@@ -1,11 +1,9 @@
-//! The core by its own calls, with ample memory: a body that answers want of memory fails here.
+//! The core by its own calls, with ample memory: a body that answers out of memory fails here.
 use super::vocabulary::{add_send, piece, stream};
-use crate::answer::{Answer, Answers, Reply};
 use crate::machine::Core;
 use std::alloc::Global;
 use std::process::Abort;
-use wt_seam::action::{Action, Actions};
-use wt_seam::turn::{Call, DatagramFact, Turn, Turns};
+use wt_turn::{Action, Actions, Answer, Answers, Call, DatagramFact, Reply, Turn, Turns};
 use wt_wire::side::Side;
 
 /// What goes out first on this end's control stream.

@@ -1,8 +1,8 @@
 //! Values that the tests are written in.
 use std::alloc::Global;
 use std::process::Abort;
-use wt_seam::action::{Action, Actions};
-use wt_seam::piece::Piece;
+use wt_turn::action::{Action, Actions};
+use wt_turn::piece::Piece;
 use wt_wire::ids::StreamId;
 use wt_wire::varint::VarInt;
 

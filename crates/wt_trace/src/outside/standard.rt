@@ -1,43 +1,48 @@
-//! Standard input and output. What comes and goes there is told by no contract.
+//! A reader as a source and a writer as a sink. Standard input and output are two of them.
 ghost use Rattle.std.specs.Prelude.{◌≡◌};
 
 use crate::outside::{Failed, Sink, Source};
 use std::io::{Read, Stdin, Stdout, Write};
 use std::marker::Model;
 
-/// Standard input. Contracts see how often it failed.
+/// Standard input.
+pub type StdSource = ReaderSource<Stdin>;
+
+/// Standard output.
+pub type StdSink = WriterSink<Stdout>;
+
+/// A reader, and how often it failed. Contracts see the bytes that it has left, where it tells them,
+/// and that count.
 #[derive(Drop)]
-pub struct StdSource {
-    input: Stdin,
+pub struct ReaderSource<R: Read> {
+    reader: R,
     faults: u64,
 }
 
-impl Model for StdSource {
-    ghost use Rattle.std.specs.Prelude.{ℕ};
+impl<R: Read> Model for ReaderSource<R> {
+    ghost use Rattle.wt_trace.specs.Outside.{Outside};
 
-    ghost Value = { ℕ };
+    ghost Value = { Outside };
 
-    ghost view = { λ s. s.faults };
+    ghost view = { λ s. record { bytes = R.remaining s.reader; faults = s.faults } };
 }
 
-impl StdSource {
-    /// Standard input, which hasn't failed yet.
-    pub fn new(input: Stdin) -> StdSource
-        ensures { result ≡ 0 }
+impl<R: Read> ReaderSource<R> {
+    /// What the reader has left; it hasn't failed yet.
+    pub fn new(reader: R) -> ReaderSource<R>
+        ensures { result ≡ record { bytes = R.remaining reader; faults = 0 } }
     {
-        StdSource { input, faults: 0 }
+        ReaderSource { reader, faults: 0 }
     }
 }
 
-impl Source for StdSource {
-    ghost use Rattle.std.specs.Prelude.{None};
+impl<R: Read> Source for ReaderSource<R> {
+    ghost left = { λ s. s.bytes };
 
-    ghost left = { λ _. None };
-
-    ghost faults = { λ s. s };
+    ghost faults = { λ s. s.faults };
 
     fn read(&mut self, buf: &mut [u8]) -> Result<usize, Failed> {
-        match self.input.read(buf) {
+        match self.reader.read(buf) {
             Ok(count) => Ok(count),
             Err(_) => {
                 self.faults = self.faults.saturating_add(1);
@@ -47,39 +52,39 @@ impl Source for StdSource {
     }
 }
 
-/// Standard output. Contracts see how often it failed.
+/// A writer, and how often it failed. Contracts see the bytes that it holds, where it tells them, and
+/// that count.
 #[derive(Drop)]
-pub struct StdSink {
-    output: Stdout,
+pub struct WriterSink<W: Write> {
+    writer: W,
     faults: u64,
 }
 
-impl Model for StdSink {
-    ghost use Rattle.std.specs.Prelude.{ℕ};
+impl<W: Write> Model for WriterSink<W> {
+    ghost use Rattle.wt_trace.specs.Outside.{Outside};
 
-    ghost Value = { ℕ };
+    ghost Value = { Outside };
 
-    ghost view = { λ s. s.faults };
+    ghost view = { λ s. record { bytes = W.contents s.writer; faults = s.faults } };
 }
 
-impl StdSink {
-    /// Standard output, which hasn't failed yet.
-    pub fn new(output: Stdout) -> StdSink
-        ensures { result ≡ 0 }
+impl<W: Write> WriterSink<W> {
+    /// The writer as it is; it hasn't failed yet.
+    pub fn new(writer: W) -> WriterSink<W>
+        ensures { result ≡ record { bytes = W.contents writer; faults = 0 } }
     {
-        StdSink { output, faults: 0 }
+        WriterSink { writer, faults: 0 }
     }
 }
 
-impl Sink for StdSink {
-    ghost use Rattle.std.specs.Prelude.{None};
+impl<W: Write> Sink for WriterSink<W> {
+    ghost took = { λ s. s.bytes };
 
-    ghost took = { λ _. None };
+    ghost faults = { λ s. s.faults };
 
-    ghost faults = { λ s. s };
-
+    /// A writer that takes nothing of a piece has failed too.
     fn write(&mut self, piece: &[u8]) -> Result<usize, Failed> {
-        match self.output.write(piece) {
+        match self.writer.write(piece) {
             Ok(count) if count > 0 || piece.is_empty() => Ok(count),
             _ => {
                 self.faults = self.faults.saturating_add(1);

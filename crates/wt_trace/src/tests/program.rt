@@ -190,24 +190,62 @@ fn a_source_may_fail(rt: HostRuntime) {
     );
 }
 
-fn cuts(rt: &impl Abort, alloc: Global, write: u64, before: &[&str]) {
-    let script = joined(rt, alloc, &[OPENING, REQUEST, ACCEPTED]);
-    let text = joined(rt, alloc, before);
+/// Bytes of an accepted stream that come one by one, each read by itself: two turns a byte, and more
+/// text than one piece has.
+const BYTES: u64 = 6_000;
+
+const STREAM: &str = "peer_uni\nbytes 6 405400\naccept_uni\n";
+
+fn repeat(rt: &impl Abort, text: &mut Vec<u8>, line: &str) {
+    for _ in 0..BYTES {
+        let added = text.extend_from_slice(line.as_bytes());
+        added.expect(rt, "no memory");
+    }
+}
+
+/// A script of more than 12,000 turns.
+fn long_script(rt: &impl Abort, alloc: Global) -> Vec<u8> {
+    let mut script = joined(rt, alloc, &[OPENING, REQUEST, ACCEPTED, STREAM]);
+    repeat(rt, &mut script, "bytes 6 68\nread 6 1\n");
+    script
+}
+
+fn long_text(rt: &impl Abort, alloc: Global) -> Vec<u8> {
+    let mut text = joined(
+        rt,
+        alloc,
+        &[CONNECTED, FOUR_DONE, GIVEN, STANDS, "done\ndone\nuni 6\n"],
+    );
+    repeat(rt, &mut text, "done\nread 68\n");
+    text
+}
+
+#[test]
+fn a_long_run_is_answered(rt: HostRuntime) {
+    let alloc = rt.alloc();
+    let script = long_script(&rt, alloc);
+    let (status, sink) = run(&rt, alloc, &["trace"], script, &[], &[]);
+    assert_eq!(rt; status, 0);
+    assert_eq!(rt; sink.taken(), long_text(&rt, alloc).as_slice());
+}
+
+/// What the sink took where its write of this number fails.
+fn taken_before(rt: &impl Abort, alloc: Global, write: u64, before: &[u8]) -> usize {
+    let script = long_script(rt, alloc);
     let (status, sink) = run(rt, alloc, &["trace"], script, &[], &[write]);
     assert_eq!(rt; status, 5);
-    assert_eq!(rt; sink.taken(), text.as_slice());
+    let taken = sink.taken();
+    assert!(rt; before.starts_with(taken));
+    taken.len()
 }
 
 #[test]
 fn a_sink_may_fail(rt: HostRuntime) {
     let alloc = rt.alloc();
-    cuts(&rt, alloc, 0, &[]);
-    cuts(&rt, alloc, 1, &[CONNECTED]);
-    cuts(&rt, alloc, 2, &[CONNECTED, "done\n"]);
-    cuts(&rt, alloc, 3, &[CONNECTED, "done\ndone\n"]);
-    cuts(&rt, alloc, 4, &[CONNECTED, "done\ndone\ndone\n"]);
-    cuts(&rt, alloc, 5, &[CONNECTED, FOUR_DONE]);
-    cuts(&rt, alloc, 6, &[CONNECTED, FOUR_DONE, GIVEN]);
+    let text = long_text(&rt, alloc);
+    assert_eq!(rt; taken_before(&rt, alloc, 0, text.as_slice()), 0);
+    let first = taken_before(&rt, alloc, 1, text.as_slice());
+    assert!(rt; first >= 65_536 && first < text.len());
 }
 
 fn comment(rt: &impl Abort, alloc: Global, size: usize) -> Vec<u8> {

@@ -1,9 +1,8 @@
-//! A trace by its own call, with ample memory: a body that answers want of memory fails here.
+//! A trace by its own call, with ample memory: a body that answers out of memory fails here.
 use crate::trace::{TraceError, run_trace};
 use std::alloc::Global;
 use std::process::Abort;
-use wt_core::answer::{Answers, Reply};
-use wt_seam::turn::{DatagramFact, Turn, Turns};
+use wt_turn::{Answers, DatagramFact, Reply, Turn, Turns};
 use wt_wire::side::Side;
 
 fn connected(credit: u64) -> Turn {
@@ -15,7 +14,7 @@ fn connected(credit: u64) -> Turn {
     }
 }
 
-/// The connection stands, the peer opens a stream, and one more turn comes.
+/// The connection is established, the peer opens a stream, and one more turn comes.
 fn turns(rt: &impl Abort, alloc: Global, last: Turn) -> Turns {
     let mut turns = Turns::new(alloc);
     turns.push(connected(1000)).expect(rt, "no memory");

@@ -1,0 +1,91 @@
+-- A run that is made by rule: a session, and then streams of the peer, each accepted and read to its end; and what its
+-- answers come to (this repository's own).
+use Rattle.std.specs.Prelude.{ℕ, zero, suc, ◌+◌, ◌*◌, ◌%◌, Bool, true, false, List, [], ◌∷◌, ◌++◌, length, map, count_by, sum_by, codes, Some}
+use Rattle.std.specs.List.{range_with_len}
+use Rattle.wt_message.specs.FixedBytes.{headers_frame_bytes}
+use Rattle.wt_message.specs.Requests.{request_fields}
+use Rattle.wt_turn.specs.declared.answer.Answer.{Answer}
+use Rattle.wt_turn.specs.declared.call.Call.TheVariants as calls
+use Rattle.wt_turn.specs.declared.datagram_fact.DatagramFact.TheVariants.{Limit}
+use Rattle.wt_turn.specs.declared.reply.Reply.{Reply}
+use Rattle.wt_turn.specs.declared.reply.Reply.TheVariants as replies
+use Rattle.wt_turn.specs.declared.turn.Turn.{Turn}
+use Rattle.wt_turn.specs.declared.turn.Turn.TheVariants as turns
+
+-- the request for a session at the path `/` of the authority `h` (RFC 9220, section 3)
+abbrev pub request_bytes : List ℕ
+request_bytes = headers_frame_bytes (request_fields (codes "h") (codes "/"))
+
+-- a server's connection stands, the peer's control stream brings empty SETTINGS (RFC 9114, section 6.2.1), and a
+-- session is asked for and accepted
+abbrev pub session_turns : List Turn
+session_turns =
+    turns.Connected 9 9 1000 (Limit 1200)
+    ∷ turns.PeerUni
+    ∷ turns.Bytes 2 (0x00 ∷ 0x04 ∷ 0x00 ∷ [])
+    ∷ turns.PeerBi
+    ∷ turns.Bytes 0 request_bytes
+    ∷ turns.Call calls.Incoming
+    ∷ turns.Call (calls.Accept [])
+    ∷ []
+
+-- the id of the stream of this number: the client's unidirectional streams behind its control stream, from 0
+-- (RFC 9000, section 2.1)
+abbrev pub stream_id : ℕ → ℕ
+stream_id number = 6 + 4 * number
+
+-- so many bytes, of which the one at place j, from 0, is (number + j) mod 256
+abbrev pub counted_bytes : ℕ → ℕ → List ℕ
+counted_bytes number count = map (λ place. (number + place) % 256) (range_with_len 0 count)
+
+-- what it carries: (number mod 100) + 1 bytes
+abbrev pub stream_payload : ℕ → List ℕ
+stream_payload number = counted_bytes number (number % 100 + 1)
+
+-- its bytes: the header of a stream of session 0 (draft-ietf-webtrans-http3, section 4.1), and what it carries
+abbrev pub stream_bytes : ℕ → List ℕ
+stream_bytes number = (0x40 ∷ 0x54 ∷ 0x00 ∷ []) ++ stream_payload number
+
+-- it is opened, comes whole, is accepted, read, and read at its end
+abbrev pub stream_turns : ℕ → List Turn
+stream_turns number =
+    turns.PeerUni
+    ∷ turns.Bytes (stream_id number) (stream_bytes number)
+    ∷ turns.End (stream_id number)
+    ∷ turns.Call calls.AcceptUni
+    ∷ turns.Call (calls.Read (stream_id number) 200)
+    ∷ turns.Call (calls.Read (stream_id number) 200)
+    ∷ []
+
+-- the turns of so many streams, one after another
+abbrev pub all_stream_turns : ℕ → List Turn
+all_stream_turns zero = []
+all_stream_turns (suc number) = all_stream_turns number ++ stream_turns number
+
+-- the whole run with so many streams
+abbrev pub generated : ℕ → List Turn
+generated streams = session_turns ++ all_stream_turns streams
+
+-- what answers come to: how many streams were accepted, how many bytes were read, and how many turns were answered
+pub record Summary : Type 0 where
+  pub streams : ℕ
+  pub bytes : ℕ
+  pub turns : ℕ
+
+-- the reply hands out a unidirectional stream
+abbrev pub is_accepted : Reply → Bool
+is_accepted (replies.Uni id) = true
+is_accepted _ = false
+
+-- how many bytes the reply reads
+abbrev pub read_count : Reply → ℕ
+read_count (replies.Read (Some piece)) = length piece
+read_count _ = 0
+
+-- the line that sums up the answers to a run
+abbrev pub summary_of : List Answer → Summary
+summary_of answers = record {
+  streams = count_by (λ answer. is_accepted answer.reply) answers;
+  bytes = sum_by (λ answer. read_count answer.reply) answers;
+  turns = length answers;
+}
