@@ -36,14 +36,14 @@ pub record Outcome (S T : Type 0) : Type 0 where
   pub given : Option T
 
 -- an item of the session is given, another one passed
-abbrev pub give_or_pass : {S T : Type 0} → Bool → DueRule S T → (S → Outcome S T) → T → S → Outcome S T
-give_or_pass true rule again item s = record { state = rule.give item s; given = Some item }
-give_or_pass false rule again item s = again (rule.pass item s)
+abbrev pub give_or_pass_due : {S T : Type 0} → Bool → DueRule S T → (S → Outcome S T) → T → S → Outcome S T
+give_or_pass_due true rule again item s = record { state = rule.give item s; given = Some item }
+give_or_pass_due false rule again item s = again (rule.pass item s)
 
 -- by what is next
 abbrev pub take_next : {S T : Type 0} → DueRule S T → (S → Outcome S T) → S → Option (Due T) → Outcome S T
 take_next rule again s None = record { state = s; given = None }
-take_next rule again s (Some due) = give_or_pass due.is_own rule again due.item s
+take_next rule again s (Some due) = give_or_pass_due due.is_own rule again due.item s
 
 -- it looks again behind each item that it passes, at most so many times
 abbrev pub take_due : {S T : Type 0} → DueRule S T → ℕ → S → Outcome S T

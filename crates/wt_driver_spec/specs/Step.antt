@@ -135,12 +135,12 @@ abbrev pub run_checks : TransportView → DriverState → DriverState
 run_checks t s = record s { progress = in_order (checks t (kept_calls s.datagrams s.session) s.dispatched) s.progress }
 
 -- a moment begins with no stops
-abbrev pub without_stops : Progress → Progress
-without_stops p = record p { stops = [] }
+abbrev pub with_no_stops : Progress → Progress
+with_no_stops p = record p { stops = [] }
 
 -- the scan begins
 abbrev pub begin_scan : DriverState → DriverState
-begin_scan s = record s { progress = without_stops s.progress }
+begin_scan s = record s { progress = with_no_stops s.progress }
 
 -- the state after the whole scan of a moment
 abbrev pub scan_state : TransportView → DriverState → DriverState
