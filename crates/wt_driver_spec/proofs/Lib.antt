@@ -1,1 +1,4 @@
 pub mod ScanSlots
+pub mod ClassifiedOnce
+pub mod MomentScan
+pub mod StreamIds
