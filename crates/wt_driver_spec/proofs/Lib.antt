@@ -2,3 +2,4 @@ pub mod ScanSlots
 pub mod ClassifiedOnce
 pub mod MomentScan
 pub mod StreamIds
+pub mod Following

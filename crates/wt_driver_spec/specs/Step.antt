@@ -196,8 +196,8 @@ after_event t _ s = s
 abbrev pub after_call : CallRecord → DriverState → DriverState
 after_call (StreamAccepted id) s = release id s
 after_call (StreamPassed id) s = release id s
-after_call DatagramReceived s = record s { datagrams = suc s.datagrams }
-after_call DatagramPassed s = record s { datagrams = suc s.datagrams }
+after_call DatagramReceived s = record s { datagrams = s.datagrams + 1 }
+after_call DatagramPassed s = record s { datagrams = s.datagrams + 1 }
 after_call (RequestDelivered id) s = deliver id s
 after_call (SessionEstablished id at) s = record s { session = Some (id, at) }
 after_call _ s = s
