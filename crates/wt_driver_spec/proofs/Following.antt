@@ -7,12 +7,11 @@ use Rattle.wt_driver_spec.proofs.ClassifiedOnce.{IsOnce, moment-once}
 use Rattle.wt_driver_spec.proofs.MomentScan.{moment-later, moment-scanned}
 use Rattle.wt_driver_spec.proofs.ScanSlots.{ArePeers, Same, Untouched, is_queued, scan-same, untouched-later}
 use Rattle.wt_driver_spec.proofs.StreamIds.{apart-ids, bi-low, fewer-miss, ids-more, kinds-differ, kinds-differ-so, kinds-miss, next-misses, uni-low}
+use Rattle.wt_driver_spec.specs.AtOnce.{control_flushed, flushed, open_after}
 use Rattle.wt_driver_spec.specs.DriverState.{DriverState, Held, Slot, slot_by, slot_of, slots, state_by, state_of}
 use Rattle.wt_driver_spec.specs.Moment.{Fits, MayCall, MayFollow, actions_if, flush_state, is_local, may_release, moment_actions, moment_state, names_session, scan_if, scans, state_with_actions}
 use Rattle.wt_driver_spec.specs.Step.{after_call, after_entry, control_after, is_other, new_slot, release, scan_state, sent_length, step_actions, without_slot}
 use Rattle.wt_proto.specs.declared.verdict.Verdict.{Verdict}
-use Rattle.wt_seam_spec.specs.Arrivals.{fits}
-use Rattle.wt_seam_spec.specs.Rows.{opened}
 use Rattle.wt_seam_spec.specs.Sent.{sent_on, with_sent_piece}
 use Rattle.wt_seam_spec.specs.Streams.{local_count, local_uni, one_more_if, opens, peer_bi, peer_count, peer_uni}
 use Rattle.wt_spec.specs.Driver.{ControlSent, apply_if, call_view, control_sent, flush, is_moment, log_and_flush, pending_actions, stream_table, transport_view}

@@ -6,3 +6,5 @@ pub mod Following
 pub mod Bounded
 pub mod Resting
 pub mod Sending
+pub mod Quiet
+pub mod Stays

@@ -3,7 +3,9 @@ use Rattle.std.proofs.Common.{arith, ◌≡◌, ℕ, suc, Bool, true, false, con
 use Rattle.std.specs.Prelude.{is_some, Option, Some, None, Result, Ok, Err, ◌==◌, ◌||◌, ◌&&◌, nat_lt, not}
 use Rattle.std.proofs.lemmas.Bool.{eqb-true, false_from_ne_true}
 use Rattle.wt_driver_spec.proofs.ScanSlots.{known}
+use Rattle.wt_driver_spec.specs.AtOnce.{control_flushed, flushed, open_after}
 use Rattle.wt_driver_spec.specs.DriverState.{Arrived, Dequeued, DriverState, Held, Slot, SlotPlace}
+use Rattle.wt_driver_spec.specs.Rest.{AllStay, Resting, Rests, RestsAt}
 use Rattle.wt_driver_spec.specs.Step.{Known, Scanned, after_slots, begin_scan, classify_slot, dequeue_slot, keep_slot, kept_calls, known_of, run_checks, scan_bi_slots, scan_on, scan_slots, scan_state, scan_uni_slots, unless_ended_slots, visit_slot, with_no_stops, with_scanned_bis, with_scanned_unis}
 use Rattle.wt_message.specs.Datagram.{datagram_of}
 use Rattle.wt_proto.specs.ControlWalk.{control_walk_of}
@@ -19,16 +21,6 @@ use Rattle.wt_proto.specs.declared.session_walk.SessionWalk.TheVariants as walks
 use Rattle.wt_wire.specs.declared.side.StreamEnd.TheVariants as ends
 
 -- ---- slots at rest
-
--- a slot that a visit leaves as it is, where so many earlier streams are unreleased
-abbrev pub RestsAt : Bool → SlotRule → ℕ → ℕ → SlotPlace → Type 0
-RestsAt ready rule n k Arrived = (ready && nat_lt n rule.slots) ≡ false
-RestsAt ready rule n k Dequeued = is_final (rule.verdict k) ≡ false
-RestsAt ready rule n k Held = Unit {0}
-
-abbrev pub Rests : Bool → SlotRule → ℕ → List Slot → Type 0
-Rests ready rule n [] = Unit {0}
-Rests ready rule n (l ∷ ls) = RestsAt ready rule n l.id l.place × Rests ready rule (suc n) ls
 
 module _ (ready : Bool) (rule : SlotRule) where
   abbrev again : List Slot → ℕ → Known → Scanned
@@ -227,10 +219,6 @@ in-order-runs : (fs : List (Progress → Progress)) (c : Progress) → RunsOn fs
 in-order-runs [] c r = refl
 in-order-runs (f ∷ fs) c r = ap (in_order fs) (not-ended f c r.0) ∙ in-order-runs fs (f c) r.1
 
-abbrev pub AllStay : List (Progress → Progress) → Progress → Type 0
-AllStay [] c = Unit {0}
-AllStay (f ∷ fs) c = (f c ≡ c) × AllStay fs c
-
 in-order-stays : (fs : List (Progress → Progress)) (c : Progress) → AllStay fs c → in_order fs c ≡ c
 in-order-stays [] c s = refl
 in-order-stays (f ∷ fs) c s = ap (in_order fs) (by c.ending) ∙ in-order-stays fs c s.1
@@ -292,12 +280,6 @@ module _ (t : TransportView) (settled : ℕ) (session : Option (ℕ × ℕ)) (o 
       rw is (all-stay c r last)
 
 -- ---- a whole pass
-
--- no slot classifiedns, and no visit finds anything
-pub record Resting (t : TransportView) (k : DriverState) : Type 0 where
-  pub unis : Rests t.ready (uni_rule t) 0 k.unis
-  pub bis : Rests t.ready (bi_rule t) 0 k.bis
-  pub stay : AllStay (checks t (kept_calls k.datagrams k.session) k.dispatched) (with_no_stops k.progress)
 
 -- a scan that finds no ending comes to rest
 pub scanned-rest : (t : TransportView) (k : DriverState) → (scan_state t k).progress.ending ≡ None → Resting t (scan_state t k)

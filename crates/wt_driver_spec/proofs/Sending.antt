@@ -10,8 +10,7 @@ use Rattle.wt_driver_spec.specs.Moment.{flush_state, state_with_actions}
 use Rattle.wt_driver_spec.specs.Step.{begin_scan, control_after, scan_state, step_actions}
 use Rattle.wt_message.specs.FixedBytes.{local_control_bytes}
 use Rattle.wt_seam_spec.specs.Joined.{send_of}
-use Rattle.wt_seam_spec.specs.Rows.{opened}
-use Rattle.wt_seam_spec.specs.Streams.{local_uni}
+use Rattle.wt_seam_spec.specs.Streams.{local_uni, opens}
 use Rattle.wt_spec.specs.Driver.{ControlSent, close_actions, control_actions, control_sent, opened_if, reset_if, session_id, stop_actions}
 use Rattle.wt_spec.specs.StreamTable.{ByFault, BySession, Ending, Stopped, TransportView}
 use Rattle.wt_turn.specs.Log.{closes, is_open}

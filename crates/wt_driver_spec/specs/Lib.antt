@@ -4,3 +4,4 @@ pub mod Moment
 pub mod Due
 pub mod Bounds
 pub mod AtOnce
+pub mod Rest
