@@ -8,3 +8,4 @@ pub mod Resting
 pub mod Sending
 pub mod Quiet
 pub mod Stays
+pub mod RestMoments

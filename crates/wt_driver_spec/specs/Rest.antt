@@ -41,9 +41,14 @@ pub record AtRest (side : Side) (log : Log) : Type 0 where
 abbrev pub RestsWhileOpen : Side → Log → Type 0
 RestsWhileOpen side log = is_open log ≡ true → AtRest side log
 
+-- the scan begins, where the test holds
+abbrev pub begin_if : Bool → DriverState → DriverState
+begin_if true s = begin_scan s
+begin_if false s = s
+
 -- the state after a moment that finds nothing new
 abbrev pub rested : DriverState → DriverState
-rested s = elim s.is_open [ true ↦ begin_scan s | false ↦ s ]
+rested s = begin_if s.is_open s
 
 -- ---- more bytes of one stream
 
