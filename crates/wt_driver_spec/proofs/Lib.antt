@@ -9,3 +9,4 @@ pub mod Sending
 pub mod Quiet
 pub mod Stays
 pub mod RestMoments
+pub mod Accepting
