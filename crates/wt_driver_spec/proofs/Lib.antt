@@ -10,3 +10,4 @@ pub mod Quiet
 pub mod Stays
 pub mod RestMoments
 pub mod Accepting
+pub mod Enough
