@@ -411,7 +411,7 @@ moment-out side log m may fits =
     ∙ ap (λ b. with_actions (actions_if b (transport_view side (m ∷ log)) (after_entry (transport_view side log) m (state_of side log))) (m ∷ log)) (counts-so side log m)
 
 -- the entries of a moment fit too
-actions-fit : (side : Side) (acts : List Action) (log : Log) → Fits side log → Fits side (with_actions acts log)
+pub actions-fit : (side : Side) (acts : List Action) (log : Log) → Fits side log → Fits side (with_actions acts log)
 actions-fit side [] log fits = fits
 actions-fit side (a ∷ later) log fits = actions-fit side later (Sent a ∷ log) (tt, fits)
 

@@ -11,3 +11,4 @@ pub mod Stays
 pub mod RestMoments
 pub mod Accepting
 pub mod Enough
+pub mod Turns

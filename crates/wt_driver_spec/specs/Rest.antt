@@ -8,6 +8,7 @@ use Rattle.wt_turn.specs.Log.{Log, is_open}
 use Rattle.wt_turn.specs.declared.action.Action.{Action}
 use Rattle.wt_wire.specs.declared.side.Side.{Side}
 use Rattle.wt_driver_spec.specs.DriverState.{Arrived, Dequeued, DriverState, Held, Slot, SlotPlace, state_of}
+use Rattle.wt_driver_spec.specs.Moment.{Fits}
 use Rattle.wt_driver_spec.specs.Step.{begin_scan, kept_calls, step_actions, with_no_stops}
 
 -- a visit leaves the slot of stream k as it is, behind so many others
@@ -40,6 +41,11 @@ pub record AtRest (side : Side) (log : Log) : Type 0 where
 -- at rest, as long as the connection is open
 abbrev pub RestsWhileOpen : Side → Log → Type 0
 RestsWhileOpen side log = is_open log ≡ true → AtRest side log
+
+-- what holds of every log that turns lead to, as far as a driver is concerned: each entry might follow, and all is at rest
+pub record DriverFacts (side : Side) (log : Log) : Type 0 where
+  pub fits : Fits side log
+  pub rests : RestsWhileOpen side log
 
 -- the scan begins, where the test holds
 abbrev pub begin_if : Bool → DriverState → DriverState
