@@ -14,7 +14,7 @@ abbrev pub IsOnce : List Classified → Type 0
 IsOnce [] = Unit {0}
 IsOnce (r ∷ rs) = (verdict_of r.id rs ≡ None) × IsOnce rs
 
-turned-round : (a b : ℕ) → (a == b) ≡ false → (b == a) ≡ false
+pub turned-round : (a b : ℕ) → (a == b) ≡ false → (b == a) ≡ false
 turned-round a b e = false_from_ne_true (b == a) (λ f. true≢false (sym (eq-eqb a b (sym (eqb-true b a f))) ∙ e))
 
 once-append : (rs : List Classified) (r : Classified) → IsOnce rs → verdict_of r.id rs ≡ None → IsOnce (rs ++ r ∷ [])

@@ -165,7 +165,7 @@ releasing id d = record d { released = λ k. (id == k) || d.released k }
 abbrev delivering : ℕ → CallView → CallView
 delivering id d = record d { delivered = λ k. (id == k) || d.delivered k }
 
-without-append : (id : ℕ) (xs ys : List Slot) → without_slot id (xs ++ ys) ≡ without_slot id xs ++ without_slot id ys
+pub without-append : (id : ℕ) (xs ys : List Slot) → without_slot id (xs ++ ys) ≡ without_slot id xs ++ without_slot id ys
 without-append id [] ys = refl
 without-append id (x ∷ xs) ys = by (id == x.id) (without-append id xs ys)
   where
@@ -187,7 +187,7 @@ slot-released id k gone dequeued (Some v) e n = rw (named-settles v n) (by (is_r
     by true = refl
     by false = rw e refl
 
-slot-other : (id k : ℕ) (gone dequeued : Bool) (o : Option Verdict) → (id == k) ≡ false → slot_by k gone dequeued o ≡ without_slot id (slot_by k gone dequeued o)
+pub slot-other : (id k : ℕ) (gone dequeued : Bool) (o : Option Verdict) → (id == k) ≡ false → slot_by k gone dequeued o ≡ without_slot id (slot_by k gone dequeued o)
 slot-other id k gone dequeued None e = rw e refl
 slot-other id k gone dequeued (Some v) e = by (is_released gone v)
   where
@@ -212,7 +212,7 @@ slots-releasing local id d s [] peers may = refl
 slots-releasing local id d s (k ∷ ks) peers may =
     (λ i. slot-releasing local id d s k peers.0 may i ++ slots-releasing local id d s ks peers.1 may i) ∙ sym (without-append id (slot_of d s k) (slots d s ks))
 
-only-both : (holds : Classified → Bool) (xs ys : List Classified) → only holds (xs ++ ys) ≡ only holds xs ++ only holds ys
+pub only-both : (holds : Classified → Bool) (xs ys : List Classified) → only holds (xs ++ ys) ≡ only holds xs ++ only holds ys
 only-both holds [] ys = refl
 only-both holds (x ∷ xs) ys = rw (only-both holds xs ys) (sym (append_assoc (kept_if (holds x) x) (only holds xs) (only holds ys)))
 

@@ -1,19 +1,24 @@
 -- A moment leaves a driver at rest, and an entry that changes nothing the driver asks leaves it so and sends nothing.
-use Rattle.std.proofs.Common.{◌≡◌, Bool, true, false, List, [], ◌∷◌, refl, sym, ap, ◌∙◌}
-use Rattle.std.specs.Prelude.{Option, Some, None, ◌&&◌, not}
-use Rattle.std.proofs.lemmas.Bool.{true≢false}
-use Rattle.wt_driver_spec.proofs.Following.{actions-followed, entry-followed, open-more, scanned-out, sound}
+use Rattle.std.proofs.Common.{◌≡◌, ℕ, Bool, true, false, List, [], ◌∷◌, ◌++◌, refl, sym, ap, ◌∙◌}
+use Rattle.std.specs.Prelude.{Option, Some, None, ◌==◌, ◌||◌, ◌&&◌, not, if◌then◌else◌}
+use Rattle.std.proofs.lemmas.Bool.{eqb-true, false_from_ne_true, or_from, true≢false}
+use Rattle.wt_driver_spec.proofs.ClassifiedOnce.{turned-round}
+use Rattle.wt_driver_spec.proofs.Following.{actions-followed, entry-followed, only-both, open-more, scanned-out, slot-other, sound, without-append}
 use Rattle.wt_driver_spec.proofs.Quiet.{moment-rests}
 use Rattle.wt_driver_spec.proofs.Resting.{rest-scanned}
+use Rattle.wt_driver_spec.proofs.ScanSlots.{ArePeers, apart}
 use Rattle.wt_driver_spec.proofs.Sending.{sent_at_once}
+use Rattle.wt_driver_spec.proofs.StreamIds.{apart-ids}
 use Rattle.wt_driver_spec.specs.AtOnce.{flushed, open_after}
-use Rattle.wt_driver_spec.specs.DriverState.{DriverState, state_of}
-use Rattle.wt_driver_spec.specs.Moment.{Fits, MayCall, MayFollow, flush_state, state_with_actions}
+use Rattle.wt_driver_spec.specs.DriverState.{DriverState, slot_of, slots, state_by, state_of}
+use Rattle.wt_driver_spec.specs.Moment.{Fits, MayCall, MayFollow, flush_state, is_local, state_with_actions}
 use Rattle.wt_driver_spec.specs.Rest.{AtRest, RestsWhileOpen, begin_if, rested}
-use Rattle.wt_driver_spec.specs.Step.{after_call, after_entry, begin_scan, scan_state, step_actions}
-use Rattle.wt_spec.specs.Driver.{apply_if, flush, is_moment, log_and_flush, pending_actions, stream_table, transport_view}
-use Rattle.wt_spec.specs.StreamTable.{Ending, TransportView}
-use Rattle.wt_turn.specs.Log.{CallRecord, Called, Entry, Event, Log, ReportedLate, ends_by, is_open, with_actions}
+use Rattle.wt_driver_spec.specs.Step.{after_call, after_entry, begin_scan, is_other, scan_state, step_actions, without_slot}
+use Rattle.wt_seam_spec.specs.Streams.{peer_bi, peer_uni}
+use Rattle.wt_spec.specs.Driver.{apply_if, call_view, control_sent, flush, is_moment, log_and_flush, pending_actions, stream_table, transport_view}
+use Rattle.wt_spec.specs.Scan.{bi_ids, has, stream_ids, uni_ids}
+use Rattle.wt_spec.specs.StreamTable.{CallView, Classified, Ending, StreamTable, TransportView, awaits_accept, dispatched, kept_if, only, verdict_of}
+use Rattle.wt_turn.specs.Log.{CallRecord, Called, Entry, Event, Log, ReportedLate, StreamAccepted, ends_by, is_open, with_actions}
 use Rattle.wt_turn.specs.declared.action.Action.{Action}
 use Rattle.wt_wire.specs.declared.side.Side.{Side}
 
@@ -135,3 +140,54 @@ start-rests side = λ o. record {
   rests = record { unis = tt; bis = tt; stay = (refl, (refl, (refl, (refl, (refl, (refl, tt)))))) };
   silent = refl;
 }
+
+-- ---- a stream of this end's own has no slot, and waits for no accept
+
+without-none : (id : ℕ) (d : CallView) (s : StreamTable) (local : ℕ → Bool) (ks : List ℕ) → ArePeers local ks → local id ≡ true → without_slot id (slots d s ks) ≡ slots d s ks
+without-none id d s local [] peers own = refl
+without-none id d s local (k ∷ ks) peers own =
+    without-append id (slot_of d s k) (slots d s ks)
+    ∙ (λ i. sym (slot-other id k (d.released k) (has k s.dequeued) (verdict_of k s.classified) apart) i ++ without-none id d s local ks peers.1 own i)
+  where
+    apart : (id == k) ≡ false
+    apart = false_from_ne_true (id == k) (λ e. true≢false (sym own ∙ ap local (eqb-true id k e) ∙ peers.0))
+
+only-none : (id : ℕ) (holds : Classified → Bool) (cs : List Classified) → verdict_of id cs ≡ None → only (is_other id) (only holds cs) ≡ only holds cs
+only-none id holds [] e = refl
+only-none id holds (c ∷ cs) e = by (c.id == id) refl e (only-none id holds cs)
+  where
+    kept : (b : Bool) → (id == c.id) ≡ false → only (is_other id) (kept_if b c) ≡ kept_if b c
+    kept true f = rw f refl
+    kept false f = refl
+
+    by : (b : Bool) → (c.id == id) ≡ b → (if b then Some c.verdict else verdict_of id cs) ≡ None
+        → (verdict_of id cs ≡ None → only (is_other id) (only holds cs) ≡ only holds cs)
+        → only (is_other id) (kept_if (holds c) c ++ only holds cs) ≡ kept_if (holds c) c ++ only holds cs
+    by true f g again = absurd cc
+    by false f g again =
+        only-both (is_other id) (kept_if (holds c) c) (only holds cs)
+        ∙ (λ i. kept (holds c) (turned-round c.id id f) i ++ again g i)
+
+-- no stream of this end's own is among the peer's
+local-misses : (side : Side) (id kind count : ℕ) → ArePeers (is_local side) (stream_ids kind 0 count) → is_local side id ≡ true → has id (stream_ids kind 0 count) ≡ false
+local-misses side id kind count peers own = by (stream_ids kind 0 count) peers
+  where
+    by : (ks : List ℕ) → ArePeers (is_local side) ks → has id ks ≡ false
+    by [] p = refl
+    by (k ∷ ks) p = or_from (k == id) (has id ks) (false_from_ne_true (k == id) (λ e. true≢false (sym own ∙ ap (is_local side) (sym (eqb-true k id e)) ∙ p.0))) (by ks p.1)
+
+-- So an accept of a stream of this end's own changes nothing that a driver keeps.
+pub release-local : (side : Side) (log : Log) (id : ℕ) → Fits side log → is_local side id ≡ true → after_call (StreamAccepted id) (state_of side log) ≡ state_of side log
+unfolding state_of
+release-local side log id fits own =
+    let t : TransportView = transport_view side log in
+    let apart = apart-ids t in
+    let none : verdict_of id (stream_table side log).classified ≡ None =
+    (sound side log fits).within.classified id (local-misses side id (peer_uni side) t.unis apart.uni_peers own) (local-misses side id (peer_bi side) t.bis apart.bi_peers own) in
+    λ i. record (state_by t (call_view log) (control_sent side log) (is_open log) (stream_table side log)) {
+      unis = without-none id (call_view log) (stream_table side log) (is_local side) (uni_ids t) apart.uni_peers own i;
+      bis = without-none id (call_view log) (stream_table side log) (is_local side) (bi_ids t) apart.bi_peers own i;
+      dispatched = record (dispatched (call_view log) (stream_table side log).classified) {
+        waiting = only-none id (awaits_accept (call_view log).released) (stream_table side log).classified none i;
+      };
+    }
