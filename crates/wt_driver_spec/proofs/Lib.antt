@@ -12,3 +12,5 @@ pub mod RestMoments
 pub mod Accepting
 pub mod Enough
 pub mod Turns
+pub mod DistinctSlots
+pub mod ScanLoop
