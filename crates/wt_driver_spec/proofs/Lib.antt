@@ -14,3 +14,4 @@ pub mod Enough
 pub mod Turns
 pub mod DistinctSlots
 pub mod ScanLoop
+pub mod AcceptLoop
