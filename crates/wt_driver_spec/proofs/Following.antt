@@ -3,11 +3,11 @@ use Rattle.std.proofs.Common.{add-one, add-zero, arith, length, length-append, �
 use Rattle.std.specs.Prelude.{Option, Some, None, ◌==◌, ◌||◌, ◌&&◌, is_some, not}
 use Rattle.std.proofs.lemmas.Bool.{eqb-true, false_from_ne_true}
 use Rattle.std.specs.List.{list_any}
-use Rattle.wt_driver_spec.proofs.ClassifiedOnce.{IsOnce, moment-once}
+use Rattle.wt_driver_spec.proofs.ClassifiedOnce.{moment-once}
 use Rattle.wt_driver_spec.proofs.MomentScan.{moment-later, moment-scanned}
 use Rattle.wt_driver_spec.proofs.ScanSlots.{ArePeers, Same, Untouched, is_queued, scan-same, untouched-later}
 use Rattle.wt_driver_spec.proofs.StreamIds.{apart-ids, bi-low, fewer-miss, ids-more, kinds-differ, kinds-differ-so, kinds-miss, next-misses, uni-low}
-use Rattle.wt_driver_spec.specs.AtOnce.{control_flushed, flushed, open_after}
+use Rattle.wt_driver_spec.specs.Claims.{IsOnce}
 use Rattle.wt_driver_spec.specs.DriverState.{DriverState, Held, Slot, slot_by, slot_of, slots, state_by, state_of}
 use Rattle.wt_driver_spec.specs.Moment.{Fits, MayCall, MayFollow, actions_if, flush_state, is_local, may_release, moment_actions, moment_state, names_session, scan_if, scans, state_with_actions}
 use Rattle.wt_driver_spec.specs.Step.{after_call, after_entry, control_after, is_other, new_slot, release, scan_state, sent_length, step_actions, without_slot}

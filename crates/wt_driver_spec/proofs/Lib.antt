@@ -15,3 +15,4 @@ pub mod Turns
 pub mod DistinctSlots
 pub mod ScanLoop
 pub mod AcceptLoop
+pub mod Theorems

@@ -394,3 +394,14 @@ start-leads side = record { fits = tt; rests = start-rests side }
 pub turns-lead : (side : Side) (all : List Turn) (log : Log) → DriverFacts side log → DriverFacts side (log_from side log all)
 turns-lead side [] log facts = facts
 turns-lead side (turn ∷ later) log facts = turns-lead side later (log_after side log turn) (turn-leads side log turn facts)
+
+-- ---- as they are claimed
+
+pub start_theorem : (side : Side) → DriverFacts side []
+start_theorem side = start-leads side
+
+pub turn_theorem : (side : Side) (log : Log) (turn : Turn) → DriverFacts side log → DriverFacts side (log_after side log turn)
+turn_theorem side log turn facts = turn-leads side log turn facts
+
+pub turns_theorem : (side : Side) (all : List Turn) → DriverFacts side (log_from side [] all)
+turns_theorem side all = turns-lead side all [] (start-leads side)

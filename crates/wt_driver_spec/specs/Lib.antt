@@ -5,3 +5,4 @@ pub mod Due
 pub mod Bounds
 pub mod AtOnce
 pub mod Rest
+pub mod Claims
