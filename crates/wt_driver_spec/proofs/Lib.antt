@@ -16,3 +16,4 @@ pub mod DistinctSlots
 pub mod ScanLoop
 pub mod AcceptLoop
 pub mod Theorems
+pub mod ControlStream
