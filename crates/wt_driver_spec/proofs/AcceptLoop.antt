@@ -1,6 +1,6 @@
 -- One turn of the loop of a call that gives or passes, as code makes it.
 use Rattle.std.proofs.Common.{arith, ◌≡◌, ℕ, zero, suc, ◌+◌, ◌-◌, ◌<◌, ◌≤◌, ◌^◌, Bool, true, false, List, [], ◌∷◌, ◌++◌, length, take, refl, sym, ap, ◌∙◌, add-zero, append_assoc, length-drop, length-take}
-use Rattle.std.specs.Prelude.{drop, Option, Some, None}
+use Rattle.std.specs.Prelude.{Option, Some, None}
 use Rattle.std.proofs.lemmas.List.{append-nil}
 use Rattle.wt_driver_spec.proofs.Bounded.{scanned-bounded, takes-bounded, without-bounded}
 use Rattle.wt_driver_spec.proofs.Sending.{sent_at_once}
@@ -11,7 +11,7 @@ use Rattle.wt_driver_spec.specs.Due.{DriverRun, Due, DueRule, Outcome, give_or_p
 use Rattle.wt_driver_spec.specs.Moment.{actions_if, flush_state, moment_actions, moment_state, scan_if}
 use Rattle.wt_driver_spec.specs.Step.{after_call, after_entry, release, scan_state}
 use Rattle.wt_message.specs.FixedBytes.{local_control_bytes}
-use Rattle.wt_spec.specs.Driver.{ControlSent, control_sent}
+use Rattle.wt_spec.specs.Driver.{ControlSent}
 use Rattle.wt_spec.specs.StreamTable.{TransportView}
 use Rattle.wt_turn.specs.Log.{CallRecord, Called, DatagramPassed, DatagramReceived, Entry, Sent, StreamAccepted, StreamPassed}
 use Rattle.wt_turn.specs.declared.action.Action.{Action}

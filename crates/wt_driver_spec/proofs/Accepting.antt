@@ -1,6 +1,6 @@
--- A call that gives or passes, on what is kept, with the work of each pass, is the call on the log.
+-- A call that gives or passes, on what is kept, with the scan of each pass, is the call on the log.
 use Rattle.std.proofs.Common.{◌≡◌, ℕ, zero, suc, Bool, true, false, List, [], ◌∷◌, ◌++◌, length, refl, sym, ap, ◌∙◌}
-use Rattle.std.specs.Prelude.{Option, Some, None, ◌==◌, ◌||◌, ◌&&◌, ◌%◌, ◌*◌, not, nat_lt, if◌then◌else◌}
+use Rattle.std.specs.Prelude.{Option, Some, None, ◌==◌, ◌*◌, not, if◌then◌else◌}
 use Rattle.std.proofs.lemmas.Bool.{and_parts, or_right}
 use Rattle.wt_driver_spec.proofs.ClassifiedOnce.{found-in, in-classified, only-in}
 use Rattle.wt_driver_spec.proofs.Following.{Sound, moment-fits, moment-followed, moment-out, out-followed, sound}
@@ -16,7 +16,6 @@ use Rattle.wt_seam_spec.specs.Streams.{peer_count}
 use Rattle.wt_spec.specs.Connection.{accept_due, accept_first, accept_stream, first_of, give_or_pass, is_due, is_for_session, next_datagram, next_due, pass_stream, receive_datagram, receive_first, receive_next, receive_or_pass}
 use Rattle.wt_spec.specs.Driver.{call_view, log_and_flush, stream_table, transport_view}
 use Rattle.wt_spec.specs.Effect.{error_of_ending, log_call, loss_or_local, pending_or_failed, transport_error}
-use Rattle.wt_spec.specs.Scan.{listed}
 use Rattle.wt_spec.specs.StreamTable.{ByFault, BySession, Classified, Ending, awaits_accept, dispatched, is_webtransport, verdict_of}
 use Rattle.wt_turn.specs.Log.{CallRecord, Called, DatagramPassed, DatagramReceived, Event, Log, Polled, Sent, StreamAccepted, StreamPassed, actions_of, events_of, is_open, with_actions}
 use Rattle.wt_turn.specs.declared.action.Action.{Action}

@@ -8,7 +8,7 @@ use Rattle.wt_driver_spec.specs.Step.{with_no_stops}
 use Rattle.wt_proto.specs.Uni.{is_final}
 use Rattle.wt_proto.specs.declared.verdict.Verdict.{Verdict}
 use Rattle.wt_spec.specs.Connection.{first_of}
-use Rattle.wt_spec.specs.Scan.{Scan, SlotRule, bi_ids, bi_rule, classify, dequeue, has, occupied, scan, scan_order, scan_unis, uni_ids, uni_rule, unless_ended, visit, with_dequeued}
+use Rattle.wt_spec.specs.Scan.{Scan, SlotRule, bi_ids, bi_rule, classify, dequeue, has, scan, scan_order, scan_unis, uni_ids, uni_rule, unless_ended, visit, with_dequeued}
 use Rattle.wt_spec.specs.StreamTable.{CallView, Classified, Ending, StreamTable, TransportView, kept_if, only, verdict_of}
 
 pub turned-round : (a b : ℕ) → (a == b) ≡ false → (b == a) ≡ false

@@ -1,11 +1,10 @@
 -- What a driver sends on its control stream is what the transport's calls send: its opening, and the bytes that credit is left for.
-use Rattle.std.proofs.Common.{arith, ◌≡◌, ℕ, zero, suc, ◌+◌, ◌-◌, ◌*◌, Bool, true, false, List, [], ◌∷◌, length, take, refl, sym, ap, ◌∙◌}
+use Rattle.std.proofs.Common.{arith, ◌≡◌, ℕ, zero, suc, ◌+◌, ◌-◌, ◌*◌, Bool, true, false, List, [], ◌∷◌, take, refl, ap, ◌∙◌}
 use Rattle.std.specs.Prelude.{drop, nat_lt, not, ◌==◌, ◌&&◌, if◌then◌else◌}
 use Rattle.std.proofs.lemmas.Bool.{eq-eqb, eqb-true}
 use Rattle.wt_seam_spec.specs.Joined.{send_of}
-use Rattle.wt_seam_spec.specs.Outgoing.{covered, opening, sending, streams_allowed}
+use Rattle.wt_seam_spec.specs.Outgoing.{opening, sending, streams_allowed}
 use Rattle.wt_seam_spec.specs.Reports.{bis_allowed, credit, unis_allowed}
-use Rattle.wt_seam_spec.specs.Rows.{opened}
 use Rattle.wt_seam_spec.specs.Streams.{local_count, local_uni, peer_count, stream_count}
 use Rattle.wt_spec.specs.Driver.{control_sent, opened_if, transport_view}
 use Rattle.wt_turn.specs.Log.{Event, Log, PeerBi, PeerUni, actions_of, all_events_of, events_of, is_open}

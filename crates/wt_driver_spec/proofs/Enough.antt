@@ -24,7 +24,7 @@ use Rattle.wt_turn.specs.declared.action.Action.{Action}
 use Rattle.wt_wire.specs.declared.side.Side.{Side}
 use Rattle.wt_proto.specs.declared.verdict.Verdict.TheVariants as verdicts
 
--- ---- visiting again, in general
+-- ---- looking again, in general
 
 module _ {S T : Type 0} (w : DueRule S T) (size : S → ℕ) (P : S → Type 0)
     (passes : (s : S) (f : Due T) → P s → w.next s ≡ Some f → P (w.pass f.item s) × (size (w.pass f.item s) < size s)) where

@@ -3,9 +3,7 @@ use Rattle.std.proofs.Common.{◌≡◌, ℕ, suc, Bool, true, false, List, [], 
 use Rattle.std.specs.Prelude.{Option, Some, None, ◌==◌, ◌&&◌}
 use Rattle.wt_driver_spec.proofs.Following.{actions-followed, entry-followed, scanned-out, sound}
 use Rattle.wt_driver_spec.proofs.Resting.{rest-scanned, scanned-rest}
-use Rattle.wt_driver_spec.proofs.ScanSlots.{left}
 use Rattle.wt_driver_spec.proofs.Sending.{pass-again, pass-silent, sends-are}
-use Rattle.wt_driver_spec.specs.AtOnce.{control_flushed, flushed, open_after}
 use Rattle.wt_driver_spec.specs.DriverState.{Arrived, Dequeued, DriverState, Held, Slot, SlotPlace, state_of}
 use Rattle.wt_driver_spec.specs.Moment.{Fits, MayFollow, flush_state, scans, state_with_actions}
 use Rattle.wt_driver_spec.specs.Rest.{AtRest, IsQuiet, Resting, Rests, RestsAt, StillReads, with_contents}
@@ -13,7 +11,7 @@ use Rattle.wt_driver_spec.specs.Step.{after_entry, begin_scan, scan_state, step_
 use Rattle.wt_proto.specs.Bi.{bi_verdict_of}
 use Rattle.wt_proto.specs.Uni.{is_final, uni_verdict_of}
 use Rattle.wt_proto.specs.declared.verdict.Verdict.{Verdict}
-use Rattle.wt_seam_spec.specs.Streams.{contents, opens}
+use Rattle.wt_seam_spec.specs.Streams.{contents}
 use Rattle.wt_spec.specs.Driver.{apply_if, flush, is_moment, log_and_flush, pending_actions, transport_view}
 use Rattle.wt_spec.specs.Scan.{SlotRule, check_datagram, check_qpack}
 use Rattle.wt_spec.specs.StreamTable.{Consequence, Dispatched, Progress, TransportView, bi_consequence, uni_consequence}
@@ -73,7 +71,7 @@ quiet-rests t bytes id k q r = record {
   );
 }
 
--- what is kept after the work and its sends is at rest
+-- what is kept after the scan and its sends is at rest
 pub sent-rests : (t : TransportView) (k : DriverState) → (scan_state t k).progress.ending ≡ None → Resting t (flush_state t (scan_state t k))
 sent-rests t k e =
     let w : DriverState = scan_state t k in
@@ -96,7 +94,7 @@ quiet-byte side log id b fits runs r q =
       record { unis = rest.unis; bis = rest.bis; stay = rest.stay },
     )
 
--- ---- in the words of histories
+-- ---- in the words of logs
 
 nothing-out : (side : Side) (g : Log) (k : DriverState) → state_of side g ≡ k → step_actions (transport_view side g) k ≡ [] → pending_actions side g ≡ []
 nothing-out side g k e silent = scanned-out side g ∙ ap (step_actions (transport_view side g)) e ∙ silent

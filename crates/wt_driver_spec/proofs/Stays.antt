@@ -4,7 +4,6 @@ use Rattle.std.specs.Prelude.{Option, Some, None, ◌==◌, ◌||◌, ◌&&◌}
 use Rattle.std.proofs.lemmas.Bool.{or_right, eqb-true}
 use Rattle.wt_driver_spec.proofs.MomentScan.{moment-later}
 use Rattle.wt_driver_spec.proofs.ScanSlots.{Later, later-again, later-same}
-use Rattle.wt_driver_spec.specs.AtOnce.{control_flushed, flushed, open_after}
 use Rattle.wt_driver_spec.specs.DriverState.{Held, slot_by, slots}
 use Rattle.wt_driver_spec.specs.Rest.{Rests}
 use Rattle.wt_proto.specs.Uni.{is_final}

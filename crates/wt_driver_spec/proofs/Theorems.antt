@@ -1,6 +1,6 @@
 -- The theorems, as the functions of `laws` name them.
-use Rattle.std.proofs.Common.{◌≡◌, ℕ, true, false, List, [], ◌∷◌, refl, sym, ap, ◌∙◌}
-use Rattle.std.specs.Prelude.{None, Some, ◌&&◌}
+use Rattle.std.proofs.Common.{◌≡◌, ℕ, true, ◌∷◌}
+use Rattle.std.specs.Prelude.{None}
 use Rattle.wt_driver_spec.proofs.Accepting.{accept-follows, receive-follows}
 use Rattle.wt_driver_spec.proofs.Bounded.{log-bounded}
 use Rattle.wt_driver_spec.proofs.DistinctSlots.{log-distinct}

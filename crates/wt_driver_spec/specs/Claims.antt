@@ -1,22 +1,22 @@
 -- The theorems on what a driver keeps, as they are claimed.
-use Rattle.std.specs.Prelude.{[], ◌&&◌, ◌∷◌, ◌≡◌, List, None, Option, Some, false, length, true, ℕ}
+use Rattle.std.specs.Prelude.{[], ◌∷◌, ◌≡◌, List, None, Some, false, length, true, ℕ}
 use Rattle.wt_proto.specs.Bi.{bi_verdict_of}
 use Rattle.wt_proto.specs.Uni.{is_final, uni_verdict_of}
 use Rattle.wt_proto.specs.declared.verdict.Verdict.{Verdict}
 use Rattle.wt_seam_spec.specs.Reports.{datagrams_of, end_of}
 use Rattle.wt_seam_spec.specs.Streams.{contents, peer_bi, peer_count, peer_uni}
 use Rattle.wt_spec.specs.Connection.{accept_stream, next_datagram, next_due, receive_datagram}
-use Rattle.wt_spec.specs.Driver.{call_view, is_moment, log_and_flush, stream_table, transport_view}
+use Rattle.wt_spec.specs.Driver.{call_view, log_and_flush, stream_table, transport_view}
 use Rattle.wt_spec.specs.Scan.{bi_ids, has, is_released, uni_ids}
 use Rattle.wt_spec.specs.StreamTable.{Classified, verdict_of}
-use Rattle.wt_turn.specs.Log.{CallRecord, Called, Entry, Log, Received, events_of, is_open, with_actions}
+use Rattle.wt_turn.specs.Log.{Entry, Log, Received, events_of, with_actions}
 use Rattle.wt_turn.specs.declared.reply.Reply.{Reply}
 use Rattle.wt_wire.specs.declared.side.Side.{Side}
 use Rattle.wt_driver_spec.specs.DriverState.{state_of}
 use Rattle.wt_driver_spec.specs.Due.{CallFollowed, accepted, received, state_accepted, state_received}
-use Rattle.wt_driver_spec.specs.Moment.{Fits, MayFollow, moment_actions, moment_state}
-use Rattle.wt_driver_spec.specs.Rest.{AtRest, DriverFacts, IsQuiet, RestsWhileOpen, rested}
-use Rattle.wt_driver_spec.specs.Step.{after_call, begin_scan}
+use Rattle.wt_driver_spec.specs.Moment.{moment_actions, moment_state}
+use Rattle.wt_driver_spec.specs.Rest.{AtRest, RestsWhileOpen, rested}
+use Rattle.wt_driver_spec.specs.Step.{begin_scan}
 use Rattle.wt_turn.specs.declared.reply.Reply.TheVariants as replies
 
 -- one entry more: the state behind its moment is the step's, and what goes out is what the step sends
