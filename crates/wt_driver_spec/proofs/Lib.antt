@@ -17,3 +17,4 @@ pub mod ScanLoop
 pub mod AcceptLoop
 pub mod Theorems
 pub mod ControlStream
+pub mod Asked
