@@ -1,2 +1,4 @@
 pub mod Consuming
 pub mod Taking
+pub mod HeaderLaws
+pub mod NextFrameLaws

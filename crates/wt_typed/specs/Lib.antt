@@ -2,3 +2,5 @@ pub mod Writing
 pub mod Reading
 pub mod UniHeader
 pub mod NextFrame
+pub mod Accepting
+pub mod Typed

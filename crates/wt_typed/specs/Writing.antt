@@ -19,6 +19,10 @@ nothing_begun = record { bytes = []; out = 0 }
 abbrev pub Continues : Pending → List ℕ → Type 0
 Continues p bytes = 0 < length p.bytes → p.bytes ≡ bytes
 
+-- the write of these bytes that was begun, or a new one
+abbrev pub write_of : Pending → List ℕ → Pending
+write_of p bytes = record { bytes = bytes; out = p.out }
+
 -- the bytes that are still to go out
 abbrev pub rest : Pending → List ℕ
 rest p = drop p.out p.bytes

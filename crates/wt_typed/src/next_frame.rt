@@ -3,9 +3,10 @@ ghost use Rattle.std.specs.Prelude.{◌≡◌, ◌≤◌, IfOk, [], None, drop, 
 ghost use Rattle.wt_wire.specs.Frames.{signal_with_id};
 ghost use Rattle.wt_proto.specs.FrameSteps.{decided};
 ghost use Rattle.wt_wire.specs.declared.frame.FrameKind.TheVariants as kinds;
+ghost use Rattle.wt_proto.specs.Progress.{at_item};
 ghost use Rattle.wt_typed.specs.NextFrame.{frame_decides, frame_effect, given, given_signal, id_at, on_skipped};
 
-use crate::item_reader::Grammar;
+use crate::item_reader::{Grammar, ItemReader};
 use std::alloc::Global;
 use wt_proto::walk::Step;
 use wt_wire::error::{ErrorCode, OutOfMemory};
@@ -112,7 +113,8 @@ impl Grammar for NextFrame {
 
     type Given = Frame;
 
-    ghost use Rattle.wt_typed.specs.NextFrame.{frame_decides};
+    ghost use Rattle.wt_proto.specs.Progress.{at_item};
+ghost use Rattle.wt_typed.specs.NextFrame.{frame_decides};
 
     ghost decides = { frame_decides };
 
@@ -122,5 +124,18 @@ impl Grammar for NextFrame {
         bytes: &[u8],
     ) -> Result<FrameStep, OutOfMemory> {
         frame_step(alloc, *source, bytes)
+    }
+}
+
+/// A reader of a stream's frames.
+pub type FrameReader = ItemReader<NextFrame>;
+
+impl ItemReader<NextFrame> {
+    /// A reader that took no bytes.
+    #[tactic(auto, using(crate::proofs::NextFrameLaws::frame_steady))]
+    pub(crate) fn for_frames(alloc: Global, source: FrameSource) -> Self
+        ensures { result ≡ at_item source }
+    {
+        ItemReader::new(alloc, source)
     }
 }

@@ -1,9 +1,10 @@
 //! The header of a unidirectional stream that the peer opened.
 ghost use Rattle.std.specs.Prelude.{◌≡◌, ◌≤◌, Some};
 ghost use Rattle.wt_wire.specs.Varint.{varint_at};
+ghost use Rattle.wt_proto.specs.Progress.{at_item};
 ghost use Rattle.wt_typed.specs.UniHeader.{header_at, kind_of, session_header, with_session};
 
-use crate::item_reader::Grammar;
+use crate::item_reader::{Grammar, ItemReader};
 use std::alloc::Global;
 use wt_proto::stream_header::StreamKind;
 use wt_proto::walk::Step;
@@ -99,5 +100,18 @@ impl Grammar for HeaderFront {
             Some((header, size)) => Ok(Step::Stops(header, size as u64)),
             None => Ok(Step::Cut),
         }
+    }
+}
+
+/// A reader of a stream's header.
+pub type HeaderReader = ItemReader<HeaderFront>;
+
+impl ItemReader<HeaderFront> {
+    /// A reader that took no bytes.
+    #[tactic(auto, using(crate::proofs::HeaderLaws::header_steady))]
+    pub(crate) fn for_header(alloc: Global) -> Self
+        ensures { result ≡ at_item tt }
+    {
+        ItemReader::new(alloc, ())
     }
 }
