@@ -1,6 +1,6 @@
 -- Bytes of a stream that are consumed in steps are consumed at once.
-use Rattle.std.proofs.Common.{arith, ◌≡◌, ◌<◌, ◌≤◌, ◌+◌, ◌-◌, ◌/◌, ◌%◌, ℕ, zero, suc, Bool, true, false, List, [], ◌∷◌, ◌++◌, length, drop, refl, sym, ap, ◌∙◌, inl, inr}
-use Rattle.std.specs.Prelude.{slice_set, slice_index_or, nat_lt, IsTrue, ◌==◌, ◌&&◌, not, if◌then◌else◌}
+use Rattle.std.proofs.Common.{arith, ◌≡◌, ◌<◌, ◌≤◌, ◌+◌, ◌-◌, ◌/◌, ◌%◌, ℕ, zero, suc, Bool, true, false, List, [], ◌∷◌, length, drop, refl, sym, ap, ◌∙◌, inl, inr}
+use Rattle.std.specs.Prelude.{slice_set, nat_lt, IsTrue, ◌==◌, ◌&&◌, if◌then◌else◌}
 use Rattle.std.specs.List.{concat}
 use Rattle.std.proofs.lemmas.Bool.Decides.{nat_tests}
 use Rattle.std.proofs.lemmas.Bool.{cases_lt}

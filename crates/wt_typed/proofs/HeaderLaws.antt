@@ -1,6 +1,6 @@
 -- The header of a unidirectional stream is read from its own bytes, and stays under more.
-use Rattle.std.proofs.Common.{◌≡◌, ℕ, ◌+◌, ◌≤◌, List, [], ◌++◌, length, drop, Option, Some, None, Result, Ok, Err, ◌==◌, refl, ap, arith}
-use Rattle.std.proofs.lemmas.List.{drop-append-le, length-append, length-drop}
+use Rattle.std.proofs.Common.{◌≡◌, ℕ, ◌+◌, ◌≤◌, List, ◌++◌, length, drop, Option, Some, None, Result, ◌==◌, refl, ap, arith}
+use Rattle.std.proofs.lemmas.List.{drop-append-le, length-drop}
 use Rattle.wt_wire.specs.declared.error.ErrorCode.{ErrorCode}
 use Rattle.wt_wire.specs.Frames.{is_exercise}
 use Rattle.wt_wire.specs.Varint.{varint_at}

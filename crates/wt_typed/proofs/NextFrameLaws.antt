@@ -1,24 +1,21 @@
 -- What a frame on a stream does is decided by its own bytes, and stays under more.
-use Rattle.std.proofs.Common.{◌≡◌, ℕ, Bool, true, false, cond, ◌≤◌, List, [], ◌++◌, length, Some, Result, refl}
-use Rattle.wt_wire.specs.declared.error.ErrorCode.{ErrorCode}
+use Rattle.std.proofs.Common.{◌≡◌, ℕ, Bool, true, false, cond, ◌≤◌, List, [], ◌++◌, length, Some, refl}
 use Rattle.wt_wire.specs.declared.frame.FrameKind.TheVariants as kinds
-use Rattle.wt_wire.specs.FrameBytes.{FrameParts}
 use Rattle.wt_wire.specs.Frames as frames
 use Rattle.wt_wire.specs.Varint.{varint_at}
-use Rattle.wt_proto.specs.declared.walk.Step.{Step}
 use Rattle.wt_proto.specs.declared.walk.Step.TheVariants.{Cut, Goes, Stops}
 use Rattle.wt_proto.specs.FrameSteps.{decided}
 use Rattle.wt_proto.specs.Steady.{taken, IsSteady}
 use Rattle.wt_proto.proofs.FrameLaws.{IsEffect, frames-steady, session_id_ignored-on, varint-on}
 use Rattle.wt_typed.specs.declared.next_frame.FrameSource.{FrameSource}
 use Rattle.wt_typed.specs.declared.next_frame.FrameSource.TheVariants.{Request, Control, Other}
-use Rattle.wt_typed.specs.NextFrame.{frame_decides, frame_effect, given, on_skipped}
+use Rattle.wt_typed.specs.NextFrame.{frame_decides, frame_effect, given}
 
 skipped-taken : (b : Bool) (n kind : ℕ) → taken (cond b (Stops (given (kinds.Exercise kind) []) n) (Goes Control n)) ≡ Some n
 skipped-taken true n kind = refl
 skipped-taken false n kind = refl
 
-frame-effect : IsEffect frame_effect
+pub frame-effect : IsEffect frame_effect
 frame-effect = record { takes = takes }
   where
     takes : (s : FrameSource) (n : ℕ) (f : frames.Frame) → taken (frame_effect s n f) ≡ Some n

@@ -1,5 +1,5 @@
 -- The next frame on a stream (RFC 9114, section 7; draft-ietf-webtrans-http3, section 4.3).
-use Rattle.std.specs.Prelude.{ℕ, ◌%◌, List, [], Option, Some, None, Result, Ok, Err, ◌==◌, if◌then◌else◌}
+use Rattle.std.specs.Prelude.{ℕ, ◌%◌, List, [], Option, Some, None, Result, Ok, Err, Bool, false, ◌==◌, if◌then◌else◌}
 use Rattle.wt_wire.specs.declared.error.ErrorCode.{ErrorCode}
 use Rattle.wt_wire.specs.declared.error.ErrorCode.TheVariants.{ExcessiveLoad, FrameUnexpected, Id}
 use Rattle.wt_wire.specs.declared.frame.FrameKind.{FrameKind}
@@ -10,6 +10,7 @@ use Rattle.wt_wire.specs.Varint.{varint_at}
 use Rattle.wt_proto.specs.declared.walk.Step.{Step}
 use Rattle.wt_proto.specs.declared.walk.Step.TheVariants.{Goes, Stops}
 use Rattle.wt_proto.specs.FrameSteps.{decided}
+use Rattle.wt_proto.specs.Progress.{Progress}
 use Rattle.wt_typed.specs.declared.next_frame.FrameSource.{FrameSource}
 use Rattle.wt_typed.specs.declared.next_frame.FrameSource.TheVariants.{Request, Control, Other}
 
@@ -51,3 +52,13 @@ id_at Other bytes = frames.session_id_ignored bytes
 -- what the frame at the front of such a stream does
 unfoldable pub frame_decides : FrameSource → List ℕ → Step FrameSource (Result FrameParts ErrorCode)
 frame_decides source bytes = decided (frame_effect source) (frames.frame_at (id_at source) bytes)
+
+-- an integer at the front is the type of the signal
+abbrev pub is_signal_type : Option (ℕ × ℕ) → Bool
+is_signal_type None = false
+is_signal_type (Some t) = t.0 == frames.signal_type
+
+-- the reader of a request's frames goes on for the session's: a signal that waits for its id is a fault there
+abbrev pub session_reading : Progress FrameSource (Result FrameParts ErrorCode) → Progress FrameSource (Result FrameParts ErrorCode)
+session_reading p =
+    if is_signal_type (varint_at p.kept) then record { state = Other; stop = Some (Err FrameUnexpected); skip = 0; kept = [] } else record p { state = Other }

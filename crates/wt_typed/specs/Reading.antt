@@ -1,5 +1,5 @@
 -- How a stream's bytes are read up to the end of an item, whatever the pieces are in which they come.
-use Rattle.std.specs.Prelude.{◌≡◌, ℕ, ◌<◌, ◌≤◌, List, ◌++◌, length, take, Option, Some, None, is_some, Result, Ok, Err, Bool, true, false, ◌==◌, ◌&&◌, if◌then◌else◌}
+use Rattle.std.specs.Prelude.{◌≡◌, ℕ, ◌<◌, ◌≤◌, List, length, take, Option, Some, None, is_some, Result, Ok, Err, Bool, true, false, ◌==◌, ◌&&◌, if◌then◌else◌}
 use Rattle.wt_wire.specs.declared.error.ErrorCode.{ErrorCode}
 use Rattle.wt_wire.specs.declared.side.StreamEnd.{StreamEnd}
 use Rattle.wt_wire.specs.declared.side.StreamEnd.TheVariants.{Running, Fin, Reset}
@@ -11,7 +11,7 @@ use Rattle.wt_turn.specs.declared.proto_error.ProtoReadError.TheVariants.{H3, IO
 use Rattle.wt_proto.specs.declared.walk.Step.{Step}
 use Rattle.wt_proto.specs.Progress.{Progress, IsProper, at_item, fed, progress_over, reached}
 use Rattle.wt_proto.specs.Steady.{IsSteady}
-use Rattle.wt_proto.specs.Walk.{Reached, walked}
+use Rattle.wt_proto.specs.Walk.{Reached}
 use Rattle.wt_seam.specs.State.{TransportState}
 use Rattle.wt_seam.specs.Step.{after_consume, unread_now}
 

@@ -58,6 +58,11 @@ is_through (polls.Ready (Ok a)) = true
 is_through (polls.Ready (Err error)) = false
 is_through polls.Pending = false
 
+-- the poll is ready, whatever it gives
+abbrev pub ready_at_all : {A : Type 0} → Poll A → Poll (Unit {0})
+ready_at_all (polls.Ready a) = polls.Ready tt
+ready_at_all polls.Pending = polls.Pending
+
 -- what is answered of the next frame of such a stream, whose bytes these are since the last one
 abbrev pub frame_answer : FrameSource → Bool → StreamEnd → List ℕ → Poll (Result FrameParts ProtoReadError)
 frame_answer source open_ end bytes = read_answer open_ end (walked frame_decides source bytes)

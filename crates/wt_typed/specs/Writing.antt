@@ -1,5 +1,5 @@
 -- A write that goes on as the peer grants credit (this repository's rules, after quinn's streams).
-use Rattle.std.specs.Prelude.{◌≡◌, ℕ, ◌+◌, ◌<◌, ◌≤◌, List, [], length, drop, min, Result, Ok, Err, Bool, is_some, nat_lt, not, if◌then◌else◌}
+use Rattle.std.specs.Prelude.{◌≡◌, ℕ, ◌+◌, ◌<◌, List, [], length, drop, Result, Ok, Err, Bool, is_some, nat_lt, not, ◌==◌, if◌then◌else◌}
 use Rattle.wt_turn.specs.declared.poll.Poll.{Poll}
 use Rattle.wt_turn.specs.declared.poll.Poll.TheVariants as polls
 use Rattle.wt_turn.specs.declared.proto_error.ProtoWriteError.{ProtoWriteError}
@@ -14,6 +14,10 @@ pub record Pending : Type 0 where
 -- nothing is being written
 abbrev pub nothing_begun : Pending
 nothing_begun = record { bytes = []; out = 0 }
+
+-- a write was begun that isn't through
+abbrev pub is_begun : Pending → Bool
+is_begun p = not (length p.bytes == 0)
 
 -- a write that was begun is of these bytes
 abbrev pub Continues : Pending → List ℕ → Type 0

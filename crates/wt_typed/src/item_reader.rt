@@ -1,5 +1,5 @@
 //! Items that are read from a stream, each up to its last byte.
-ghost use Rattle.std.specs.Prelude.{◌≡◌, ◌<◌, ◌≤◌, ◌&&◌, ◌==◌, ℕ, [], ◌∷◌, List, Option, length, take, IfOk, IsTrue, OnOk, is_some, false, true};
+ghost use Rattle.std.specs.Prelude.{◌≡◌, ◌<◌, ◌≤◌, ◌&&◌, ◌==◌, ℕ, [], ◌∷◌, ◌++◌, List, Option, length, take, IfOk, IsTrue, OnOk, is_some, false, true};
 ghost use Rattle.std.specs.Prelude.{Result};
 ghost use Rattle.wt_wire.specs.declared.error.ErrorCode.{ErrorCode};
 ghost use Rattle.wt_proto.specs.declared.walk.Step.{Step};
@@ -44,10 +44,10 @@ pub trait Grammar {
 /// of an item that isn't whole. Contracts see how far the walk over the items is.
 #[derive(Drop)]
 pub struct ItemReader<G: Grammar> {
-    state: G::State,
-    stop: Option<Result<G::Given, ErrorCode>>,
-    skip: u64,
-    kept: Vec<u8>,
+    pub(crate) state: G::State,
+    pub(crate) stop: Option<Result<G::Given, ErrorCode>>,
+    pub(crate) skip: u64,
+    pub(crate) kept: Vec<u8>,
 }
 
 impl<G: Grammar> Model for ItemReader<G> {
@@ -207,6 +207,7 @@ impl<G: Grammar> ItemReader<G> {
     ) -> Result<Poll<Result<G::Given, ProtoReadError>>, OutOfMemory>
         requires { IsTrue (can_receive_now t.old id) }
         ensures answer { IfOk result (λ a. a ≡ read_answer t.old.is_open (end_now t.old id) (reached (fed G.decides self.old (unread_now t.old id)))) }
+        ensures begun { (state : G.State) (bytes : List ℕ) → HasBegun G.decides state self.old bytes → IfOk result (λ a. a ≡ read_answer t.old.is_open (end_now t.old id) (walked G.decides state (bytes ++ unread_now t.old id))) }
         ensures left { OnOk result (self.new ≡ after_read (fed G.decides self.old (unread_now t.old id))) }
         ensures took { OnOk result ((n : ℕ) × Took G.decides self.old (fed G.decides self.old (unread_now t.old id)) t.old t.new id n) }
     {

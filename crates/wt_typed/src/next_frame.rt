@@ -1,10 +1,11 @@
 //! The next frame on a stream.
 ghost use Rattle.std.specs.Prelude.{◌≡◌, ◌≤◌, IfOk, [], None, drop, length};
 ghost use Rattle.wt_wire.specs.Frames.{signal_with_id};
+ghost use Rattle.wt_wire.specs.Varint.{varint_at};
 ghost use Rattle.wt_proto.specs.FrameSteps.{decided};
 ghost use Rattle.wt_wire.specs.declared.frame.FrameKind.TheVariants as kinds;
 ghost use Rattle.wt_proto.specs.Progress.{at_item};
-ghost use Rattle.wt_typed.specs.NextFrame.{frame_decides, frame_effect, given, given_signal, id_at, on_skipped};
+ghost use Rattle.wt_typed.specs.NextFrame.{frame_decides, frame_effect, given, given_signal, id_at, is_signal_type, on_skipped, session_reading};
 
 use crate::item_reader::{Grammar, ItemReader};
 use std::alloc::Global;
@@ -137,5 +138,42 @@ impl ItemReader<NextFrame> {
         ensures { result ≡ at_item source }
     {
         ItemReader::new(alloc, source)
+    }
+
+    /// The reader of a session's frames, which goes on where this one is.
+    pub(crate) fn for_session(self) -> Self
+        ensures { result ≡ session_reading self }
+    {
+        let ItemReader {
+            state: _,
+            stop,
+            skip,
+            mut kept,
+        } = self;
+        if begins_with_signal(kept.as_slice()) {
+            kept.clear();
+            return ItemReader {
+                state: FrameSource::Other,
+                stop: Some(Err(ErrorCode::FrameUnexpected)),
+                skip: 0,
+                kept,
+            };
+        }
+        ItemReader {
+            state: FrameSource::Other,
+            stop,
+            skip,
+            kept,
+        }
+    }
+}
+
+/// Whether the type of the signal stands at the front.
+fn begins_with_signal(bytes: &[u8]) -> bool
+    ensures { result ≡ is_signal_type (varint_at bytes.now) }
+{
+    match read_varint(bytes) {
+        Some((kind, _)) => kind.into_inner() == 0x41,
+        None => false,
     }
 }

@@ -4,7 +4,7 @@ ghost use Rattle.wt_proto.specs.StreamHeader.{header_bytes};
 ghost use Rattle.wt_wire.specs.FrameBytes.{frame_bytes};
 ghost use Rattle.wt_seam.specs.Rules.{after_write, may_write_now, sending_half_now};
 ghost use Rattle.wt_seam.specs.Step.{can_send_now};
-ghost use Rattle.wt_typed.specs.Writing.{Continues, after_pending, nothing_begun, pending_answer, rest, write_of};
+ghost use Rattle.wt_typed.specs.Writing.{Continues, after_pending, is_begun, nothing_begun, pending_answer, rest, write_of};
 ghost use Rattle.wt_typed.specs.Typed.{can_write_now, signal_bytes};
 
 use std::alloc::Global;
@@ -49,8 +49,7 @@ impl Outgoing {
 
     /// Whether a write was begun that isn't through.
     pub fn is_begun(&self) -> bool
-        ensures yes { IsTrue result → 0 < length self.now.bytes }
-        ensures no { 0 < length self.now.bytes → IsTrue result }
+        ensures { result ≡ is_begun self.now }
     {
         !self.bytes.is_empty()
     }

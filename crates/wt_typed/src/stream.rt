@@ -1,5 +1,5 @@
 //! A stream with its type.
-ghost use Rattle.std.specs.Prelude.{◌≡◌, IfOk, OnErr, OnOk, IsTrue, true};
+ghost use Rattle.std.specs.Prelude.{◌≡◌, ◌%◌, IfOk, OnErr, OnOk, IsTrue, true};
 ghost use Rattle.wt_seam.specs.Step.{can_receive_now};
 ghost use Rattle.wt_typed.specs.Typed.{after_stop_once, can_write_now, stop_answer};
 
@@ -198,4 +198,15 @@ pub(crate) fn can_write(id: StreamId, t: &Transport) -> bool
     ensures { result ≡ can_write_now t.now id }
 {
     t.can_send(id) && QuicSendStream::new(id).may_write(t)
+}
+
+/// The session of a client's bidirectional stream, whose id is a multiple of 4.
+pub(crate) fn session_of(id: StreamId) -> SessionId
+    requires { id % 4 ≡ 0 }
+    ensures { result ≡ id }
+{
+    match SessionId::try_from_session_stream(id) {
+        Some(session) => session,
+        None => unreachable!(),
+    }
 }

@@ -30,15 +30,15 @@ pub enum UniHeader {
 
 impl UniHeader {
     /// What the stream is for.
-    pub fn kind(self) -> StreamKind
-        ensures { result ≡ kind_of self }
+    pub fn kind(&self) -> StreamKind
+        ensures { result ≡ kind_of self.now }
     {
         match self {
             UniHeader::Control => StreamKind::Control,
             UniHeader::QPackEncoder => StreamKind::QPackEncoder,
             UniHeader::QPackDecoder => StreamKind::QPackDecoder,
             UniHeader::WebTransport(_) => StreamKind::WebTransport,
-            UniHeader::Exercise(number) => StreamKind::Exercise(number),
+            UniHeader::Exercise(number) => StreamKind::Exercise(*number),
         }
     }
 }

@@ -1,4 +1,4 @@
-use Rattle.std.proofs.Common.{◌≡◌, ◌-◌, ◌∷◌, ◌++◌, ℕ, List, is_some, length, refl, sym, ap, ◌∙◌, arith}
+use Rattle.std.proofs.Common.{is_some, length, sym, ap, ◌∙◌, arith}
 use Rattle.wt_proto.specs.Steady.{taken}
 use Rattle.wt_typed.proofs.Taking.{byte-long, kept-goes, kept-stops}
 use Rattle.wt_typed.proofs.item_reader.ItemReader.keep.Goals as goal

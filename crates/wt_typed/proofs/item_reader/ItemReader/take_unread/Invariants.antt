@@ -1,4 +1,4 @@
-use Rattle.std.proofs.Common.{◌≡◌, ◌≤◌, ◌-◌, length}
+use Rattle.std.proofs.Common.{◌≡◌, ◌-◌, length}
 use Rattle.wt_proto.specs.Progress.{Advances}
 use Rattle.wt_seam.specs.Step.{unread_now}
 use Rattle.wt_typed.specs.Reading.{after_taking}
