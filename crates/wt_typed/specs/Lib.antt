@@ -1,0 +1,6 @@
+pub mod Writing
+pub mod Reading
+pub mod UniHeader
+pub mod NextFrame
+pub mod Accepting
+pub mod Typed
