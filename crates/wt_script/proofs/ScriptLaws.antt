@@ -44,7 +44,7 @@ in_line script start i begun within other =
     ∙ ap (λ t. if t then line ∷ lines_from [] rest else lines_from (line ++ b ∷ []) rest) (ne_eqb b 10 other)
     ∙ ap (λ l. lines_from l rest) (sym (longer script start i begun within))
 
--- behind a line that is taken the next one begins
+-- after a line that is taken the next one begins
 pub next_line : (script line : List ℕ) (i number : ℕ) (before next : Lines) → i < length script → get_or script i 0 ≡ 10
     → with_line before line ≡ Some next
     → read_lines (number + 1) next (lines_from (take (i + 1 - (i + 1)) (drop (i + 1) script)) (drop (i + 1) script))
