@@ -20,5 +20,6 @@ pub mod SettingsLaws
 pub mod SendLaws
 pub mod TakenLaws
 pub mod HeaderLaws
+pub mod PendingLaws
 pub mod Theorems
 pub mod Recorded
