@@ -21,5 +21,6 @@ pub mod SendLaws
 pub mod TakenLaws
 pub mod HeaderLaws
 pub mod PendingLaws
+pub mod SessionStream
 pub mod Theorems
 pub mod Recorded

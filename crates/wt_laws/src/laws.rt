@@ -1,6 +1,6 @@
 //! The laws, each a function with an empty body whose contract is the law.
 ghost use Rattle.std.specs.Prelude.{◌≡◌, ℕ, List, [], true, false};
-ghost use Rattle.wt_laws.specs.Laws.{ActionsHaveCauses, CutsWell, DatagramsInOrder, FaultCloses, HeadersOut, NothingAfterEnd, OneSession, OpenExactly, ReadsInOrder, ReplyHasCause, ResultStays, SendsEnd, SendsInOrder, SessionTold, SessionsRightly, SettingsOut, StreamsAcceptedRightly, TakenGoesOut};
+ghost use Rattle.wt_laws.specs.Laws.{ActionsHaveCauses, CutsWell, DatagramsInOrder, FaultCloses, HeadersOut, NothingAfterEnd, OneSession, OpenExactly, ReadsInOrder, ReplyHasCause, ResultStays, SendsEnd, SendsInOrder, SessionStreamOut, SessionTold, SessionsRightly, SettingsOut, StreamsAcceptedRightly, TakenGoesOut};
 ghost use Rattle.wt_laws.specs.Left.{PendingExactly, is_pending};
 ghost use Rattle.wt_laws.specs.Reachable.{AllLawful, IsReachable, exchanges};
 ghost use Rattle.wt_spec.specs.Answers.{answer_to, is_lawful, log_from};
@@ -96,4 +96,11 @@ pub fn what_is_taken_goes_out()
 pub fn calls_wait_exactly_with_nothing_left()
     ensures pending { (side : Side) (log : Log) (turn : Turn) → is_lawful side log turn ≡ true → PendingExactly side log turn }
     ensures ended { (side : Side) (log : Log) (turn : Turn) → is_lawful side log turn ≡ true → is_open log ≡ false → is_pending (answer_to side log turn).reply ≡ false }
+{}
+
+/// What goes out on the session's own stream is the frame of its request or response, as far as it
+/// is out, and all of it once the session is established or the rejection is finished.
+#[tactic(auto, using(crate::proofs::Theorems::session_stream_theorem))]
+pub fn session_stream_goes_out()
+    ensures stream { (side : Side) (all : List Turn) → AllLawful side [] all → SessionStreamOut side (exchanges side all) (log_from side [] all) }
 {}
