@@ -22,5 +22,6 @@ pub mod TakenLaws
 pub mod HeaderLaws
 pub mod PendingLaws
 pub mod SessionStream
+pub mod AllSends
 pub mod Theorems
 pub mod Recorded

@@ -26,7 +26,7 @@ use Rattle.wt_laws.proofs.SessionLaws.{HadRequest, Handshakes, from-request, han
 use Rattle.wt_laws.proofs.SettingsLaws.{close-on, opened-on, stops-on}
 use Rattle.wt_laws.proofs.Steps.{Keeps, KeepsEntries, blind-flush, by-entries, calls-with}
 use Rattle.wt_laws.specs.Causes.{ActionCause, ByAccept, ByOpening, OfHeader, OfRequest, OfResponse, OfWrite, OwnCauses, RecordCause, SendCause, bytes_for, is_under_way}
-use Rattle.wt_laws.specs.Laws.{SendsEnd, SendsInOrder, accepted_by, accepted_of}
+use Rattle.wt_laws.specs.Laws.{accepted_by, accepted_of}
 use Rattle.wt_laws.specs.Reachable.{IsReachable}
 use Rattle.wt_spec.specs.Answers.{answer_to, call_effect, is_lawful, log_after, turn_effect}
 use Rattle.wt_spec.specs.Connection.{accepts_stream, ends_opening, starts_opening}
@@ -241,8 +241,9 @@ not-same a k n = at (a == k) refl
     at true e = absurd (n (sym (eqb-true a k e)))
     at false e = refl
 
-pub sends-in-order : (side : Side) (log : Log) (turn : Turn) → IsReachable side log → is_lawful side log turn ≡ true → SendsInOrder side log turn
-sends-in-order side log turn r l k n a = at (bytes_for k turn) refl
+pub given-sends : (side : Side) (log : Log) (turn : Turn) → IsReachable side log → is_lawful side log turn ≡ true → (k : ℕ) → k ≢ local_uni side → is_accepted log k ≡ true
+    → sent_on (actions_of (log_after side log turn)) k ≡ sent_on (actions_of log) k ++ accepted_by (bytes_for k turn) (answer_to side log turn).reply
+given-sends side log turn r l k n a = at (bytes_for k turn) refl
   where
     at : (o : Option (List ℕ)) → bytes_for k turn ≡ o → sent_on (actions_of (log_after side log turn)) k ≡ sent_on (actions_of log) k ++ accepted_by o (answer_to side log turn).reply
     at None e =
@@ -289,10 +290,31 @@ closed-turn side k bytes log (turns.Call (calls.WriteAll id bs)) s e = at (id ==
 closed-turn side k bytes log (turns.Call _) s e = absurd (cc)
 closed-turn side k bytes log _ s e = absurd (cc)
 
-pub sends-end : (side : Side) (log : Log) (turn : Turn) → IsReachable side log → is_lawful side log turn ≡ true → SendsEnd side log turn
-sends-end side log turn r l k n a f =
-    sends-in-order side log turn r l k n a ∙ ap (λ xs. sent_on (actions_of log) k ++ xs) (at (bytes_for k turn) refl) ∙ append-nil (sent_on (actions_of log) k)
+-- a write on a stream whose sending half the application hasn't
+no-half : (side : Side) (bytes : List ℕ) (log : Log) (call : ℕ → Effect) (k : ℕ) (b : Bool) → b ≡ false → accepted_of bytes (on_half b side log call k).reply ≡ []
+no-half side bytes log call k true n = absurd (cc)
+no-half side bytes log call k false n = refl
+
+no-half-turn : (side : Side) (k : ℕ) (bytes : List ℕ) (log : Log) (turn : Turn) → has_sending_half side log k ≡ false → bytes_for k turn ≡ Some bytes → accepted_of bytes (turn_effect side log turn).reply ≡ []
+unfolding call_effect
+no-half-turn side k bytes log (turns.Call (calls.Write id bs)) n e = at (id == k) refl e
   where
-    at : (o : Option (List ℕ)) → bytes_for k turn ≡ o → accepted_by o (answer_to side log turn).reply ≡ []
-    at None e = refl
-    at (Some bytes) e = closed-turn side k bytes log turn (closed-error log k f) e
+    at : (b : Bool) → (id == k) ≡ b → (if b then Some bs else None) ≡ Some bytes → accepted_of bytes (on_half (has_sending_half side log id) side log (λ j. write side log j bs) id).reply ≡ []
+    at false i e = absurd (cc)
+    at true i e = no-half side bytes log (λ j. write side log j bs) id (has_sending_half side log id) (ap (has_sending_half side log) (eqb-true id k i) ∙ n)
+no-half-turn side k bytes log (turns.Call (calls.WriteAll id bs)) n e = at (id == k) refl e
+  where
+    at : (b : Bool) → (id == k) ≡ b → (if b then Some bs else None) ≡ Some bytes → accepted_of bytes (on_half (has_sending_half side log id) side log (λ j. write_all side log j bs) id).reply ≡ []
+    at false i e = absurd (cc)
+    at true i e = no-half side bytes log (λ j. write_all side log j bs) id (has_sending_half side log id) (ap (has_sending_half side log) (eqb-true id k i) ∙ n)
+no-half-turn side k bytes log (turns.Call _) n e = absurd (cc)
+no-half-turn side k bytes log _ n e = absurd (cc)
+
+-- nothing is accepted for a stream that wasn't given, or was ended
+pub none-accepted : (side : Side) (k : ℕ) (log : Log) (turn : Turn) → (has_sending_half side log k ≡ false) ⊎ ((is_finished (actions_of log) k || is_reset log k) ≡ true) → accepted_by (bytes_for k turn) (answer_to side log turn).reply ≡ []
+none-accepted side k log turn w = at (bytes_for k turn) refl w
+  where
+    at : (o : Option (List ℕ)) → bytes_for k turn ≡ o → (has_sending_half side log k ≡ false) ⊎ ((is_finished (actions_of log) k || is_reset log k) ≡ true) → accepted_by o (answer_to side log turn).reply ≡ []
+    at None e w = refl
+    at (Some bytes) e (inl n) = no-half-turn side k bytes log turn n e
+    at (Some bytes) e (inr f) = closed-turn side k bytes log turn (closed-error log k f) e

@@ -31,7 +31,7 @@ use Rattle.wt_laws.proofs.SettingsLaws.{ControlOut, first-control, keeps-control
 use Rattle.wt_laws.proofs.Steps.{Brings, Keeps, KeepsEntries, by-entries, calls-logged, calls-with, of-record}
 use Rattle.wt_laws.specs.Causes.{ActionCause, ByAcceptance, ByAnswer, ByRejection, ByResponse, CallCause, EstablishCause, EstablishedBy, FinishCause, FromBefore, OfCall, OfHeader, OfRejection, OfRequest, OfResponse, OfWrite, OwnCauses, RecordCause, ResponseFrom, SendCause, frame_of, is_under_way}
 use Rattle.wt_laws.specs.Laws.{SessionStreamOut, is_session_stream, session_frame}
-use Rattle.wt_laws.specs.Reachable.{AllLawful, Exchange, exchanges}
+use Rattle.wt_laws.specs.Reachable.{AfterTurn, AllLawful, AtStart, Exchange, IsReachable, exchanges}
 use Rattle.wt_spec.specs.Answers.{answer_to, call_effect, is_client, is_first, is_lawful, log_after, log_from, may_respond, turn_effect}
 use Rattle.wt_spec.specs.Connection.{accepts_stream, starts_opening}
 use Rattle.wt_spec.specs.Driver.{ControlSent, apply_if, close_actions, control_actions, control_sent, delivers, established, flush, is_moment, log_and_flush, opened_if, pending_actions, session_id, stop_actions, stream_table}
@@ -44,7 +44,7 @@ use Rattle.wt_turn.specs.declared.call.Call.TheVariants as calls
 use Rattle.wt_wire.specs.declared.error.ErrorCode.TheVariants as h3
 use Rattle.wt_turn.specs.declared.turn.Turn.TheVariants as turns
 
-record Out (side : Side) (frame : Option (List ℕ)) (log : Log) : Type 0 where
+pub record Out (side : Side) (frame : Option (List ℕ)) (log : Log) : Type 0 where
   pub heads : Heads side log
   pub begun : (k : ℕ) → is_session_stream side (calls_of log) k ≡ true → (n : ℕ) × (sent_on (actions_of log) k ≡ take n (unwrap_or frame []))
   pub responding : (accepts : Bool) (head : List ℕ) → handshake_state (calls_of log) ≡ Responding accepts head → frame ≡ Some head
@@ -72,6 +72,14 @@ for-client side cs k c e = ap (λ (b : Bool). if b then k == local_bi side else 
 for-server : (side : Side) (cs : List CallRecord) (k : ℕ) → is_client side ≡ false → list_any (delivers k) cs ≡ true → is_session_stream side cs k ≡ true
 for-server side cs k c e = ap (λ (b : Bool). if b then k == local_bi side else list_any (delivers k) cs) c ∙ e
 
+-- a stream of the session stays so
+pub more-sessions : (side : Side) (cs : List CallRecord) (r : CallRecord) (k : ℕ) → is_session_stream side cs k ≡ true → is_session_stream side (r ∷ cs) k ≡ true
+more-sessions side cs r k i = at (is_client side) refl
+  where
+    at : (b : Bool) → is_client side ≡ b → is_session_stream side (r ∷ cs) k ≡ true
+    at true c = for-client side (r ∷ cs) k c (on-client side cs k true c refl i)
+    at false c = for-server side (r ∷ cs) k c (or_right (delivers k r) _ (on-server side cs k false c refl i))
+
 is-local-bi : (side : Side) → is_local side (local_bi side) ≡ true
 is-local-bi Client = refl
 is-local-bi Server = refl
@@ -80,7 +88,7 @@ is-local-uni : (side : Side) → is_local side (local_uni side) ≡ true
 is-local-uni Client = refl
 is-local-uni Server = refl
 
-not-true-so : (b : Bool) → (b ≡ true → ⊥) → b ≡ false
+pub not-true-so : (b : Bool) → (b ≡ true → ⊥) → b ≡ false
 not-true-so true f = absurd (f refl)
 not-true-so false f = refl
 
@@ -144,7 +152,7 @@ module _ (side : Side) (frame : Option (List ℕ)) where
       at true c = absurd (let e = on-client side (calls_of log) k true c refl i in let x = ap (λ j. list_any (starts_opening j) (calls_of log)) e in let y = h.no_opening c in cc)
       at false c = request-not-local log k h (on-server side (calls_of log) k false c refl i) (h.heads.given.facts_hold.openings k o)
 
-  not-given : (log : Log) (k : ℕ) → Out side frame log → is_session_stream side (calls_of log) k ≡ true → is_accepted log k ≡ true → ⊥
+  pub not-given : (log : Log) (k : ℕ) → Out side frame log → is_session_stream side (calls_of log) k ≡ true → is_accepted log k ≡ true → ⊥
   not-given log k h i a = at (is_client side) refl
     where
       at : (b : Bool) → is_client side ≡ b → ⊥
@@ -357,13 +365,6 @@ module _ (side : Side) (frame : Option (List ℕ)) where
             older true e d = inl (for-server side (calls_of then_) k c e)
             older false e d = inr (c, from-or (delivers k r) false (λ x. x) (λ x. absurd (cc)) d, e)
 
-    more-sessions : (r : CallRecord) (k : ℕ) → is_session_stream side (calls_of then_) k ≡ true → is_session_stream side (r ∷ calls_of then_) k ≡ true
-    more-sessions r k i = at (is_client side) refl
-      where
-        at : (b : Bool) → is_client side ≡ b → is_session_stream side (r ∷ calls_of then_) k ≡ true
-        at true c = for-client side (r ∷ calls_of then_) k c (on-client side (calls_of then_) k true c refl i)
-        at false c = for-server side (r ∷ calls_of then_) k c (or_right (delivers k r) _ (on-server side (calls_of then_) k false c refl i))
-
     -- nothing was sent on a stream whose request is delivered now
     new-untouched : (r : CallRecord) (k : ℕ) → Out side frame then_ → HadRequest side then_ k → list_any (delivers k) (calls_of then_) ≡ false → (sent_on (actions_of then_) k ≡ []) × (is_finished (actions_of then_) k ≡ false)
     new-untouched r k h w d =
@@ -461,8 +462,8 @@ module _ (side : Side) (frame : Option (List ℕ)) where
     record-whole (SessionEstablished id at_) h c s at e =
         let x : id ≡ s = ap session_id e in
         let y = stands id at_ h c in
-        (more-sessions (SessionEstablished id at_) s (subst (λ (j : ℕ). is_session_stream side (calls_of then_) j ≡ true) x y.of_session), y.is_out ∙ ap (λ j. Some (sent_on (actions_of then_) j)) x)
-    record-whole r h c s at e = let w = h.whole s at e in (more-sessions r s w.0, w.1)
+        (more-sessions side (calls_of then_) (SessionEstablished id at_) s (subst (λ (j : ℕ). is_session_stream side (calls_of then_) j ≡ true) x y.of_session), y.is_out ∙ ap (λ j. Some (sent_on (actions_of then_) j)) x)
+    record-whole r h c s at e = let w = h.whole s at e in (more-sessions side (calls_of then_) r s w.0, w.1)
 
     record-no-opening : (r : CallRecord) → Out side frame log → CallCause side turn log own r → is_client side ≡ true → starts_opening (local_bi side) r ≡ true → ⊥
     record-no-opening (OpeningStarted id s) h c b e =
@@ -506,7 +507,7 @@ module _ (side : Side) (frame : Option (List ℕ)) where
 
 -- ---- a turn
 
-record Both (side : Side) (frame : Option (List ℕ)) (log : Log) : Type 0 where
+pub record Both (side : Side) (frame : Option (List ℕ)) (log : Log) : Type 0 where
   pub control : ControlOut side log
   pub out : Out side frame log
 
@@ -524,7 +525,7 @@ out-entry side frame e log c a g h = record {
   finished = rw (c, a) h.finished;
 }
 
-keeps-out : (side : Side) (frame : Option (List ℕ)) (turn : Turn) → ((head : List ℕ) → frame_of turn ≡ Some head → frame ≡ Some head) → Keeps side turn (Both side frame)
+pub keeps-out : (side : Side) (frame : Option (List ℕ)) (turn : Turn) → ((head : List ℕ) → frame_of turn ≡ Some head → frame ≡ Some head) → Keeps side turn (Both side frame)
 keeps-out side frame turn t = record {
   event = λ log e o b p. record { control = (keeps-control side turn).event log e o b p.control; out = out-flush side frame (Reported e) log (out-entry side frame (Reported e) log refl refl (heads-event side turn e log o b p.out.heads) p.out) };
   late = λ log e o b p. record {
@@ -555,7 +556,7 @@ out-first side frame = record {
 -- ---- the call that answers a request
 
 -- the request wasn't delivered, or isn't answered
-abbrev is_unanswered : HandshakeState → Bool
+abbrev pub is_unanswered : HandshakeState → Bool
 is_unanswered AwaitingRequest = true
 is_unanswered (Requested id) = true
 is_unanswered _ = false
@@ -610,7 +611,7 @@ module _ (side : Side) (log : Log) where
       (answered-leaf log (send_of id (covered log id left)) (ResponseStarted false head) refl)))
 
 -- what a turn with a frame is: a client's first, or a server's answer to a request
-data Begins (side : Side) (log : Log) (turn : Turn) : Type 0 where
+pub data Begins (side : Side) (log : Log) (turn : Turn) : Type 0 where
   Connects : is_client side ≡ true → log ≡ [] → Begins side log turn
   Answers : (id : ℕ) → is_client side ≡ false → handshake_state (calls_of log) ≡ Requested id → is_unanswered (handshake_state (calls_of (log_after side log turn))) ≡ false → Begins side log turn
 
@@ -625,7 +626,7 @@ answers side log turn l n = let a = and_parts (not (is_client side)) _ l in at (
     at (Requested id) e w c = Answers id c e n
     at _ e w c = absurd (cc)
 
-begins : (side : Side) (log : Log) (turn : Turn) (head : List ℕ) → frame_of turn ≡ Some head → is_lawful side log turn ≡ true → Begins side log turn
+pub begins : (side : Side) (log : Log) (turn : Turn) (head : List ℕ) → frame_of turn ≡ Some head → is_lawful side log turn ≡ true → Begins side log turn
 unfolding call_effect
 begins side log (turns.Call (calls.Connect options lookup outcome)) head f l = let a = and_parts (is_client side) (is_first log) l in Connects a.0 (empty-log log a.1)
 begins side log (turns.Call (calls.Accept headers)) head f l = answers side log (turns.Call (calls.Accept headers)) l (answered-response side log true (response_head (codes "200") headers))
@@ -637,7 +638,7 @@ begins side log _ head f l = absurd (cc)
 
 -- ---- the law
 
-record SoFar (side : Side) (before : List Exchange) (log : Log) : Type 0 where
+pub record SoFar (side : Side) (before : List Exchange) (log : Log) : Type 0 where
   pub both : Both side (session_frame before) log
   pub unanswered : is_client side ≡ false → is_unanswered (handshake_state (calls_of log)) ≡ true → session_frame before ≡ None
 
@@ -694,6 +695,14 @@ so-far side = record {
   first = record { both = record { control = first-control side; out = out-first side None }; unanswered = λ c u. refl };
   turn = λ before log t l p. so-far-turn side before log t l p;
 }
+
+so-far-after : (side : Side) (log : Log) (turn : Turn) → is_lawful side log turn ≡ true → (before : List Exchange) × SoFar side before log → (before : List Exchange) × SoFar side before (log_after side log turn)
+so-far-after side log turn l s = (record { turn = turn; answer = answer_to side log turn } ∷ s.0, so-far-turn side s.0 log turn l s.1)
+
+-- what holds so far holds of each log that lawful turns lead to, behind some exchanges
+pub so-far-reached : (side : Side) (log : Log) → IsReachable side log → (before : List Exchange) × SoFar side before log
+so-far-reached side log AtStart = ([], (so-far side).first)
+so-far-reached side log (AfterTurn turn r l) = so-far-after side _ turn l (so-far-reached side _ r)
 
 pub session-stream-out : (side : Side) (all : List Turn) → AllLawful side [] all → SessionStreamOut side (exchanges side all) (log_from side [] all)
 session-stream-out side all a =

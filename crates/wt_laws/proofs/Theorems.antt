@@ -12,7 +12,7 @@ use Rattle.wt_laws.proofs.HeaderLaws.{headers-out}
 use Rattle.wt_laws.proofs.PendingLaws.{none-waits-ended, pending-exactly}
 use Rattle.wt_laws.proofs.Reached.{reachable}
 use Rattle.wt_laws.proofs.ReadLaws.{reads-in-order}
-use Rattle.wt_laws.proofs.SendLaws.{sends-end, sends-in-order}
+use Rattle.wt_laws.proofs.AllSends.{sends-end, sends-in-order}
 use Rattle.wt_laws.proofs.SessionLaws.{one-session, session-told, sessions-rightly}
 use Rattle.wt_laws.proofs.SessionStream.{session-stream-out}
 use Rattle.wt_laws.proofs.SettingsLaws.{settings-out}

@@ -1,5 +1,5 @@
 -- The laws of the session layer, over every log that lawful turns lead to and over turns with their answers.
-use Rattle.std.specs.Prelude.{[], ◌%◌, ◌*◌, ◌++◌, ◌/◌, ◌==◌, ◌||◌, ◌∷◌, ◌≡◌, ◌≢◌, ◌≤◌, Bool, List, None, Option, Some, codes, drop, false, if◌then◌else◌, length, nat_lt, take, true, unwrap_or, ℕ}
+use Rattle.std.specs.Prelude.{[], ◌%◌, ◌&&◌, ◌*◌, ◌++◌, ◌/◌, ◌==◌, ◌||◌, ◌∷◌, ◌≡◌, ◌≢◌, ◌≤◌, Bool, List, None, Option, Some, codes, drop, false, if◌then◌else◌, length, nat_lt, take, true, unwrap_or, ℕ}
 use Rattle.std.specs.List.{list_any}
 use Rattle.wt_proto.specs.Bi.{bi_verdict_of}
 use Rattle.wt_message.specs.Datagram.{datagram_bytes}
@@ -242,6 +242,24 @@ pub record SettingsOut (side : Side) (log : Log) : Type 0 where
   pub out : is_open log ≡ true → nat_lt 0 (unis_allowed (events_of log)) ≡ true → sent_on (actions_of log) (local_uni side) ≡ take (credit (events_of log) (local_uni side)) local_control_bytes
   pub prefix : (n : ℕ) × (sent_on (actions_of log) (local_uni side) ≡ take n local_control_bytes)
 
+-- ---- the session's own stream
+
+-- the frame of the call that connected, or that answered the request
+abbrev pub session_frame : List Exchange → Option (List ℕ)
+session_frame before = newest (λ (x : Exchange). frame_of x.turn) before
+
+-- it is the session's: a client's first bidirectional stream, or one whose request was delivered
+abbrev pub is_session_stream : Side → List CallRecord → ℕ → Bool
+is_session_stream side calls k = if is_client side then k == local_bi side else list_any (delivers k) calls
+
+-- What is out on it is at every time a prefix of that frame. It is all of the frame once the session is established, or once
+-- the response of a rejection is finished. The stream is never given, so nothing else goes out on it.
+pub record SessionStreamOut (side : Side) (before : List Exchange) (log : Log) : Type 0 where
+  pub prefix : (k : ℕ) → is_session_stream side (calls_of log) k ≡ true → (n : ℕ) × (sent_on (actions_of log) k ≡ take n (unwrap_or (session_frame before) []))
+  pub whole : (s at : ℕ) → established (calls_of log) ≡ Some (s, at) → (is_session_stream side (calls_of log) s ≡ true) × (session_frame before ≡ Some (sent_on (actions_of log) s))
+  pub rejected : (k : ℕ) → is_session_stream side (calls_of log) k ≡ true → is_finished (actions_of log) k ≡ true → session_frame before ≡ Some (sent_on (actions_of log) k)
+  pub never_given : (k : ℕ) → is_session_stream side (calls_of log) k ≡ true → is_accepted log k ≡ false
+
 -- ---- sending
 
 -- what a write accepted of its bytes
@@ -256,16 +274,25 @@ abbrev pub accepted_by : Option (List ℕ) → Reply → List ℕ
 accepted_by None reply = []
 accepted_by (Some bytes) reply = accepted_of bytes reply
 
--- From where a stream was given on, exactly what writes accept goes out on it (its header went out before).
+-- the stream is the one of this session
+abbrev pub is_stream_of : Option (ℕ × ℕ) → ℕ → Bool
+is_stream_of None k = false
+is_stream_of (Some s) k = s.0 == k
+
+-- the head of the stream is out: it was given, or it is the established session's, or the response of a rejection is finished on it
+abbrev pub is_head_out : Side → Log → ℕ → Bool
+is_head_out side log k = is_accepted log k || (is_stream_of (established (calls_of log)) k || (is_session_stream side (calls_of log) k && is_finished (actions_of log) k))
+
+-- From where its head is out, exactly what writes accept goes out on a stream.
 abbrev pub SendsInOrder : Side → Log → Turn → Type 0
 SendsInOrder side log turn =
-    (k : ℕ) → k ≢ local_uni side → is_accepted log k ≡ true
+    (k : ℕ) → k ≢ local_uni side → is_head_out side log k ≡ true
     → sent_on (actions_of (log_after side log turn)) k ≡ sent_on (actions_of log) k ++ accepted_by (bytes_for k turn) (answer_to side log turn).reply
 
 -- after a finish or a reset nothing more goes out on it
 abbrev pub SendsEnd : Side → Log → Turn → Type 0
 SendsEnd side log turn =
-    (k : ℕ) → k ≢ local_uni side → is_accepted log k ≡ true → (is_finished (actions_of log) k || is_reset log k) ≡ true
+    (k : ℕ) → k ≢ local_uni side → is_head_out side log k ≡ true → (is_finished (actions_of log) k || is_reset log k) ≡ true
     → sent_on (actions_of (log_after side log turn)) k ≡ sent_on (actions_of log) k
 
 -- ---- what is answered Done went out
@@ -288,21 +315,3 @@ pub record TakenGoesOut (side : Side) (log : Log) : Type 0 where
 pub record HeadersOut (side : Side) (log : Log) : Type 0 where
   pub begun : (k s at : ℕ) → is_opening log k ≡ true → established (calls_of log) ≡ Some (s, at) → (n : ℕ) × (sent_on (actions_of log) k ≡ take n (stream_header k s))
   pub whole : (k s at : ℕ) → (k % 4 == local_uni side || k % 4 == local_bi side) ≡ true → is_accepted log k ≡ true → established (calls_of log) ≡ Some (s, at) → (rest : List ℕ) × (sent_on (actions_of log) k ≡ stream_header k s ++ rest)
-
--- ---- the session's own stream
-
--- the frame of the call that connected, or that answered the request
-abbrev pub session_frame : List Exchange → Option (List ℕ)
-session_frame before = newest (λ (x : Exchange). frame_of x.turn) before
-
--- it is the session's: a client's first bidirectional stream, or one whose request was delivered
-abbrev pub is_session_stream : Side → List CallRecord → ℕ → Bool
-is_session_stream side calls k = if is_client side then k == local_bi side else list_any (delivers k) calls
-
--- What is out on it is at every time a prefix of that frame. It is all of the frame once the session is established, or once
--- the response of a rejection is finished. The stream is never given, so nothing else goes out on it.
-pub record SessionStreamOut (side : Side) (before : List Exchange) (log : Log) : Type 0 where
-  pub prefix : (k : ℕ) → is_session_stream side (calls_of log) k ≡ true → (n : ℕ) × (sent_on (actions_of log) k ≡ take n (unwrap_or (session_frame before) []))
-  pub whole : (s at : ℕ) → established (calls_of log) ≡ Some (s, at) → (is_session_stream side (calls_of log) s ≡ true) × (session_frame before ≡ Some (sent_on (actions_of log) s))
-  pub rejected : (k : ℕ) → is_session_stream side (calls_of log) k ≡ true → is_finished (actions_of log) k ≡ true → session_frame before ≡ Some (sent_on (actions_of log) k)
-  pub never_given : (k : ℕ) → is_session_stream side (calls_of log) k ≡ true → is_accepted log k ≡ false
