@@ -23,5 +23,6 @@ pub mod HeaderLaws
 pub mod PendingLaws
 pub mod SessionStream
 pub mod AllSends
+pub mod RunLaws
 pub mod Theorems
 pub mod Recorded

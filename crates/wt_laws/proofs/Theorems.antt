@@ -1,5 +1,5 @@
 -- The laws, by the names that contracts cite.
-use Rattle.std.specs.Prelude.{[], ◌≡◌, List, false, true, ℕ}
+use Rattle.std.specs.Prelude.{[], ◌++◌, ◌≡◌, List, false, true, ℕ}
 use Rattle.wt_turn.specs.Log.{Log, is_open}
 use Rattle.wt_turn.specs.declared.turn.Turn.{Turn}
 use Rattle.wt_wire.specs.declared.side.Side.{Side}
@@ -14,6 +14,7 @@ use Rattle.wt_laws.proofs.Reached.{reachable}
 use Rattle.wt_laws.proofs.ReadLaws.{reads-in-order}
 use Rattle.wt_laws.proofs.AllSends.{sends-end, sends-in-order}
 use Rattle.wt_laws.proofs.SessionLaws.{one-session, session-told, sessions-rightly}
+use Rattle.wt_laws.proofs.RunLaws.{done-late, runs-lawful, runs-longest, stays-behind}
 use Rattle.wt_laws.proofs.SessionStream.{session-stream-out}
 use Rattle.wt_laws.proofs.SettingsLaws.{settings-out}
 use Rattle.wt_laws.proofs.StreamLaws.{streams-accepted-rightly}
@@ -21,6 +22,8 @@ use Rattle.wt_laws.proofs.TakenLaws.{taken-goes-out}
 use Rattle.wt_laws.specs.Laws.{ActionsHaveCauses, CutsWell, DatagramsInOrder, FaultCloses, HeadersOut, NothingAfterEnd, OneSession, OpenExactly, ReadsInOrder, ReplyHasCause, ResultStays, SendsEnd, SendsInOrder, SessionStreamOut, SessionTold, SessionsRightly, SettingsOut, StreamsAcceptedRightly, TakenGoesOut}
 use Rattle.wt_laws.specs.Left.{PendingExactly, is_pending}
 use Rattle.wt_laws.specs.Reachable.{AllLawful, IsReachable, exchanges}
+use Rattle.wt_laws.specs.ReplyCauses.{is_call}
+use Rattle.wt_laws.specs.Runs.{DoneLate, RunsLawful, RunsLongest, StaysSo}
 use Rattle.wt_spec.specs.Answers.{answer_to, is_lawful, log_from}
 
 pub sessions_theorem : (side : Side) (log : Log) → IsReachable side log → SessionsRightly side log
@@ -88,3 +91,15 @@ ended_theorem = none-waits-ended
 
 pub session_stream_theorem : (side : Side) (all : List Turn) → AllLawful side [] all → SessionStreamOut side (exchanges side all) (log_from side [] all)
 session_stream_theorem = session-stream-out
+
+pub runs_theorem : (side : Side) (all : List Turn) → RunsLongest side all
+runs_theorem = runs-longest
+
+pub lawful_runs_theorem : (side : Side) (all : List Turn) → RunsLawful side all
+lawful_runs_theorem = runs-lawful
+
+pub stays_theorem : (side : Side) (more earlier : Log) → StaysSo side earlier (more ++ earlier)
+stays_theorem = stays-behind
+
+pub late_theorem : (side : Side) (log : Log) (turn : Turn) → is_call turn ≡ false → is_open log ≡ false → DoneLate side log turn
+late_theorem = done-late

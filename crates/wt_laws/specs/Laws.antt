@@ -1,5 +1,5 @@
 -- The laws of the session layer, over every log that lawful turns lead to and over turns with their answers.
-use Rattle.std.specs.Prelude.{[], ◌%◌, ◌&&◌, ◌*◌, ◌++◌, ◌/◌, ◌==◌, ◌||◌, ◌∷◌, ◌≡◌, ◌≢◌, ◌≤◌, Bool, List, None, Option, Some, codes, drop, false, if◌then◌else◌, length, nat_lt, take, true, unwrap_or, ℕ}
+use Rattle.std.specs.Prelude.{[], ◌%◌, ◌&&◌, ◌*◌, ◌++◌, ◌/◌, ◌==◌, ◌||◌, ◌∷◌, ◌≡◌, ◌≢◌, ◌≤◌, Bool, List, None, Option, Some, codes, drop, false, if◌then◌else◌, length, nat_lt, not, take, true, unwrap_or, ℕ}
 use Rattle.std.specs.List.{list_any}
 use Rattle.wt_proto.specs.Bi.{bi_verdict_of}
 use Rattle.wt_message.specs.Datagram.{datagram_bytes}
@@ -23,7 +23,7 @@ use Rattle.wt_laws.specs.Reachable.{Exchange, is_among}
 use Rattle.wt_laws.specs.ReplyCauses.{ReplyCause}
 use Rattle.wt_laws.specs.Told.{datagram_told, read_piece}
 use Rattle.wt_spec.specs.Answers.{answer_to, is_client, log_after, run_from}
-use Rattle.wt_spec.specs.Connection.{is_opening, next_due, stream_header, well_formed}
+use Rattle.wt_spec.specs.Connection.{is_for_session, is_opening, stream_header, well_formed}
 use Rattle.wt_spec.specs.Driver.{call_view, delivers, established, is_moment, pending_actions, releases, session_id, settings_came, stream_table}
 use Rattle.wt_spec.specs.Effect.{driver_error, head_left, is_covered, transport_error}
 use Rattle.wt_spec.specs.Halves.{body_offset, is_accepted}
@@ -48,6 +48,20 @@ pub record IsDuring (side : Side) (log : Log) (turn : Turn) (middle : Log) : Typ
 
 -- ---- accepted streams
 
+-- the classified stream is of this kind and session, and no accept gave or passed it
+abbrev pub is_left_for : Log → ℕ → ℕ → Classified → Bool
+is_left_for log kind session c = (c.id % 4 == kind) && (is_for_session session c.verdict && not (list_any (releases c.id) (calls_of log)))
+
+-- stream k is the first in the order of classification that is left for an accept of this kind and session
+pub record IsFirstLeft (side : Side) (log : Log) (kind session k : ℕ) : Type 0 where
+  pub earlier : List Classified
+  pub found : Classified
+  pub later : List Classified
+  pub order : (stream_table side log).classified ≡ earlier ++ found ∷ later
+  pub same : found.id ≡ k
+  pub is_left : is_left_for log kind session found ≡ true
+  pub none_before : list_any (is_left_for log kind session) earlier ≡ false
+
 -- Stream k is the peer's and of this kind, no call gave or passed it before, its header over all bytes names the
 -- established session, and it is the first such stream in the order in which streams were classified.
 pub record AcceptedRightly (side : Side) (log : Log) (kind k : ℕ) : Type 0 where
@@ -60,7 +74,7 @@ pub record AcceptedRightly (side : Side) (log : Log) (kind k : ℕ) : Type 0 whe
   pub bi_header : kind ≡ peer_bi side → bi_verdict_of (contents log k) (end_of (events_of log) k) ≡ verdicts.WebTransport session at
   pub classified : verdict_of k (stream_table side log).classified ≡ Some (verdicts.WebTransport session at)
   pub fresh : list_any (releases k) (calls_of log) ≡ false
-  pub is_first : (found : Classified) × (found.id ≡ k) × (next_due side log kind session ≡ Some found)
+  pub is_first : IsFirstLeft side log kind session k
 
 -- each reply that gives a stream gives it rightly
 pub record StreamsAcceptedRightly (side : Side) (log : Log) (turn : Turn) : Type 0 where

@@ -3,4 +3,5 @@ pub mod ReplyCauses
 pub mod Reachable
 pub mod Told
 pub mod Left
+pub mod Runs
 pub mod Laws

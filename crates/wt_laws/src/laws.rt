@@ -1,8 +1,10 @@
 //! The laws, each a function with an empty body whose contract is the law.
-ghost use Rattle.std.specs.Prelude.{◌≡◌, ℕ, List, [], true, false};
+ghost use Rattle.std.specs.Prelude.{◌≡◌, ◌++◌, ℕ, List, [], true, false};
 ghost use Rattle.wt_laws.specs.Laws.{ActionsHaveCauses, CutsWell, DatagramsInOrder, FaultCloses, HeadersOut, NothingAfterEnd, OneSession, OpenExactly, ReadsInOrder, ReplyHasCause, ResultStays, SendsEnd, SendsInOrder, SessionStreamOut, SessionTold, SessionsRightly, SettingsOut, StreamsAcceptedRightly, TakenGoesOut};
 ghost use Rattle.wt_laws.specs.Left.{PendingExactly, is_pending};
 ghost use Rattle.wt_laws.specs.Reachable.{AllLawful, IsReachable, exchanges};
+ghost use Rattle.wt_laws.specs.ReplyCauses.{is_call};
+ghost use Rattle.wt_laws.specs.Runs.{DoneLate, RunsLawful, RunsLongest, StaysSo};
 ghost use Rattle.wt_spec.specs.Answers.{answer_to, is_lawful, log_from};
 ghost use Rattle.wt_turn.specs.Log.{Log, is_open};
 ghost use Rattle.wt_turn.specs.declared.turn.Turn.{Turn};
@@ -103,4 +105,23 @@ pub fn calls_wait_exactly_with_nothing_left()
 #[tactic(auto, using(crate::proofs::Theorems::session_stream_theorem))]
 pub fn session_stream_goes_out()
     ensures stream { (side : Side) (all : List Turn) → AllLawful side [] all → SessionStreamOut side (exchanges side all) (log_from side [] all) }
+{}
+
+/// A run answers the longest lawful prefix of its turns, and all turns where all are lawful.
+#[tactic(auto, using(crate::proofs::Theorems::runs_theorem, crate::proofs::Theorems::lawful_runs_theorem))]
+pub fn runs_answer_the_longest_lawful_prefix()
+    ensures longest { (side : Side) (all : List Turn) → RunsLongest side all }
+    ensures lawful { (side : Side) (all : List Turn) → RunsLawful side all }
+{}
+
+/// What is dequeued, classified, released, delivered or settled by SETTINGS stays so, and in its order.
+#[tactic(auto, using(crate::proofs::Theorems::stays_theorem))]
+pub fn what_is_settled_stays()
+    ensures stays { (side : Side) (more earlier : Log) → StaysSo side earlier (more ++ earlier) }
+{}
+
+/// After the end a turn of the transport is answered Done, and nothing goes out.
+#[tactic(auto, using(crate::proofs::Theorems::late_theorem))]
+pub fn late_turns_do_nothing()
+    ensures late { (side : Side) (log : Log) (turn : Turn) → is_call turn ≡ false → is_open log ≡ false → DoneLate side log turn }
 {}
