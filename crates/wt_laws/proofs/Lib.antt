@@ -24,5 +24,6 @@ pub mod PendingLaws
 pub mod SessionStream
 pub mod AllSends
 pub mod RunLaws
+pub mod ExactLaws
 pub mod Theorems
 pub mod Recorded

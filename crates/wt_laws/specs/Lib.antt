@@ -4,4 +4,5 @@ pub mod Reachable
 pub mod Told
 pub mod Left
 pub mod Runs
+pub mod Exactly
 pub mod Laws
