@@ -1,13 +1,21 @@
 //! The laws, each a function with an empty body whose contract is the law.
-ghost use Rattle.std.specs.Prelude.{◌≡◌, ◌++◌, ℕ, List, [], true, false};
+ghost use Rattle.std.specs.Prelude.{◌≡◌, ◌++◌, ℕ, List, [], Option, Some, true, false};
+ghost use Rattle.wt_laws.specs.Exactly.{AsksFirst, ConnectGoesOn, ConnectsAnswer, MaySend, ReceivingCallsAnswer, RequestGoesOn, RequestsAnswer, ResponsesAnswer, SendingCallsAnswer, SessionCallsAnswer};
 ghost use Rattle.wt_laws.specs.Laws.{ActionsHaveCauses, CutsWell, DatagramsInOrder, FaultCloses, HeadersOut, NothingAfterEnd, OneSession, OpenExactly, ReadsInOrder, ReplyHasCause, ResultStays, SendsEnd, SendsInOrder, SessionStreamOut, SessionTold, SessionsRightly, SettingsOut, StreamsAcceptedRightly, TakenGoesOut};
 ghost use Rattle.wt_laws.specs.Left.{PendingExactly, is_pending};
 ghost use Rattle.wt_laws.specs.Reachable.{AllLawful, IsReachable, exchanges};
 ghost use Rattle.wt_laws.specs.ReplyCauses.{is_call};
 ghost use Rattle.wt_laws.specs.Runs.{DoneLate, RunsLawful, RunsLongest, StaysSo};
 ghost use Rattle.wt_spec.specs.Answers.{answer_to, is_lawful, log_from};
-ghost use Rattle.wt_turn.specs.Log.{Log, is_open};
+ghost use Rattle.wt_spec.specs.Driver.{established};
+ghost use Rattle.wt_spec.specs.Halves.{has_receiving_half, has_sending_half};
+ghost use Rattle.wt_spec.specs.Handshake.{Connecting, handshake_state};
+ghost use Rattle.wt_turn.specs.Log.{Log, calls_of, is_open};
+ghost use Rattle.wt_turn.specs.declared.call.Call.{Call};
 ghost use Rattle.wt_turn.specs.declared.turn.Turn.{Turn};
+ghost use Rattle.wt_wire.specs.HeaderList.{Fields};
+ghost use Rattle.wt_wire.specs.declared.lookup.ConnectOutcome.{ConnectOutcome};
+ghost use Rattle.wt_wire.specs.declared.lookup.Lookup.{Lookup};
 ghost use Rattle.wt_wire.specs.declared.side.Side.{Side};
 
 /// Lawful turns lead to reachable logs.
@@ -124,4 +132,23 @@ pub fn what_is_settled_stays()
 #[tactic(auto, using(crate::proofs::Theorems::late_theorem))]
 pub fn late_turns_do_nothing()
     ensures late { (side : Side) (log : Log) (turn : Turn) → is_call turn ≡ false → is_open log ≡ false → DoneLate side log turn }
+{}
+
+/// Where the causes of a reply hold, a call on a session or on a half of a stream has that reply.
+#[tactic(auto, using(crate::proofs::Theorems::asks_first_theorem, crate::proofs::Theorems::session_calls_theorem, crate::proofs::Theorems::sending_calls_theorem, crate::proofs::Theorems::receiving_calls_theorem))]
+pub fn calls_answer_exactly()
+    ensures first { (side : Side) (log : Log) (call : Call) → AsksFirst side log call }
+    ensures session { (side : Side) (log : Log) (s at : ℕ) → established (calls_of log) ≡ Some (s, at) → SessionCallsAnswer side log s }
+    ensures sending { (side : Side) (log : Log) (k : ℕ) → has_sending_half side log k ≡ true → SendingCallsAnswer side log k }
+    ensures receiving { (side : Side) (log : Log) (k : ℕ) → has_receiving_half side log k ≡ true → ReceivingCallsAnswer side log k }
+{}
+
+/// Where the causes of a reply hold, a call of a handshake has that reply.
+#[tactic(auto, using(crate::proofs::Theorems::requests_theorem, crate::proofs::Theorems::responses_theorem, crate::proofs::Theorems::connects_theorem, crate::proofs::Theorems::connect_theorem, crate::proofs::Theorems::request_theorem))]
+pub fn handshakes_answer_exactly()
+    ensures request { (side : Side) (log : Log) → RequestsAnswer side log }
+    ensures response { (side : Side) (log : Log) (call : Call) → ResponsesAnswer side log call }
+    ensures connect { (side : Side) (log : Log) (text : List ℕ) (headers : Fields) (lookup : Lookup) (outcome : ConnectOutcome) → ConnectsAnswer side log text headers lookup outcome }
+    ensures dialled { (side : Side) (log : Log) (reserved : Option (List ℕ)) (head : List ℕ) → handshake_state (calls_of log) ≡ Connecting reserved head → ConnectGoesOn side log reserved head }
+    ensures sent { (side : Side) (log : Log) (head : List ℕ) → MaySend side log head → RequestGoesOn side log head }
 {}
