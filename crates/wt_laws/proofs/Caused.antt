@@ -402,10 +402,10 @@ module _ (side : Side) (turn : Turn) where
       (λ z. leaf log (own ++ send_of (local_bi side) (covered log (local_bi side) left)) Polled replies.Pending (sends-request log own left (covered log (local_bi side) left) w x (not-false _ o) refl) tt refl (not-false _ o, HeadUnsent (local_bi side) w.head (OfTheRequest w.reserved w.call w.state refl) (rw x.left_at z) (none-there _ b))))))
 
   -- the request's stream is opened
-  opens-first : (log : Log) (w : Onward log) (b : Bool) → may_open side log (local_bi side) ≡ b → is_open log ≡ true → b ≡ true → Opens log (opening side log (local_bi side)) (head_left log (local_bi side) w.head) w.head
-  opens-first log w true m o e =
+  opens-first : (log : Log) (w : Onward log) (b : Bool) → local_count (actions_of log) (local_bi side) ≡ 0 → may_open side log (local_bi side) ≡ b → is_open log ≡ true → b ≡ true → Opens log (opening side log (local_bi side)) (head_left log (local_bi side) w.head) w.head
+  opens-first log w true n m o e =
       rw m (record {
-        causes = ((o, local_bi side, m, refl, or_right (local_bi side == local_uni side) _ (eq-eqb (local_bi side) (local_bi side) refl)), tt);
+        causes = ((o, local_bi side, m, refl, or_right (local_bi side == local_uni side) _ (eq-eqb (local_bi side) (local_bi side) refl), OfRequest w.reserved w.head w.state w.settings refl n), tt);
         stays = refl;
         counted = λ z. one-opened z;
         credit = refl;
@@ -421,7 +421,7 @@ module _ (side : Side) (turn : Turn) where
       one-opened z =
           let q = eq-eqb (next_id side log (local_bi side) % 4) (local_bi side) (own-kind side (stream_count side log (local_bi side))) in
           let y = ap (λ b. one_more_if b (local_count (actions_of log) (local_bi side))) q in absurd (omega arith)
-  opens-first log w false m o e = absurd (cc)
+  opens-first log w false n m o e = absurd (cc)
 
   caused-open-request : (log : Log) (w : Onward log) → Caused side turn log (open_request side log w.head)
   caused-open-request log w =
@@ -429,7 +429,7 @@ module _ (side : Side) (turn : Turn) where
       (λ c. caused-send-request log [] (head_left log (local_bi side) w.head) w (record { causes = tt; stays = refl; counted = eqb-false (local_count (actions_of log) (local_bi side)) 0 (not-true _ c); credit = refl; left_at = refl; left_is = refl })) (λ c.
       either (not (is_open log)) _ _ (λ o. failed-so log [] _ (going log w) tt refl (BeforeStream w.reserved w.head w.state (eqb-true (local_count (actions_of log) (local_bi side)) 0 (not-false _ c)) (not-true _ o) refl)) (λ o.
       either (may_open side log (local_bi side)) _ _
-      (λ m. caused-send-request log (opening side log (local_bi side)) (head_left log (local_bi side) w.head) w (opens-first log w true m (not-false _ o) refl))
+      (λ m. caused-send-request log (opening side log (local_bi side)) (head_left log (local_bi side) w.head) w (opens-first log w true (eqb-true (local_count (actions_of log) (local_bi side)) 0 (not-false _ c)) m (not-false _ o) refl))
       (λ m. polled log replies.Pending refl (not-false _ o, NoSessionStream w.reserved w.head w.call w.state (eqb-true (local_count (actions_of log) (local_bi side)) 0 (not-false _ c)) m))))
 
   caused-reserved : (log : Log) (w : Onward log) (o : Option (List ℕ)) → w.reserved ≡ o → Caused side turn log (unless_reserved side log o w.head)

@@ -16,7 +16,7 @@ use Rattle.wt_laws.proofs.ExactLaws.{asks-first, connect-goes-on, connects-answe
 use Rattle.wt_laws.proofs.HeaderLaws.{headers-out}
 use Rattle.wt_laws.proofs.PendingLaws.{none-waits-ended, pending-exactly}
 use Rattle.wt_laws.proofs.Reached.{reachable}
-use Rattle.wt_laws.proofs.ReadLaws.{reads-in-order}
+use Rattle.wt_laws.proofs.ReadLaws.{reads-from-start, reads-in-order}
 use Rattle.wt_laws.proofs.AllSends.{sends-end, sends-in-order}
 use Rattle.wt_laws.proofs.SessionLaws.{one-session, session-told, sessions-rightly}
 use Rattle.wt_laws.proofs.RunLaws.{done-late, runs-lawful, runs-longest, stays-behind}
@@ -25,7 +25,7 @@ use Rattle.wt_laws.proofs.SettingsLaws.{settings-out}
 use Rattle.wt_laws.proofs.StreamLaws.{streams-accepted-rightly}
 use Rattle.wt_laws.proofs.TakenLaws.{taken-goes-out}
 use Rattle.wt_laws.specs.Exactly.{AsksFirst, ConnectGoesOn, ConnectsAnswer, MaySend, ReceivingCallsAnswer, RequestGoesOn, RequestsAnswer, ResponsesAnswer, SendingCallsAnswer, SessionCallsAnswer}
-use Rattle.wt_laws.specs.Laws.{ActionsHaveCauses, CutsWell, DatagramsInOrder, FaultCloses, HeadersOut, NothingAfterEnd, OneSession, OpenExactly, ReadsInOrder, ReplyHasCause, ResultStays, SendsEnd, SendsInOrder, SessionStreamOut, SessionTold, SessionsRightly, SettingsOut, StreamsAcceptedRightly, TakenGoesOut}
+use Rattle.wt_laws.specs.Laws.{ActionsHaveCauses, CutsWell, DatagramsInOrder, FaultCloses, HeadersOut, NothingAfterEnd, OneSession, OpenExactly, ReadsFromStart, ReadsInOrder, ReplyHasCause, ResultStays, SendsEnd, SendsInOrder, SessionStreamOut, SessionTold, SessionsRightly, SettingsOut, StreamsAcceptedRightly, TakenGoesOut}
 use Rattle.wt_laws.specs.Left.{PendingExactly, is_pending}
 use Rattle.wt_laws.specs.Reachable.{AllLawful, IsReachable, exchanges}
 use Rattle.wt_laws.specs.ReplyCauses.{is_call}
@@ -139,3 +139,6 @@ connect_theorem = connect-goes-on
 
 pub request_theorem : (side : Side) (log : Log) (head : List ℕ) → MaySend side log head → RequestGoesOn side log head
 request_theorem = request-goes-on
+
+pub own_reads_theorem : (side : Side) (log : Log) → ReadsFromStart side log
+own_reads_theorem = reads-from-start

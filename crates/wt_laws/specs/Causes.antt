@@ -218,6 +218,17 @@ CallCause side turn log own r = RecordCause side turn (with_actions own log) r
 
 -- ---- the causes of actions; the log holds those of the call's own that went out before
 
+-- the kind of the streams that a call opens
+abbrev pub opened_kind : Side → Turn → Option ℕ
+opened_kind side (turns.Call calls.OpenUni) = Some (local_uni side)
+opened_kind side (turns.Call calls.OpenBi) = Some (local_bi side)
+opened_kind side _ = None
+
+-- why a stream of this kind is opened: the call opens one, or a connect under way opens that of its request, which has none yet
+pub data OpenCause (side : Side) (turn : Turn) (log : Log) (kind : ℕ) : Type 0 where
+  OfCall : opened_kind side turn ≡ Some kind → OpenCause side turn log kind
+  OfRequest : (reserved : Option (List ℕ)) (head : List ℕ) → handshake_state (calls_of log) ≡ Connecting reserved head → settings_came side log ≡ true → kind ≡ local_bi side → local_count (actions_of log) (local_bi side) ≡ 0 → OpenCause side turn log kind
+
 -- what a call sends on a stream
 pub data SendCause (side : Side) (turn : Turn) (log : Log) (k : ℕ) (piece : List ℕ) : Type 0 where
   OfWrite : (bytes : List ℕ) → bytes_for k turn ≡ Some bytes → has_sending_half side log k ≡ true → write_error log k ≡ None → piece ≡ covered log k bytes → SendCause side turn log k piece
@@ -278,7 +289,7 @@ pub record DialCause (turn : Turn) (address : Addr) (name : List ℕ) : Type 0 w
 -- why this action goes out
 abbrev pub ActionCause : Side → Turn → Log → Action → Type 0
 ActionCause side turn log (actions.Dial address name) = (log ≡ []) × (is_client side ≡ true) × DialCause turn address name
-ActionCause side turn log (actions.Opened id) = (is_open log ≡ true) × (kind : ℕ) × (may_open side log kind ≡ true) × (id ≡ next_id side log kind) × (kind == local_uni side || kind == local_bi side) ≡ true
+ActionCause side turn log (actions.Opened id) = (is_open log ≡ true) × (kind : ℕ) × (may_open side log kind ≡ true) × (id ≡ next_id side log kind) × ((kind == local_uni side || kind == local_bi side) ≡ true) × OpenCause side turn log kind
 ActionCause side turn log (actions.Send id piece) = (is_open log ≡ true) × SendCause side turn log id piece
 ActionCause side turn log (actions.Finish id) = (is_open log ≡ true) × FinishCause side turn log id
 ActionCause side turn log (actions.ResetOut id code) = (is_open log ≡ true) × (turn ≡ turns.Call (calls.ResetSend id code)) × (has_sending_half side log id ≡ true) × (is_done log id ≡ false)

@@ -140,6 +140,14 @@ abbrev pub ReadsInOrder : Side → List Exchange → Log → Type 0
 ReadsInOrder side before log =
     (k : ℕ) → (rest : List ℕ) × (read_from k before ++ rest ≡ drop (body_offset (verdict_of k (stream_table side log).classified)) (contents log k))
 
+-- this end opens streams of this id
+abbrev pub is_of_this_end : Side → ℕ → Bool
+is_of_this_end side k = k % 4 == local_uni side || k % 4 == local_bi side
+
+-- before what came on a stream that this end opened no header stands
+abbrev pub ReadsFromStart : Side → Log → Type 0
+ReadsFromStart side log = (k : ℕ) → is_of_this_end side k ≡ true → body_offset (verdict_of k (stream_table side log).classified) ≡ 0
+
 -- ---- datagrams
 
 -- the payload of a datagram of the session
@@ -328,4 +336,4 @@ pub record TakenGoesOut (side : Side) (log : Log) : Type 0 where
 -- Until such a stream is given, a prefix of its header went out on it; from then on, its header and what follows.
 pub record HeadersOut (side : Side) (log : Log) : Type 0 where
   pub begun : (k s at : ℕ) → is_opening log k ≡ true → established (calls_of log) ≡ Some (s, at) → (n : ℕ) × (sent_on (actions_of log) k ≡ take n (stream_header k s))
-  pub whole : (k s at : ℕ) → (k % 4 == local_uni side || k % 4 == local_bi side) ≡ true → is_accepted log k ≡ true → established (calls_of log) ≡ Some (s, at) → (rest : List ℕ) × (sent_on (actions_of log) k ≡ stream_header k s ++ rest)
+  pub whole : (k s at : ℕ) → is_of_this_end side k ≡ true → is_accepted log k ≡ true → established (calls_of log) ≡ Some (s, at) → (rest : List ℕ) × (sent_on (actions_of log) k ≡ stream_header k s ++ rest)
