@@ -230,7 +230,7 @@ still true true c e = absurd (cc)
 still true false c e = e
 still false b c e = absurd (cc)
 
-no-new-session : (side : Side) (log : Log) (c : List Action) (before : Log) → log ≡ with_actions c before → is_under_way (handshake_state (calls_of before)) ≡ true → Handshakes side log → is_some (established (calls_of log)) ≡ true → ⊥
+pub no-new-session : (side : Side) (log : Log) (c : List Action) (before : Log) → log ≡ with_actions c before → is_under_way (handshake_state (calls_of before)) ≡ true → Handshakes side log → is_some (established (calls_of log)) ≡ true → ⊥
 no-new-session side log own before i u f s =
     absurd (let n = (handshakes-before side own before (subst (Handshakes side) i f)).none_yet u in let e = ap established (ap calls_of i ∙ calls-with own before) in cc)
 

@@ -23,6 +23,7 @@ pub mod HeaderLaws
 pub mod PendingLaws
 pub mod SessionStream
 pub mod AllSends
+pub mod WrittenLaws
 pub mod RunLaws
 pub mod ExactLaws
 pub mod Theorems

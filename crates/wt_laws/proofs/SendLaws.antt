@@ -109,7 +109,7 @@ given-holds : (side : Side) (log : Log) → IsReachable side log → Given side 
 given-holds side log r = reached (Given side) (record { facts_hold = facts-first side; handshakes = handshakes-first side; in_session = λ k e. absurd (cc) }) (λ turn. by-entries (given-entries side turn)) log r
 
 -- of a given stream: only a write sends on it
-record Alone (side : Side) (k : ℕ) (calls_ : List CallRecord) : Type 0 where
+pub record Alone (side : Side) (k : ℕ) (calls_ : List CallRecord) : Type 0 where
   pub no_opening : (list_any (starts_opening k) calls_ && not (list_any (ends_opening k) calls_)) ≡ false
   pub no_request : has_request (handshake_state calls_) ≡ true → requested calls_ ≢ k
   pub no_connect : (reserved : Option (List ℕ)) (head : List ℕ) → handshake_state calls_ ≢ Connecting reserved head
@@ -118,7 +118,7 @@ ended-opening : (a b : Bool) → b ≡ true → (a && not b) ≡ false
 ended-opening true b e = rw e refl
 ended-opening false b e = refl
 
-alone : (side : Side) (log : Log) (k : ℕ) → Given side log → is_accepted log k ≡ true → Alone side k (calls_of log)
+pub alone : (side : Side) (log : Log) (k : ℕ) → Given side log → is_accepted log k ≡ true → Alone side k (calls_of log)
 alone side log k g a = record {
   no_opening = ended-opening (list_any (starts_opening k) (calls_of log)) (list_any (ends_opening k) (calls_of log)) (accepted-ends k (calls_of log) a);
   no_request = λ r e. request (g.facts_hold.accepted k a) (g.handshakes.delivered (requested (calls_of log)) (g.handshakes.has_one r)) e;
@@ -140,7 +140,7 @@ other-piece side turn k (actions.Send id piece) log n s c = at (id == k) refl c.
     at true e (OfRequest reserved head h i z p) = absurd (s.no_connect reserved head h)
 other-piece side turn k _ log n s c = refl
 
-other-own : (side : Side) (turn : Turn) (k : ℕ) (own : List Action) (log : Log) → bytes_for k turn ≡ None → Alone side k (calls_of log) → OwnCauses side turn log own → sends_of k own ≡ []
+pub other-own : (side : Side) (turn : Turn) (k : ℕ) (own : List Action) (log : Log) → bytes_for k turn ≡ None → Alone side k (calls_of log) → OwnCauses side turn log own → sends_of k own ≡ []
 other-own side turn k [] log n s c = refl
 other-own side turn k (a ∷ own) log n s c = rw (other-piece side turn k a log n s c.0, other-own side turn k own (Sent a ∷ log) n s c.1) refl
 
@@ -154,7 +154,7 @@ record Unsent (side : Side) (k : ℕ) (bytes : List ℕ) (log : Log) : Type 0 wh
 accepted-more : (k : ℕ) (r : CallRecord) (log : Log) → list_any (accepts_stream k) (calls_of log) ≡ true → list_any (accepts_stream k) (r ∷ calls_of log) ≡ true
 accepted-more k r log e = or_right (accepts_stream k r) _ e
 
-flushed-accept : (side : Side) (e : Entry) (log : Log) (k : ℕ) → is_accepted (log_and_flush side log e) k ≡ is_accepted (e ∷ log) k
+pub flushed-accept : (side : Side) (e : Entry) (log : Log) (k : ℕ) → is_accepted (log_and_flush side log e) k ≡ is_accepted (e ∷ log) k
 flushed-accept side e log k = blind-flush (λ g. is_accepted g k) (λ a g. refl) side e log
 
 keeps-unsent : (side : Side) (turn : Turn) (k : ℕ) (bytes : List ℕ) → (local_uni side == k) ≡ false → bytes_for k turn ≡ None → Keeps side turn (Unsent side k bytes)

@@ -312,7 +312,7 @@ module _ (side : Side) (frame : Option (List ℕ)) where
         at k i true e f = h.finished k i e ∙ ap Some (sym (same-sent log k a (action-finished log k a h i e c)))
         at k i false e f = new-finished log k a h i (from-or (finishes k a) false (λ x. x) (λ x. absurd (cc)) f) c
 
-    out-own : (own : List Action) (log : Log) → OwnCauses side turn log own → Out side frame log → Out side frame (with_actions own log)
+    pub out-own : (own : List Action) (log : Log) → OwnCauses side turn log own → Out side frame log → Out side frame (with_actions own log)
     out-own [] log c h = h
     out-own (a ∷ own) log c h = out-own own (Sent a ∷ log) c.1 (out-action log a c.0 h)
 
@@ -661,7 +661,24 @@ reframed side frame log id s h = record {
     none-of zero = refl
     none-of (suc n) = refl
 
-so-far-turn : (side : Side) (before : List Exchange) (log : Log) (t : Turn) → is_lawful side log t ≡ true → SoFar side before log → SoFar side (record { turn = t; answer = answer_to side log t } ∷ before) (log_after side log t)
+-- the frame that holds during a turn, at its start
+pub record TurnStart (side : Side) (log : Log) (t : Turn) : Type 0 where
+  pub frame : Option (List ℕ)
+  pub for_turn : (head : List ℕ) → frame_of t ≡ Some head → frame ≡ Some head
+  pub both : Both side frame log
+
+begun-so : (side : Side) (before : List Exchange) (log : Log) (t : Turn) (f : List ℕ) → SoFar side before log → frame_of t ≡ Some f → Begins side log t → Both side (Some f) log
+begun-so side before log t f p e (Connects c n) = subst (λ g. Both side (Some f) g) (sym n) (record { control = first-control side; out = out-first side (Some f) })
+begun-so side before log t f p e (Answers id c s n) = record { control = p.both.control; out = reframed side (Some f) log id s (subst (λ o. Out side o log) (p.unanswered c (ap is_unanswered s)) p.both.out) }
+
+pub start-of-turn : (side : Side) (before : List Exchange) (log : Log) (t : Turn) → is_lawful side log t ≡ true → SoFar side before log → TurnStart side log t
+start-of-turn side before log t l p = at (frame_of t) refl
+  where
+    at : (o : Option (List ℕ)) → frame_of t ≡ o → TurnStart side log t
+    at None e = record { frame = session_frame before; for_turn = λ head f. absurd (cc); both = p.both }
+    at (Some f) e = record { frame = Some f; for_turn = λ head x. sym e ∙ x; both = begun-so side before log t f p e (begins side log t f e l) }
+
+pub so-far-turn : (side : Side) (before : List Exchange) (log : Log) (t : Turn) → is_lawful side log t ≡ true → SoFar side before log → SoFar side (record { turn = t; answer = answer_to side log t } ∷ before) (log_after side log t)
 so-far-turn side before log t l p = at (frame_of t) refl
   where
     kept-so : (frame : Option (List ℕ)) → ((head : List ℕ) → frame_of t ≡ Some head → frame ≡ Some head) → Both side frame log → Both side frame (log_after side log t)
@@ -670,16 +687,10 @@ so-far-turn side before log t l p = at (frame_of t) refl
     later : Option (List ℕ)
     later = session_frame (record { turn = t; answer = answer_to side log t } ∷ before)
 
-    begun-so : (f : List ℕ) → frame_of t ≡ Some f → later ≡ Some f → Begins side log t → SoFar side (record { turn = t; answer = answer_to side log t } ∷ before) (log_after side log t)
-    begun-so f e q (Connects c n) = record {
-      both = subst (λ o. Both side o (log_after side log t)) (sym q) (kept-so (Some f) (λ head x. sym e ∙ x) (subst (λ g. Both side (Some f) g) (sym n) (record { control = first-control side; out = out-first side (Some f) })));
-      unanswered = λ d u. absurd (cc);
-    }
-    begun-so f e q (Answers id c s n) = record {
-      both = subst (λ o. Both side o (log_after side log t)) (sym q)
-          (kept-so (Some f) (λ head x. sym e ∙ x) (record { control = p.both.control; out = reframed side (Some f) log id s (subst (λ o. Out side o log) (p.unanswered c (ap is_unanswered s)) p.both.out) }));
-      unanswered = λ d u. absurd (cc);
-    }
+    -- after a turn with a frame a server's request is answered
+    not-after : Begins side log t → is_client side ≡ false → is_unanswered (handshake_state (calls_of (log_after side log t))) ≡ true → later ≡ None
+    not-after (Connects c n) d u = absurd (cc)
+    not-after (Answers id c s n) d u = absurd (cc)
 
     at : (o : Option (List ℕ)) → frame_of t ≡ o → SoFar side (record { turn = t; answer = answer_to side log t } ∷ before) (log_after side log t)
     at None e =
@@ -688,9 +699,12 @@ so-far-turn side before log t l p = at (frame_of t) refl
           both = subst (λ o. Both side o (log_after side log t)) (sym q) (kept-so (session_frame before) (λ head x. absurd (cc)) p.both);
           unanswered = λ c u. q ∙ p.unanswered c (unanswered-before side log t l u);
         }
-    at (Some f) e = begun-so f e (ap (λ o. option_or o (session_frame before)) e) (begins side log t f e l)
+    at (Some f) e =
+        let q : later ≡ Some f = ap (λ o. option_or o (session_frame before)) e in
+        let b = begins side log t f e l in
+        record { both = subst (λ o. Both side o (log_after side log t)) (sym q) (kept-so (Some f) (λ head x. sym e ∙ x) (begun-so side before log t f p e b)); unanswered = not-after b }
 
-so-far : (side : Side) → Law side (SoFar side)
+pub so-far : (side : Side) → Law side (SoFar side)
 so-far side = record {
   first = record { both = record { control = first-control side; out = out-first side None }; unanswered = λ c u. refl };
   turn = λ before log t l p. so-far-turn side before log t l p;

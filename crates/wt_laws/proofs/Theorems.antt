@@ -24,8 +24,9 @@ use Rattle.wt_laws.proofs.SessionStream.{session-stream-out}
 use Rattle.wt_laws.proofs.SettingsLaws.{settings-out}
 use Rattle.wt_laws.proofs.StreamLaws.{streams-accepted-rightly}
 use Rattle.wt_laws.proofs.TakenLaws.{taken-goes-out}
+use Rattle.wt_laws.proofs.WrittenLaws.{sends-all}
 use Rattle.wt_laws.specs.Exactly.{AsksFirst, ConnectGoesOn, ConnectsAnswer, MaySend, ReceivingCallsAnswer, RequestGoesOn, RequestsAnswer, ResponsesAnswer, SendingCallsAnswer, SessionCallsAnswer}
-use Rattle.wt_laws.specs.Laws.{ActionsHaveCauses, CutsWell, DatagramsInOrder, FaultCloses, HeadersOut, NothingAfterEnd, OneSession, OpenExactly, ReadsFromStart, ReadsInOrder, ReplyHasCause, ResultStays, SendsEnd, SendsInOrder, SessionStreamOut, SessionTold, SessionsRightly, SettingsOut, StreamsAcceptedRightly, TakenGoesOut}
+use Rattle.wt_laws.specs.Laws.{ActionsHaveCauses, CutsWell, DatagramsInOrder, FaultCloses, HeadersOut, NothingAfterEnd, OneSession, OpenExactly, ReadsFromStart, ReadsInOrder, ReplyHasCause, ResultStays, SendsAll, SendsEnd, SendsInOrder, SessionStreamOut, SessionTold, SessionsRightly, SettingsOut, StreamsAcceptedRightly, TakenGoesOut}
 use Rattle.wt_laws.specs.Left.{PendingExactly, is_pending}
 use Rattle.wt_laws.specs.Reachable.{AllLawful, IsReachable, exchanges}
 use Rattle.wt_laws.specs.ReplyCauses.{is_call}
@@ -142,3 +143,6 @@ request_theorem = request-goes-on
 
 pub own_reads_theorem : (side : Side) (log : Log) → ReadsFromStart side log
 own_reads_theorem = reads-from-start
+
+pub sends_all_theorem : (side : Side) (all : List Turn) → AllLawful side [] all → SendsAll side (exchanges side all) (log_from side [] all)
+sends_all_theorem = sends-all

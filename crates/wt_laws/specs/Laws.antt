@@ -317,6 +317,20 @@ SendsEnd side log turn =
     (k : ℕ) → k ≢ local_uni side → is_head_out side log k ≡ true → (is_finished (actions_of log) k || is_reset log k) ≡ true
     → sent_on (actions_of (log_after side log turn)) k ≡ sent_on (actions_of log) k
 
+-- the bytes that writes on the stream accepted, joined
+abbrev pub written_on : ℕ → List Exchange → List ℕ
+written_on k [] = []
+written_on k (x ∷ before) = written_on k before ++ accepted_by (bytes_for k x.turn) x.answer.reply
+
+-- the head of a stream that was given: its header, where this end opened it
+abbrev pub head_of : Side → ℕ → ℕ → List ℕ
+head_of side k session = if is_of_this_end side k then stream_header k session else []
+
+-- What is out on a stream that was given is its head, followed by all bytes that writes accepted.
+abbrev pub SendsAll : Side → List Exchange → Log → Type 0
+SendsAll side before log =
+    (k s at : ℕ) → k ≢ local_uni side → is_accepted log k ≡ true → established (calls_of log) ≡ Some (s, at) → sent_on (actions_of log) k ≡ head_of side k s ++ written_on k before
+
 -- ---- what is answered Done went out
 
 -- at once after the log, this went out

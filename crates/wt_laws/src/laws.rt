@@ -1,7 +1,7 @@
 //! The laws, each a function with an empty body whose contract is the law.
 ghost use Rattle.std.specs.Prelude.{◌≡◌, ◌++◌, ℕ, List, [], Option, Some, true, false};
 ghost use Rattle.wt_laws.specs.Exactly.{AsksFirst, ConnectGoesOn, ConnectsAnswer, MaySend, ReceivingCallsAnswer, RequestGoesOn, RequestsAnswer, ResponsesAnswer, SendingCallsAnswer, SessionCallsAnswer};
-ghost use Rattle.wt_laws.specs.Laws.{ActionsHaveCauses, CutsWell, DatagramsInOrder, FaultCloses, HeadersOut, NothingAfterEnd, OneSession, OpenExactly, ReadsFromStart, ReadsInOrder, ReplyHasCause, ResultStays, SendsEnd, SendsInOrder, SessionStreamOut, SessionTold, SessionsRightly, SettingsOut, StreamsAcceptedRightly, TakenGoesOut};
+ghost use Rattle.wt_laws.specs.Laws.{ActionsHaveCauses, CutsWell, DatagramsInOrder, FaultCloses, HeadersOut, NothingAfterEnd, OneSession, OpenExactly, ReadsFromStart, ReadsInOrder, ReplyHasCause, ResultStays, SendsAll, SendsEnd, SendsInOrder, SessionStreamOut, SessionTold, SessionsRightly, SettingsOut, StreamsAcceptedRightly, TakenGoesOut};
 ghost use Rattle.wt_laws.specs.Left.{PendingExactly, is_pending};
 ghost use Rattle.wt_laws.specs.Reachable.{AllLawful, IsReachable, exchanges};
 ghost use Rattle.wt_laws.specs.ReplyCauses.{is_call};
@@ -90,8 +90,9 @@ pub fn headers_go_out()
 {}
 
 /// On a stream that was given exactly what writes accept goes out, and nothing after its end.
-#[tactic(auto, using(crate::proofs::Theorems::sends_theorem, crate::proofs::Theorems::sends_end_theorem))]
+#[tactic(auto, using(crate::proofs::Theorems::sends_theorem, crate::proofs::Theorems::sends_end_theorem, crate::proofs::Theorems::sends_all_theorem))]
 pub fn writes_go_out()
+    ensures all { (side : Side) (all : List Turn) → AllLawful side [] all → SendsAll side (exchanges side all) (log_from side [] all) }
     ensures sends { (side : Side) (log : Log) (turn : Turn) → IsReachable side log → is_lawful side log turn ≡ true → SendsInOrder side log turn }
     ensures end { (side : Side) (log : Log) (turn : Turn) → IsReachable side log → is_lawful side log turn ≡ true → SendsEnd side log turn }
 {}
