@@ -20,5 +20,11 @@ pub mod SettingsLaws
 pub mod SendLaws
 pub mod TakenLaws
 pub mod HeaderLaws
+pub mod PendingLaws
+pub mod SessionStream
+pub mod AllSends
+pub mod WrittenLaws
+pub mod RunLaws
+pub mod ExactLaws
 pub mod Theorems
 pub mod Recorded

@@ -1,5 +1,5 @@
 -- Why a turn is answered as it is: each reply has one of these causes, in the log at which the call decided.
-use Rattle.std.specs.Prelude.{[], ◌==◌, ◌||◌, ◌∷◌, ◌≡◌, ◌≤◌, ◌⊎◌, Bool, Err, List, None, Ok, Option, Some, bytes_eq, codes, false, is_some, length, nat_lt, not, take, true, ℕ}
+use Rattle.std.specs.Prelude.{[], ◌==◌, ◌||◌, ◌∷◌, ◌≡◌, ◌≤◌, ◌⊎◌, Bool, Err, List, None, Ok, Option, Some, bytes_eq, codes, false, is_some, length, nat_lt, not, take, true, ℕ, ℤ}
 use Rattle.url.specs.Parser.{parse_url}
 use Rattle.url.specs.Parts.{Parts, host_or_empty}
 use Rattle.url.specs.declared.error.ParseError.{ParseError}
@@ -25,7 +25,7 @@ use Rattle.wt_wire.specs.declared.error.ErrorCode.{ErrorCode}
 use Rattle.wt_wire.specs.declared.lookup.ConnectOutcome.{ConnectOutcome}
 use Rattle.wt_wire.specs.declared.lookup.Lookup.{Lookup}
 use Rattle.wt_wire.specs.declared.side.Side.{Side}
-use Rattle.wt_laws.specs.Causes.{ConnectTo, DatagramOf, EstablishedBy, FoundDatagram, FoundStream, ResponseFrom, accepted_kind, bytes_for, is_accept, is_receive, polls_opening, reads_from}
+use Rattle.wt_laws.specs.Causes.{ConnectTo, DatagramOf, EstablishedBy, FoundDatagram, FoundStream, ResponseFrom, accepted_kind, bytes_for, is_accept, is_receive, opened_kind, polls_opening, reads_from}
 use Rattle.wt_spec.specs.Connect.{address_of, outcome_error, port_of}
 use Rattle.wt_spec.specs.Connection.{is_opening, next_datagram, next_due, payload_limit, stream_header}
 use Rattle.wt_spec.specs.Driver.{established, settings_came}
@@ -78,12 +78,6 @@ half_of side log (turns.Call (calls.ReadExact id size)) = Some (has_receiving_ha
 half_of side log (turns.Call (calls.StopRecv id code)) = Some (has_receiving_half side log id)
 half_of side log (turns.Call (calls.PollOpening id)) = Some (is_opening log id)
 half_of side log _ = None
-
--- the kind of the streams that a call opens
-abbrev pub opened_kind : Side → Turn → Option ℕ
-opened_kind side (turns.Call calls.OpenUni) = Some (local_uni side)
-opened_kind side (turns.Call calls.OpenBi) = Some (local_bi side)
-opened_kind side _ = None
 
 -- the stream whose end the call waits for
 abbrev pub waits_for_end : Turn → Option ℕ
@@ -229,9 +223,25 @@ pub data RejectedCause (side : Side) (turn : Turn) (log : Log) : Type 0 where
   RejectionOver : (head : List ℕ) → ResponseFrom turn (calls_of log) false head → is_finished (actions_of log) (requested (calls_of log)) ≡ true
       → (is_some (stop_of (events_of log) (requested (calls_of log))) || is_acknowledged (events_of log) (requested (calls_of log))) ≡ true → RejectedCause side turn log
 
+-- the turn is a call
+abbrev pub is_call : Turn → Bool
+is_call (turns.Call call) = true
+is_call _ = false
+
+-- what the turn asks for is done: an event is taken; a datagram goes out; a close, on an established session or of the
+-- endpoint; a priority is set, unless the half is done; a half that isn't done is reset; a receiving half is given up
+pub data DoneCause (side : Side) (turn : Turn) (log : Log) : Type 0 where
+  AtEvent : is_call turn ≡ false → DoneCause side turn log
+  AtDatagram : (bytes : List ℕ) (limit : ℕ) → is_open log ≡ true → DatagramOf turn log bytes → datagram_fact (events_of log) ≡ Some (facts.Limit limit) → nat_lt limit (length bytes) ≡ false → DoneCause side turn log
+  AtClose : (code : ℕ) (reason : List ℕ) → turn ≡ turns.Call (calls.Close code reason) → is_some (established (calls_of log)) ≡ true → DoneCause side turn log
+  AtEndpointClose : (code : ℕ) (reason : List ℕ) → turn ≡ turns.Call (calls.EndpointClose code reason) → DoneCause side turn log
+  AtPriority : (k : ℕ) (p : ℤ) → turn ≡ turns.Call (calls.SetPriority k p) → has_sending_half side log k ≡ true → DoneCause side turn log
+  AtReset : (k code : ℕ) → turn ≡ turns.Call (calls.ResetSend k code) → has_sending_half side log k ≡ true → is_done log k ≡ false → DoneCause side turn log
+  AtStop : (k code : ℕ) → turn ≡ turns.Call (calls.StopRecv k code) → has_receiving_half side log k ≡ true → DoneCause side turn log
+
 -- why a turn has this reply
 abbrev pub ReplyCause : Side → Turn → Log → Reply → Type 0
-ReplyCause side turn log replies.Done = Unit {0}
+ReplyCause side turn log replies.Done = DoneCause side turn log
 ReplyCause side turn log replies.Pending = (is_open log ≡ true) × PendingCause side turn log
 ReplyCause side turn log replies.NoSession = (asks_for_session turn ≡ true) × (established (calls_of log) ≡ None)
 ReplyCause side turn log replies.NoStream = half_of side log turn ≡ Some false
