@@ -32,13 +32,13 @@ impl Stream<Pair, Session> {
         &mut self,
         t: &mut Transport,
     ) -> Result<Poll<Result<Frame, ProtoReadError>>, OutOfMemory>
-        requires { IsTrue (can_receive_now t.old self.old.halves.1.id) }
-        ensures answer { IfOk result (λ a. a ≡ read_answer t.old.is_open (end_now t.old self.old.halves.1.id) (reached (fed frame_decides self.old.stage.frames (unread_now t.old self.old.halves.1.id)))) }
-        ensures frame { (bytes : List ℕ) → HasBegun frame_decides sources.Other self.old.stage.frames bytes → IfOk result (λ a. a ≡ frame_answer sources.Other t.old.is_open (end_now t.old self.old.halves.1.id) (bytes ++ unread_now t.old self.old.halves.1.id)) }
-        ensures left { OnOk result (self.new ≡ record self.old { stage = record self.old.stage { frames = after_read (fed frame_decides self.old.stage.frames (unread_now t.old self.old.halves.1.id)) } }) }
-        ensures took { OnOk result ((n : ℕ) × Took frame_decides self.old.stage.frames (fed frame_decides self.old.stage.frames (unread_now t.old self.old.halves.1.id)) t.old t.new self.old.halves.1.id n) }
+        requires { IsTrue (can_receive_now t.old self.old.halves.0.id) }
+        ensures answer { IfOk result (λ a. a ≡ read_answer t.old.is_open (end_now t.old self.old.halves.0.id) (reached (fed frame_decides self.old.stage.frames (unread_now t.old self.old.halves.0.id)))) }
+        ensures frame { (bytes : List ℕ) → HasBegun frame_decides sources.Other self.old.stage.frames bytes → IfOk result (λ a. a ≡ frame_answer sources.Other t.old.is_open (end_now t.old self.old.halves.0.id) (bytes ++ unread_now t.old self.old.halves.0.id)) }
+        ensures left { OnOk result (self.new ≡ record self.old { stage = record self.old.stage { frames = after_read (fed frame_decides self.old.stage.frames (unread_now t.old self.old.halves.0.id)) } }) }
+        ensures took { OnOk result ((n : ℕ) × Took frame_decides self.old.stage.frames (fed frame_decides self.old.stage.frames (unread_now t.old self.old.halves.0.id)) t.old t.new self.old.halves.0.id n) }
     {
-        self.stage.frames.poll(t, self.halves.1.id)
+        self.stage.frames.poll(t, self.halves.0.id)
     }
 
     /// Writes a frame; pending while a rest of it lacks credit, and then the next call goes on with the
@@ -68,13 +68,13 @@ impl Stream<Pair, Session> {
         t: &mut Transport,
         code: VarInt,
     ) -> Result<Result<(), AlreadyStop>, OutOfMemory>
-        requires { IsTrue (can_receive_now t.old self.old.halves.1.id) }
+        requires { IsTrue (can_receive_now t.old self.old.halves.0.id) }
         ensures answer { IfOk result (λ a. a ≡ stop_answer self.old.stage.is_stopped) }
-        ensures state { OnOk result (t.new ≡ after_stop_once self.old.stage.is_stopped t.old self.old.halves.1.id code) }
+        ensures state { OnOk result (t.new ≡ after_stop_once self.old.stage.is_stopped t.old self.old.halves.0.id code) }
         ensures stopped { OnOk result (self.new ≡ record self.old { stage = record self.old.stage { is_stopped = true } }) }
         ensures err { OnErr result ((t.new ≡ t.old) × (self.new ≡ self.old)) }
     {
-        stop_once(&mut self.stage.is_stopped, self.halves.1.id, t, code)
+        stop_once(&mut self.stage.is_stopped, self.halves.0.id, t, code)
     }
 
     /// The stream.
