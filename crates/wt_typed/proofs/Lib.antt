@@ -4,3 +4,4 @@ pub mod HeaderLaws
 pub mod NextFrameLaws
 pub mod ReadLaws
 pub mod SessionFrames
+pub mod WriteLaws

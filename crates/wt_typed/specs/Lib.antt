@@ -4,3 +4,4 @@ pub mod UniHeader
 pub mod NextFrame
 pub mod Accepting
 pub mod Typed
+pub mod Lending

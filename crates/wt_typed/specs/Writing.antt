@@ -1,5 +1,5 @@
 -- A write that goes on as the peer grants credit (this repository's rules, after quinn's streams).
-use Rattle.std.specs.Prelude.{◌≡◌, ℕ, ◌+◌, ◌<◌, List, [], length, drop, Result, Ok, Err, Bool, is_some, nat_lt, not, ◌==◌, if◌then◌else◌}
+use Rattle.std.specs.Prelude.{◌≡◌, ℕ, ◌+◌, ◌<◌, List, [], length, take, drop, ◌++◌, Result, Ok, Err, Bool, is_some, nat_lt, not, ◌==◌, if◌then◌else◌}
 use Rattle.wt_turn.specs.declared.poll.Poll.{Poll}
 use Rattle.wt_turn.specs.declared.poll.Poll.TheVariants as polls
 use Rattle.wt_turn.specs.declared.proto_error.ProtoWriteError.{ProtoWriteError}
@@ -40,3 +40,12 @@ pending_answer open_ half bytes =
 abbrev pub after_pending : Bool → SendingHalf → Pending → Pending
 after_pending open_ half p =
     if not open_ then p else (if is_some half.stop then p else (if nat_lt half.left (length (rest p)) then record p { out = p.out + half.left } else nothing_begun))
+
+-- how many of these bytes go out now: none where the write can't go on, else as many as credit covers
+abbrev pub going_out : Bool → SendingHalf → List ℕ → List ℕ
+going_out open_ half bytes = if not open_ then [] else (if is_some half.stop then [] else take half.left bytes)
+
+-- What goes out of these bytes follows what went out before: while the write isn't through both are a prefix, and else all of them.
+pub record WritesPrefix (open_ : Bool) (half : SendingHalf) (old new : Pending) (bytes : List ℕ) : Type 0 where
+  pub begun : 0 < length new.bytes → take new.out bytes ≡ take old.out bytes ++ going_out open_ half (drop old.out bytes)
+  pub through : new.bytes ≡ [] → take old.out bytes ++ going_out open_ half (drop old.out bytes) ≡ bytes

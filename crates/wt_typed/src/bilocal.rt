@@ -6,7 +6,7 @@ ghost use Rattle.wt_seam.specs.Rules.{after_write, sending_half_now};
 ghost use Rattle.wt_seam.specs.Step.{after_opening, opened_id_now};
 ghost use Rattle.wt_typed.specs.declared.next_frame.FrameSource.TheVariants as sources;
 ghost use Rattle.wt_typed.specs.Typed.{both, can_write_now, in_stage, is_through, made, signal_bytes};
-ghost use Rattle.wt_typed.specs.Writing.{Continues, after_pending, is_begun, nothing_begun, pending_answer, rest, write_of};
+ghost use Rattle.wt_typed.specs.Writing.{Continues, WritesPrefix, after_pending, is_begun, nothing_begun, pending_answer, rest, write_of};
 
 use crate::next_frame::{FrameReader, FrameSource};
 use crate::outgoing::Outgoing;
@@ -77,6 +77,8 @@ impl Stream<Pair, BiLocalH3> {
         requires same { Continues self.old.stage.writing (signal_bytes session) }
         ensures answer { IfOk result (λ a. a ≡ made (λ through. record { halves = self.old.halves; stage = record {} }) (pending_answer t.old.is_open (sending_half_now t.old self.old.halves.0.id) (rest (write_of self.old.stage.writing (signal_bytes session))))) }
         ensures state { OnOk result (t.new ≡ after_write t.old self.old.halves.0.id (rest (write_of self.old.stage.writing (signal_bytes session)))) }
+        ensures goes_on { OnOk result (Continues self.new.stage.writing (signal_bytes session)) }
+        ensures prefix { OnOk result (WritesPrefix t.old.is_open (sending_half_now t.old self.old.halves.0.id) self.old.stage.writing self.new.stage.writing (signal_bytes session)) }
         ensures halves { self.new.halves ≡ self.old.halves }
         ensures writing { OnOk result (self.new.stage.writing ≡ after_pending t.old.is_open (sending_half_now t.old self.old.halves.0.id) (write_of self.old.stage.writing (signal_bytes session))) }
         ensures spent { IfOk result (λ a. self.new.stage.is_spent ≡ is_through a) }
@@ -109,6 +111,13 @@ impl Stream<Pair, BiLocalH3> {
         ensures { result ≡ can_write_now t.now self.now.halves.0.id }
     {
         can_write(self.halves.0.id, t)
+    }
+
+    /// Whether an upgrade for this session may begin or go on.
+    pub fn continues(&self, session: SessionId) -> Result<bool, OutOfMemory>
+        ensures { IfOk result (λ b. IsTrue b → Continues self.now.stage.writing (signal_bytes session)) }
+    {
+        self.stage.writing.continues_signal(session)
     }
 
     /// Whether the signal was begun.

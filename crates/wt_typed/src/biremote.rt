@@ -59,9 +59,9 @@ impl Stream<Pair, BiRemoteQuic> {
 
     /// The stream.
     pub fn id(&self) -> StreamId
-        ensures { result ≡ self.now.halves.1.id }
+        ensures { result ≡ self.now.halves.0.id }
     {
-        self.halves.1.id
+        self.halves.0.id
     }
 }
 
@@ -75,13 +75,13 @@ impl Stream<Pair, BiRemoteH3> {
         &mut self,
         t: &mut Transport,
     ) -> Result<Poll<Result<Frame, ProtoReadError>>, OutOfMemory>
-        requires { IsTrue (can_receive_now t.old self.old.halves.1.id) }
-        ensures answer { IfOk result (λ a. a ≡ read_answer t.old.is_open (end_now t.old self.old.halves.1.id) (reached (fed frame_decides self.old.stage.frames (unread_now t.old self.old.halves.1.id)))) }
-        ensures frame { (bytes : List ℕ) → HasBegun frame_decides sources.Request self.old.stage.frames bytes → IfOk result (λ a. a ≡ frame_answer sources.Request t.old.is_open (end_now t.old self.old.halves.1.id) (bytes ++ unread_now t.old self.old.halves.1.id)) }
-        ensures left { OnOk result (self.new ≡ record self.old { stage = record self.old.stage { frames = after_read (fed frame_decides self.old.stage.frames (unread_now t.old self.old.halves.1.id)) } }) }
-        ensures took { OnOk result ((n : ℕ) × Took frame_decides self.old.stage.frames (fed frame_decides self.old.stage.frames (unread_now t.old self.old.halves.1.id)) t.old t.new self.old.halves.1.id n) }
+        requires { IsTrue (can_receive_now t.old self.old.halves.0.id) }
+        ensures answer { IfOk result (λ a. a ≡ read_answer t.old.is_open (end_now t.old self.old.halves.0.id) (reached (fed frame_decides self.old.stage.frames (unread_now t.old self.old.halves.0.id)))) }
+        ensures frame { (bytes : List ℕ) → HasBegun frame_decides sources.Request self.old.stage.frames bytes → IfOk result (λ a. a ≡ frame_answer sources.Request t.old.is_open (end_now t.old self.old.halves.0.id) (bytes ++ unread_now t.old self.old.halves.0.id)) }
+        ensures left { OnOk result (self.new ≡ record self.old { stage = record self.old.stage { frames = after_read (fed frame_decides self.old.stage.frames (unread_now t.old self.old.halves.0.id)) } }) }
+        ensures took { OnOk result ((n : ℕ) × Took frame_decides self.old.stage.frames (fed frame_decides self.old.stage.frames (unread_now t.old self.old.halves.0.id)) t.old t.new self.old.halves.0.id n) }
     {
-        self.stage.frames.poll(t, self.halves.1.id)
+        self.stage.frames.poll(t, self.halves.0.id)
     }
 
     /// Gives the receiving half up, and asks the peer to stop it where the connection is open. Fails
@@ -91,13 +91,13 @@ impl Stream<Pair, BiRemoteH3> {
         t: &mut Transport,
         code: VarInt,
     ) -> Result<Result<(), AlreadyStop>, OutOfMemory>
-        requires { IsTrue (can_receive_now t.old self.old.halves.1.id) }
+        requires { IsTrue (can_receive_now t.old self.old.halves.0.id) }
         ensures answer { IfOk result (λ a. a ≡ stop_answer self.old.stage.is_stopped) }
-        ensures state { OnOk result (t.new ≡ after_stop_once self.old.stage.is_stopped t.old self.old.halves.1.id code) }
+        ensures state { OnOk result (t.new ≡ after_stop_once self.old.stage.is_stopped t.old self.old.halves.0.id code) }
         ensures stopped { OnOk result (self.new ≡ record self.old { stage = record self.old.stage { is_stopped = true } }) }
         ensures err { OnErr result ((t.new ≡ t.old) × (self.new ≡ self.old)) }
     {
-        stop_once(&mut self.stage.is_stopped, self.halves.1.id, t, code)
+        stop_once(&mut self.stage.is_stopped, self.halves.0.id, t, code)
     }
 
     /// A stream of this session, whose signal was read.
@@ -114,17 +114,17 @@ impl Stream<Pair, BiRemoteH3> {
 
     /// The stream.
     pub fn id(&self) -> StreamId
-        ensures { result ≡ self.now.halves.1.id }
+        ensures { result ≡ self.now.halves.0.id }
     {
-        self.halves.1.id
+        self.halves.0.id
     }
 
     /// The stream of the session that this request asks for. It has to be a client's bidirectional
     /// stream, whose id is a multiple of 4.
     pub fn into_session(self, request: SessionRequest) -> StreamSession
-        requires { self.halves.1.id % 4 ≡ 0 }
+        requires { self.halves.0.id % 4 ≡ 0 }
         ensures halves { result.halves ≡ self.halves }
-        ensures session { result.stage.session ≡ self.halves.1.id }
+        ensures session { result.stage.session ≡ self.halves.0.id }
         ensures request { result.stage.request ≡ request }
         ensures frames { result.stage.frames ≡ session_reading self.stage.frames }
         ensures writing { result.stage.writing ≡ nothing_begun }
@@ -157,9 +157,9 @@ impl Stream<Pair, BiRemoteWT> {
 
     /// The stream.
     pub fn id(&self) -> StreamId
-        ensures { result ≡ self.now.halves.1.id }
+        ensures { result ≡ self.now.halves.0.id }
     {
-        self.halves.1.id
+        self.halves.0.id
     }
 
     /// Its halves.

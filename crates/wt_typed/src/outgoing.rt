@@ -4,7 +4,7 @@ ghost use Rattle.wt_proto.specs.StreamHeader.{header_bytes};
 ghost use Rattle.wt_wire.specs.FrameBytes.{frame_bytes};
 ghost use Rattle.wt_seam.specs.Rules.{after_write, may_write_now, sending_half_now};
 ghost use Rattle.wt_seam.specs.Step.{can_send_now};
-ghost use Rattle.wt_typed.specs.Writing.{Continues, after_pending, is_begun, nothing_begun, pending_answer, rest, write_of};
+ghost use Rattle.wt_typed.specs.Writing.{Continues, WritesPrefix, after_pending, is_begun, nothing_begun, pending_answer, rest, write_of};
 ghost use Rattle.wt_typed.specs.Typed.{can_write_now, signal_bytes};
 
 use std::alloc::Global;
@@ -59,6 +59,31 @@ impl Outgoing {
         *self.bytes.allocator()
     }
 
+    /// Whether a write of this frame may begin or go on: none was begun, or one of the same bytes.
+    pub fn continues_frame(&self, frame: &Frame) -> Result<bool, OutOfMemory>
+        ensures { IfOk result (λ b. IsTrue b → Continues self.now (frame_bytes frame.now)) }
+    {
+        let mut bytes = Vec::new(self.allocator());
+        frame.write(&mut bytes)?;
+        Ok(self.bytes.is_empty() || self.bytes.as_slice() == bytes.as_slice())
+    }
+
+    /// Whether a write of this header may begin or go on.
+    pub fn continues_header(&self, header: StreamHeader) -> Result<bool, OutOfMemory>
+        ensures { IfOk result (λ b. IsTrue b → Continues self.now (header_bytes header)) }
+    {
+        let mut bytes = Vec::new(self.allocator());
+        header.write(&mut bytes)?;
+        Ok(self.bytes.is_empty() || self.bytes.as_slice() == bytes.as_slice())
+    }
+
+    /// Whether a write of the signal of this session's stream may begin or go on.
+    pub fn continues_signal(&self, session: SessionId) -> Result<bool, OutOfMemory>
+        ensures { IfOk result (λ b. IsTrue b → Continues self.now (signal_bytes session)) }
+    {
+        self.continues_frame(&Frame::new_webtransport(self.allocator(), session))
+    }
+
     /// Begins a write of this frame, unless it was begun.
     fn begin_frame(&mut self, frame: &Frame) -> Result<(), OutOfMemory>
         requires { Continues self.old (frame_bytes frame.now) }
@@ -95,6 +120,8 @@ impl Outgoing {
         ensures answer { IfOk result (λ a. a ≡ pending_answer t.old.is_open (sending_half_now t.old id) (rest (write_of self.old (frame_bytes frame.now)))) }
         ensures state { OnOk result (t.new ≡ after_write t.old id (rest (write_of self.old (frame_bytes frame.now)))) }
         ensures write { OnOk result (self.new ≡ after_pending t.old.is_open (sending_half_now t.old id) (write_of self.old (frame_bytes frame.now))) }
+        ensures goes_on { OnOk result (Continues self.new (frame_bytes frame.now)) }
+        ensures prefix { OnOk result (WritesPrefix t.old.is_open (sending_half_now t.old id) self.old self.new (frame_bytes frame.now)) }
         ensures err { OnErr result (t.new ≡ t.old) }
     {
         self.begin_frame(frame)?;
@@ -113,6 +140,8 @@ impl Outgoing {
         ensures answer { IfOk result (λ a. a ≡ pending_answer t.old.is_open (sending_half_now t.old id) (rest (write_of self.old (signal_bytes session)))) }
         ensures state { OnOk result (t.new ≡ after_write t.old id (rest (write_of self.old (signal_bytes session)))) }
         ensures write { OnOk result (self.new ≡ after_pending t.old.is_open (sending_half_now t.old id) (write_of self.old (signal_bytes session))) }
+        ensures goes_on { OnOk result (Continues self.new (signal_bytes session)) }
+        ensures prefix { OnOk result (WritesPrefix t.old.is_open (sending_half_now t.old id) self.old self.new (signal_bytes session)) }
         ensures err { OnErr result (t.new ≡ t.old) }
     {
         let signal = Frame::new_webtransport(self.allocator(), session);
@@ -131,6 +160,8 @@ impl Outgoing {
         ensures answer { IfOk result (λ a. a ≡ pending_answer t.old.is_open (sending_half_now t.old id) (rest (write_of self.old (header_bytes header)))) }
         ensures state { OnOk result (t.new ≡ after_write t.old id (rest (write_of self.old (header_bytes header)))) }
         ensures write { OnOk result (self.new ≡ after_pending t.old.is_open (sending_half_now t.old id) (write_of self.old (header_bytes header))) }
+        ensures goes_on { OnOk result (Continues self.new (header_bytes header)) }
+        ensures prefix { OnOk result (WritesPrefix t.old.is_open (sending_half_now t.old id) self.old self.new (header_bytes header)) }
         ensures err { OnErr result (t.new ≡ t.old) }
     {
         self.begin_header(header)?;

@@ -9,7 +9,7 @@ ghost use Rattle.wt_typed.specs.declared.next_frame.FrameSource.TheVariants as s
 ghost use Rattle.wt_typed.specs.NextFrame.{frame_decides};
 ghost use Rattle.wt_typed.specs.Reading.{HasBegun, Took, after_read, read_answer};
 ghost use Rattle.wt_typed.specs.Typed.{after_stop_once, can_write_now, frame_answer, ready_at_all, stop_answer};
-ghost use Rattle.wt_typed.specs.Writing.{Continues, after_pending, is_begun, pending_answer, rest, write_of};
+ghost use Rattle.wt_typed.specs.Writing.{Continues, WritesPrefix, after_pending, is_begun, pending_answer, rest, write_of};
 
 use crate::stream::{Pair, Session, Stream, can_write, stop_once};
 use wt_proto::session::SessionRequest;
@@ -32,13 +32,13 @@ impl Stream<Pair, Session> {
         &mut self,
         t: &mut Transport,
     ) -> Result<Poll<Result<Frame, ProtoReadError>>, OutOfMemory>
-        requires { IsTrue (can_receive_now t.old self.old.halves.1.id) }
-        ensures answer { IfOk result (λ a. a ≡ read_answer t.old.is_open (end_now t.old self.old.halves.1.id) (reached (fed frame_decides self.old.stage.frames (unread_now t.old self.old.halves.1.id)))) }
-        ensures frame { (bytes : List ℕ) → HasBegun frame_decides sources.Other self.old.stage.frames bytes → IfOk result (λ a. a ≡ frame_answer sources.Other t.old.is_open (end_now t.old self.old.halves.1.id) (bytes ++ unread_now t.old self.old.halves.1.id)) }
-        ensures left { OnOk result (self.new ≡ record self.old { stage = record self.old.stage { frames = after_read (fed frame_decides self.old.stage.frames (unread_now t.old self.old.halves.1.id)) } }) }
-        ensures took { OnOk result ((n : ℕ) × Took frame_decides self.old.stage.frames (fed frame_decides self.old.stage.frames (unread_now t.old self.old.halves.1.id)) t.old t.new self.old.halves.1.id n) }
+        requires { IsTrue (can_receive_now t.old self.old.halves.0.id) }
+        ensures answer { IfOk result (λ a. a ≡ read_answer t.old.is_open (end_now t.old self.old.halves.0.id) (reached (fed frame_decides self.old.stage.frames (unread_now t.old self.old.halves.0.id)))) }
+        ensures frame { (bytes : List ℕ) → HasBegun frame_decides sources.Other self.old.stage.frames bytes → IfOk result (λ a. a ≡ frame_answer sources.Other t.old.is_open (end_now t.old self.old.halves.0.id) (bytes ++ unread_now t.old self.old.halves.0.id)) }
+        ensures left { OnOk result (self.new ≡ record self.old { stage = record self.old.stage { frames = after_read (fed frame_decides self.old.stage.frames (unread_now t.old self.old.halves.0.id)) } }) }
+        ensures took { OnOk result ((n : ℕ) × Took frame_decides self.old.stage.frames (fed frame_decides self.old.stage.frames (unread_now t.old self.old.halves.0.id)) t.old t.new self.old.halves.0.id n) }
     {
-        self.stage.frames.poll(t, self.halves.1.id)
+        self.stage.frames.poll(t, self.halves.0.id)
     }
 
     /// Writes a frame; pending while a rest of it lacks credit, and then the next call goes on with the
@@ -53,6 +53,8 @@ impl Stream<Pair, Session> {
         requires same { Continues self.old.stage.writing (frame_bytes frame.now) }
         ensures answer { IfOk result (λ a. a ≡ pending_answer t.old.is_open (sending_half_now t.old self.old.halves.0.id) (rest (write_of self.old.stage.writing (frame_bytes frame.now)))) }
         ensures state { OnOk result (t.new ≡ after_write t.old self.old.halves.0.id (rest (write_of self.old.stage.writing (frame_bytes frame.now)))) }
+        ensures goes_on { OnOk result (Continues self.new.stage.writing (frame_bytes frame.now)) }
+        ensures prefix { OnOk result (WritesPrefix t.old.is_open (sending_half_now t.old self.old.halves.0.id) self.old.stage.writing self.new.stage.writing (frame_bytes frame.now)) }
         ensures writing { OnOk result (self.new ≡ record self.old { stage = record self.old.stage { writing = after_pending t.old.is_open (sending_half_now t.old self.old.halves.0.id) (write_of self.old.stage.writing (frame_bytes frame.now)) } }) }
         ensures err { OnErr result (t.new ≡ t.old) }
     {
@@ -66,13 +68,13 @@ impl Stream<Pair, Session> {
         t: &mut Transport,
         code: VarInt,
     ) -> Result<Result<(), AlreadyStop>, OutOfMemory>
-        requires { IsTrue (can_receive_now t.old self.old.halves.1.id) }
+        requires { IsTrue (can_receive_now t.old self.old.halves.0.id) }
         ensures answer { IfOk result (λ a. a ≡ stop_answer self.old.stage.is_stopped) }
-        ensures state { OnOk result (t.new ≡ after_stop_once self.old.stage.is_stopped t.old self.old.halves.1.id code) }
+        ensures state { OnOk result (t.new ≡ after_stop_once self.old.stage.is_stopped t.old self.old.halves.0.id code) }
         ensures stopped { OnOk result (self.new ≡ record self.old { stage = record self.old.stage { is_stopped = true } }) }
         ensures err { OnErr result ((t.new ≡ t.old) × (self.new ≡ self.old)) }
     {
-        stop_once(&mut self.stage.is_stopped, self.halves.1.id, t, code)
+        stop_once(&mut self.stage.is_stopped, self.halves.0.id, t, code)
     }
 
     /// The stream.
@@ -132,6 +134,13 @@ impl Stream<Pair, Session> {
         ensures { result ≡ can_write_now t.now self.now.halves.0.id }
     {
         can_write(self.halves.0.id, t)
+    }
+
+    /// Whether a write of this frame may begin or go on: none is half written, or the same one.
+    pub fn continues(&self, frame: &Frame) -> Result<bool, OutOfMemory>
+        ensures { IfOk result (λ b. IsTrue b → Continues self.now.stage.writing (frame_bytes frame.now)) }
+    {
+        self.stage.writing.continues_frame(frame)
     }
 
     /// Whether a frame is half written.

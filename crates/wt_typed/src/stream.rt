@@ -30,7 +30,7 @@ impl<S, P> Model for Stream<S, P> {
     ghost view = { λ s. record { halves = s.halves; stage = s.stage } };
 }
 
-/// Both halves of a bidirectional stream.
+/// Both halves of a bidirectional stream, with one id.
 pub type Pair = (QuicSendStream, QuicRecvStream);
 
 /// A bidirectional stream that the peer opened, of which nothing was read.

@@ -8,7 +8,7 @@ ghost use Rattle.wt_streams.specs.HalfRules.{stopped_answer};
 ghost use Rattle.wt_seam.specs.Rules.{after_write, sending_half_now};
 ghost use Rattle.wt_seam.specs.Step.{after_opening, can_send_now, opened_id_now};
 ghost use Rattle.wt_typed.specs.Typed.{can_write_now, in_stage, is_through, made};
-ghost use Rattle.wt_typed.specs.Writing.{Continues, after_pending, is_begun, nothing_begun, pending_answer, rest, write_of};
+ghost use Rattle.wt_typed.specs.Writing.{Continues, WritesPrefix, after_pending, is_begun, nothing_begun, pending_answer, rest, write_of};
 
 use crate::outgoing::Outgoing;
 use crate::stream::{
@@ -56,6 +56,8 @@ impl Stream<QuicSendStream, UniLocalQuic> {
         requires same { Continues self.old.stage.writing (header_bytes header) }
         ensures answer { IfOk result (λ a. a ≡ made (λ through. record { halves = self.old.halves; stage = record { kind = header_kind header; writing = nothing_begun } }) (pending_answer t.old.is_open (sending_half_now t.old self.old.halves.id) (rest (write_of self.old.stage.writing (header_bytes header))))) }
         ensures state { OnOk result (t.new ≡ after_write t.old self.old.halves.id (rest (write_of self.old.stage.writing (header_bytes header)))) }
+        ensures goes_on { OnOk result (Continues self.new.stage.writing (header_bytes header)) }
+        ensures prefix { OnOk result (WritesPrefix t.old.is_open (sending_half_now t.old self.old.halves.id) self.old.stage.writing self.new.stage.writing (header_bytes header)) }
         ensures halves { self.new.halves ≡ self.old.halves }
         ensures writing { OnOk result (self.new.stage.writing ≡ after_pending t.old.is_open (sending_half_now t.old self.old.halves.id) (write_of self.old.stage.writing (header_bytes header))) }
         ensures spent { IfOk result (λ a. self.new.stage.is_spent ≡ is_through a) }
@@ -93,6 +95,13 @@ impl Stream<QuicSendStream, UniLocalQuic> {
         can_write(self.halves.id, t)
     }
 
+    /// Whether an upgrade with this header may begin or go on.
+    pub fn continues(&self, header: StreamHeader) -> Result<bool, OutOfMemory>
+        ensures { IfOk result (λ b. IsTrue b → Continues self.now.stage.writing (header_bytes header)) }
+    {
+        self.stage.writing.continues_header(header)
+    }
+
     /// Whether the header was begun.
     pub fn is_writing(&self) -> bool
         ensures { result ≡ is_begun self.now.stage.writing }
@@ -121,6 +130,8 @@ impl Stream<QuicSendStream, UniLocalH3> {
         requires same { Continues self.old.stage.writing (frame_bytes frame.now) }
         ensures answer { IfOk result (λ a. a ≡ pending_answer t.old.is_open (sending_half_now t.old self.old.halves.id) (rest (write_of self.old.stage.writing (frame_bytes frame.now)))) }
         ensures state { OnOk result (t.new ≡ after_write t.old self.old.halves.id (rest (write_of self.old.stage.writing (frame_bytes frame.now)))) }
+        ensures goes_on { OnOk result (Continues self.new.stage.writing (frame_bytes frame.now)) }
+        ensures prefix { OnOk result (WritesPrefix t.old.is_open (sending_half_now t.old self.old.halves.id) self.old.stage.writing self.new.stage.writing (frame_bytes frame.now)) }
         ensures writing { OnOk result (self.new ≡ record self.old { stage = record self.old.stage { writing = after_pending t.old.is_open (sending_half_now t.old self.old.halves.id) (write_of self.old.stage.writing (frame_bytes frame.now)) } }) }
         ensures err { OnErr result (t.new ≡ t.old) }
     {
@@ -162,6 +173,13 @@ impl Stream<QuicSendStream, UniLocalH3> {
         ensures { result ≡ can_write_now t.now self.now.halves.id }
     {
         can_write(self.halves.id, t)
+    }
+
+    /// Whether a write of this frame may begin or go on: none is half written, or the same one.
+    pub fn continues(&self, frame: &Frame) -> Result<bool, OutOfMemory>
+        ensures { IfOk result (λ b. IsTrue b → Continues self.now.stage.writing (frame_bytes frame.now)) }
+    {
+        self.stage.writing.continues_frame(frame)
     }
 
     /// Whether a frame is half written.

@@ -1,11 +1,13 @@
 //! Unidirectional streams that the peer opened.
 ghost use Rattle.std.specs.Prelude.{◌≡◌, ◌++◌, IfOk, IsTrue, List, OnOk, false, true, ℕ};
+ghost use Rattle.std.specs.Borrow.{sem};
 ghost use Rattle.wt_proto.specs.Progress.{at_item, fed, reached};
 ghost use Rattle.wt_proto.specs.Walk.{walked};
 ghost use Rattle.wt_proto.specs.declared.stream_header.StreamKind.TheVariants as kinds;
 ghost use Rattle.wt_seam.specs.Step.{can_receive_now, end_now, unread_now};
 ghost use Rattle.wt_typed.specs.declared.uni_header.UniHeader.TheVariants as headers;
 ghost use Rattle.wt_typed.specs.Accepting.{accepted_uni, next_uni};
+ghost use Rattle.wt_typed.specs.Lending.{LendsHalf};
 ghost use Rattle.wt_typed.specs.NextFrame.{frame_decides};
 ghost use Rattle.wt_typed.specs.Reading.{HasBegun, Took, after_read, read_answer};
 ghost use Rattle.wt_typed.specs.Typed.{frame_answer, in_stage, is_through, made, source_of};
@@ -162,7 +164,8 @@ impl Stream<QuicRecvStream, UniRemoteH3> {
 
     /// Its half.
     pub fn stream_mut(&mut self) -> &mut QuicRecvStream
-        ensures { result.now ≡ self.old.halves }
+        ensures half { result.now ≡ self.old.halves }
+        ensures* writes_back { sem 𝓛 (LendsHalf self.entry result) }
     {
         &mut self.halves
     }
