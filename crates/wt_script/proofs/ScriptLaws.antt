@@ -1,11 +1,9 @@
 -- Scripts, line by line.
-use Rattle.std.proofs.Common.{arith, ◌≡◌, ℕ, ◌+◌, ◌-◌, ◌<◌, ◌≤◌, List, [], ◌∷◌, ◌++◌, refl, sym, ap, ◌∙◌, length, take, drop, get_or, suc, length-drop}
+use Rattle.std.proofs.Common.{arith, ◌≡◌, ℕ, ◌+◌, ◌-◌, ◌<◌, ◌≤◌, List, [], ◌∷◌, ◌++◌, sym, ap, ◌∙◌, length, take, drop, get_or, suc, length-drop}
 use Rattle.std.proofs.Math.Seq.{take-suc}
 use Rattle.std.proofs.lemmas.List.{drop_more, get_or-drop}
 use Rattle.std.proofs.lemmas.Bool.{ne_eqb}
-use Rattle.std.specs.Prelude.{Option, Some, None, Result, Ok, Err, ◌==◌, if◌then◌else◌}
-use Rattle.wt_script.specs.declared.script.Script.{Script}
-use Rattle.wt_script.specs.declared.script.ScriptRefused.{ScriptRefused}
+use Rattle.std.specs.Prelude.{Option, Some, None, Err, ◌==◌, if◌then◌else◌}
 use Rattle.wt_script.specs.Lines.{Lines}
 use Rattle.wt_script.specs.Words.{lines_from}
 use Rattle.wt_script.specs.Script.{read_lines, with_line}
