@@ -1,5 +1,5 @@
 -- Where the causes of a reply hold, the call has that reply.
-use Rattle.std.specs.Prelude.{[], ◌&&◌, ◌++◌, ◌/◌, ◌==◌, ◌||◌, ◌∷◌, ◌≡◌, ◌≢◌, Bool, Err, List, None, Ok, Option, Result, Some, bytes_eq, codes, false, if◌then◌else◌, is_some, length, nat_lt, not, suc, take, true, zero, ℕ, ℤ}
+use Rattle.std.specs.Prelude.{[], ◌++◌, ◌/◌, ◌==◌, ◌||◌, ◌∷◌, ◌≡◌, ◌≢◌, Bool, Err, List, None, Ok, Option, Result, Some, bytes_eq, codes, false, if◌then◌else◌, is_some, length, nat_lt, not, suc, take, true, zero, ℕ}
 use Rattle.std.proofs.Common.{◌∙◌, ap, refl, subst, sym}
 use Rattle.std.proofs.lemmas.Bool.{and_parts, eq-eqb, eqb-true, not-true}
 use Rattle.url.specs.Parser.{parse_url}
@@ -7,13 +7,12 @@ use Rattle.url.specs.Parts.{Parts, host_or_empty}
 use Rattle.url.specs.declared.error.ParseError.{ParseError}
 use Rattle.wt_message.specs.Datagram.{datagram_bytes}
 use Rattle.wt_message.specs.FixedBytes.{response_bytes}
-use Rattle.wt_proto.specs.ResponseWalk.{response_walk_of}
 use Rattle.wt_proto.specs.declared.response_walk.ResponseWalk.{ResponseWalk}
 use Rattle.wt_seam_spec.specs.Outgoing.{covered, credit_left, may_open, next_id, opening}
 use Rattle.wt_seam_spec.specs.Joined.{send_of}
 use Rattle.wt_seam_spec.specs.Reports.{datagram_fact, end_of, is_acknowledged, is_connected, stop_of}
 use Rattle.wt_seam_spec.specs.Sent.{is_finished}
-use Rattle.wt_seam_spec.specs.Streams.{contents, local_bi, local_count, local_uni}
+use Rattle.wt_seam_spec.specs.Streams.{local_bi, local_count, local_uni}
 use Rattle.wt_turn.specs.Log.{CallRecord, Log, Polled, ResponseStarted, actions_of, calls_of, events_of, is_open}
 use Rattle.wt_turn.specs.declared.action.Action.{Action}
 use Rattle.wt_turn.specs.declared.call.Call.{Call}
@@ -23,7 +22,6 @@ use Rattle.wt_turn.specs.declared.reply.Reply.{Reply}
 use Rattle.wt_turn.specs.declared.stream_error.StreamWriteError.{StreamWriteError}
 use Rattle.wt_wire.specs.HeaderList.{Fields}
 use Rattle.wt_wire.specs.declared.addr.Addr.{Addr}
-use Rattle.wt_wire.specs.declared.error.ErrorCode.{ErrorCode}
 use Rattle.wt_wire.specs.declared.lookup.ConnectOutcome.{ConnectOutcome}
 use Rattle.wt_wire.specs.declared.lookup.Lookup.{Lookup}
 use Rattle.wt_wire.specs.declared.side.Side.{Side}

@@ -1,13 +1,12 @@
 -- What a run of turns is, what later moments leave as it was, and what comes after the end.
-use Rattle.std.specs.Prelude.{[], ◌++◌, ◌==◌, ◌&&◌, ◌∷◌, ◌≡◌, Bool, List, Some, false, length, not, true, ℕ}
+use Rattle.std.specs.Prelude.{[], ◌++◌, ◌∷◌, ◌≡◌, List, Some, false, length, true, ℕ}
 use Rattle.std.specs.List.{list_any}
 use Rattle.wt_proto.specs.declared.verdict.Verdict.{Verdict}
 use Rattle.wt_turn.specs.Log.{Log, calls_of}
-use Rattle.wt_turn.specs.declared.reply.Reply.{Reply}
 use Rattle.wt_turn.specs.declared.turn.Turn.{Turn}
 use Rattle.wt_wire.specs.declared.side.Side.{Side}
 use Rattle.wt_laws.specs.Reachable.{AllLawful}
-use Rattle.wt_spec.specs.Answers.{AtUnlawful, Finished, RunEnd, answer_to, answers_to, is_lawful, log_from, run}
+use Rattle.wt_spec.specs.Answers.{AtUnlawful, Finished, answer_to, answers_to, is_lawful, log_from, run}
 use Rattle.wt_spec.specs.Driver.{delivers, releases, settings_came, stream_table}
 use Rattle.wt_spec.specs.Scan.{has}
 use Rattle.wt_spec.specs.StreamTable.{Classified, verdict_of}
