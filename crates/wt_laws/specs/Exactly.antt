@@ -8,10 +8,10 @@ use Rattle.wt_message.specs.FixedBytes.{response_bytes}
 use Rattle.wt_proto.specs.ResponseWalk.{response_walk_of}
 use Rattle.wt_proto.specs.declared.response_walk.ResponseWalk.{ResponseWalk}
 use Rattle.wt_seam_spec.specs.Outgoing.{covered, may_open, next_id}
-use Rattle.wt_seam_spec.specs.Reports.{datagram_fact, end_of, is_connected, stop_of}
-use Rattle.wt_seam_spec.specs.Sent.{priority_of}
+use Rattle.wt_seam_spec.specs.Reports.{credit, datagram_fact, end_of, is_connected, stop_of}
+use Rattle.wt_seam_spec.specs.Sent.{priority_of, sent_on}
 use Rattle.wt_seam_spec.specs.Streams.{contents, local_bi, local_count, local_uni}
-use Rattle.wt_turn.specs.Log.{Log, actions_of, calls_of, events_of, is_open}
+use Rattle.wt_turn.specs.Log.{Log, actions_of, all_events_of, calls_of, events_of, is_open}
 use Rattle.wt_turn.specs.declared.call.Call.{Call}
 use Rattle.wt_turn.specs.declared.connecting_error.ConnectingError.{ConnectingError}
 use Rattle.wt_turn.specs.declared.reply.Reply.{Reply}
@@ -24,7 +24,7 @@ use Rattle.wt_wire.specs.declared.lookup.Lookup.{Lookup}
 use Rattle.wt_wire.specs.declared.side.Side.{Side}
 use Rattle.wt_laws.specs.Left.{is_settled}
 use Rattle.wt_laws.specs.ReplyCauses.{asks_for_session, half_of}
-use Rattle.wt_spec.specs.Answers.{answer_to}
+use Rattle.wt_spec.specs.Answers.{answer_to, log_after}
 use Rattle.wt_spec.specs.Connect.{address_of, outcome_error, port_of}
 use Rattle.wt_spec.specs.Connection.{is_opening, opened_reply, payload_limit, stream_header}
 use Rattle.wt_spec.specs.Driver.{established, settings_came}
@@ -196,3 +196,17 @@ pub record RequestGoesOn (side : Side) (log : Log) (head : List ℕ) : Type 0 wh
   pub session : (fields : Fields) (at : ℕ) → RequestOut side log head → walk_at side log ≡ responses.Response fields at → has_success fields ≡ true → is_open log ≡ true → reply_to side log calls.Handshake ≡ replies.Session (local_bi side)
   pub ended : (fields : Fields) (at : ℕ) → RequestOut side log head → walk_at side log ≡ responses.Response fields at → has_success fields ≡ true → is_open log ≡ false
       → reply_to side log calls.Handshake ≡ replies.ConnectFailed (connects.ConnectionError (driver_error side log))
+
+-- ---- how far a head is out
+
+-- after the call as much of this head is out on the stream as its credit allows
+abbrev pub IsOutAsFar : Side → Log → Call → ℕ → List ℕ → Type 0
+IsOutAsFar side log call k head = sent_on (actions_of (log_after side log (turns.Call call))) k ≡ take (credit (all_events_of log) k) head
+
+-- A call that finds the connection open and goes on with a head, of which the peer didn't stop a rest, sends it as far as
+-- credit allows: the header of a stream that is being opened, a response, and the request of a connect that has a stream.
+pub record HeadsGoOut (side : Side) (log : Log) (call : Call) : Type 0 where
+  pub header : (k s at : ℕ) → call ≡ calls.PollOpening k → established (calls_of log) ≡ Some (s, at) → is_opening log k ≡ true → is_open log ≡ true → is_refused log k (head_left log k (stream_header k s)) ≡ false → IsOutAsFar side log call k (stream_header k s)
+  pub response : (accepts : Bool) (head : List ℕ) → response_by (handshake_state (calls_of log)) call ≡ Some (accepts, head) → is_open log ≡ true → is_refused log (requested (calls_of log)) (response_rest log head) ≡ false → IsOutAsFar side log call (requested (calls_of log)) head
+  pub request : (head : List ℕ) → call ≡ calls.Handshake → MaySend side log head → is_open log ≡ true → (local_count (actions_of log) (local_bi side) ≡ 0 → may_open side log (local_bi side) ≡ true)
+      → is_refused log (local_bi side) (head_left log (local_bi side) head) ≡ false → IsOutAsFar side log call (local_bi side) head
