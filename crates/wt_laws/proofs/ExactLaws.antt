@@ -217,7 +217,7 @@ module _ (side : Side) (log : Log) where
   reply-of : (x y : Effect) (r : Reply) → x ≡ y → Gives r y → Gives r x
   reply-of x y r e p = ap (λ (z : Effect). z.reply) e ∙ p
 
-  by-response : (call : Call) (accepts : Bool) (head : List ℕ) → response_by (handshake_state (calls_of log)) call ≡ Some (accepts, head) → (waiting : CallRecord) × (call_effect side log call ≡ respond side log accepts head waiting)
+  pub by-response : (call : Call) (accepts : Bool) (head : List ℕ) → response_by (handshake_state (calls_of log)) call ≡ Some (accepts, head) → (waiting : CallRecord) × (call_effect side log call ≡ respond side log accepts head waiting)
   unfolding call_effect
   by-response (calls.Accept headers) accepts head e = let p : (true, response_head (codes "200") headers) ≡ (accepts, head) = cc in (ResponseStarted true (response_head (codes "200") headers), ap (λ (x : Bool × List ℕ). respond side log x.0 x.1 (ResponseStarted true (response_head (codes "200") headers))) p)
   by-response calls.Forbidden accepts head e = let p : (false, response_bytes (codes "403")) ≡ (accepts, head) = cc in (ResponseStarted false (response_bytes (codes "403")), ap (λ (x : Bool × List ℕ). respond side log x.0 x.1 (ResponseStarted false (response_bytes (codes "403")))) p)

@@ -25,6 +25,7 @@ pub mod SessionStream
 pub mod AllSends
 pub mod WrittenLaws
 pub mod CreditLaws
+pub mod HeadSends
 pub mod RunLaws
 pub mod ExactLaws
 pub mod Theorems

@@ -65,10 +65,10 @@ on-server : (side : Side) (cs : List CallRecord) (k : ℕ) (b : Bool) → is_cli
 on-server side cs k true c e i = absurd (cc)
 on-server side cs k false c e i = ap (λ (b : Bool). if b then k == local_bi side else list_any (delivers k) cs) (sym c) ∙ i
 
-for-client : (side : Side) (cs : List CallRecord) (k : ℕ) → is_client side ≡ true → k ≡ local_bi side → is_session_stream side cs k ≡ true
+pub for-client : (side : Side) (cs : List CallRecord) (k : ℕ) → is_client side ≡ true → k ≡ local_bi side → is_session_stream side cs k ≡ true
 for-client side cs k c e = ap (λ (b : Bool). if b then k == local_bi side else list_any (delivers k) cs) c ∙ eq-eqb k (local_bi side) e
 
-for-server : (side : Side) (cs : List CallRecord) (k : ℕ) → is_client side ≡ false → list_any (delivers k) cs ≡ true → is_session_stream side cs k ≡ true
+pub for-server : (side : Side) (cs : List CallRecord) (k : ℕ) → is_client side ≡ false → list_any (delivers k) cs ≡ true → is_session_stream side cs k ≡ true
 for-server side cs k c e = ap (λ (b : Bool). if b then k == local_bi side else list_any (delivers k) cs) c ∙ e
 
 -- a stream of the session stays so
@@ -161,7 +161,7 @@ module _ (side : Side) (frame : Option (List ℕ)) where
           not-started log k h i (h.heads.local_accepted k l a)
       at false c = request-not-given log k h (on-server side (calls_of log) k false c refl i) a
 
-  not-control-stream : (log : Log) (k : ℕ) → Out side frame log → is_session_stream side (calls_of log) k ≡ true → k ≢ local_uni side
+  pub not-control-stream : (log : Log) (k : ℕ) → Out side frame log → is_session_stream side (calls_of log) k ≡ true → k ≢ local_uni side
   not-control-stream log k h i e = at (is_client side) refl
     where
       other : (sd : Side) → local_bi sd ≢ local_uni sd

@@ -9,10 +9,12 @@ use Rattle.wt_wire.specs.declared.lookup.Lookup.{Lookup}
 use Rattle.wt_wire.specs.declared.side.Side.{Side}
 use Rattle.wt_laws.proofs.AfterEnd.{nothing-after-end}
 use Rattle.wt_laws.proofs.CauseLaws.{actions-have-causes, reply-has-cause}
+use Rattle.wt_laws.proofs.CreditLaws.{within-credit}
 use Rattle.wt_laws.proofs.Cutting.{cuts-well}
 use Rattle.wt_laws.proofs.DatagramLaws.{datagrams-in-order}
 use Rattle.wt_laws.proofs.EndLaws.{fault-closes, open-exactly, result-stays}
 use Rattle.wt_laws.proofs.ExactLaws.{asks-first, connect-goes-on, connects-answer, receiving-calls, request-goes-on, requests-answer, responses-answer, sending-calls, session-calls}
+use Rattle.wt_laws.proofs.HeadSends.{heads-go-out}
 use Rattle.wt_laws.proofs.HeaderLaws.{headers-out}
 use Rattle.wt_laws.proofs.PendingLaws.{none-waits-ended, pending-exactly}
 use Rattle.wt_laws.proofs.Reached.{reachable}
@@ -25,8 +27,8 @@ use Rattle.wt_laws.proofs.SettingsLaws.{settings-out}
 use Rattle.wt_laws.proofs.StreamLaws.{streams-accepted-rightly}
 use Rattle.wt_laws.proofs.TakenLaws.{taken-goes-out}
 use Rattle.wt_laws.proofs.WrittenLaws.{sends-all}
-use Rattle.wt_laws.specs.Exactly.{AsksFirst, ConnectGoesOn, ConnectsAnswer, MaySend, ReceivingCallsAnswer, RequestGoesOn, RequestsAnswer, ResponsesAnswer, SendingCallsAnswer, SessionCallsAnswer}
-use Rattle.wt_laws.specs.Laws.{ActionsHaveCauses, CutsWell, DatagramsInOrder, FaultCloses, HeadersOut, NothingAfterEnd, OneSession, OpenExactly, ReadsFromStart, ReadsInOrder, ReplyHasCause, ResultStays, SendsAll, SendsEnd, SendsInOrder, SessionStreamOut, SessionTold, SessionsRightly, SettingsOut, StreamsAcceptedRightly, TakenGoesOut}
+use Rattle.wt_laws.specs.Exactly.{AsksFirst, ConnectGoesOn, ConnectsAnswer, HeadsGoOut, MaySend, ReceivingCallsAnswer, RequestGoesOn, RequestsAnswer, ResponsesAnswer, SendingCallsAnswer, SessionCallsAnswer}
+use Rattle.wt_laws.specs.Laws.{ActionsHaveCauses, CutsWell, DatagramsInOrder, FaultCloses, HeadersOut, NothingAfterEnd, OneSession, OpenExactly, ReadsFromStart, ReadsInOrder, ReplyHasCause, ResultStays, SendsAll, SendsEnd, SendsInOrder, SessionStreamOut, SessionTold, SessionsRightly, SettingsOut, StreamsAcceptedRightly, TakenGoesOut, WithinCredit}
 use Rattle.wt_laws.specs.Left.{PendingExactly, is_pending}
 use Rattle.wt_laws.specs.Reachable.{AllLawful, IsReachable, exchanges}
 use Rattle.wt_laws.specs.ReplyCauses.{is_call}
@@ -35,6 +37,7 @@ use Rattle.wt_spec.specs.Answers.{answer_to, is_lawful, log_from}
 use Rattle.wt_spec.specs.Driver.{established}
 use Rattle.wt_spec.specs.Halves.{has_receiving_half, has_sending_half}
 use Rattle.wt_spec.specs.Handshake.{Connecting, handshake_state}
+use Rattle.wt_turn.specs.declared.turn.Turn.TheVariants as turns
 
 pub sessions_theorem : (side : Side) (log : Log) → IsReachable side log → SessionsRightly side log
 sessions_theorem = sessions-rightly
@@ -146,3 +149,9 @@ own_reads_theorem = reads-from-start
 
 pub sends_all_theorem : (side : Side) (all : List Turn) → AllLawful side [] all → SendsAll side (exchanges side all) (log_from side [] all)
 sends_all_theorem = sends-all
+
+pub within_credit_theorem : (side : Side) (log : Log) → IsReachable side log → WithinCredit side log
+within_credit_theorem = within-credit
+
+pub heads_theorem : (side : Side) (log : Log) (call : Call) → IsReachable side log → is_lawful side log (turns.Call call) ≡ true → HeadsGoOut side log call
+heads_theorem = heads-go-out

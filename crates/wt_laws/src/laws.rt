@@ -1,7 +1,7 @@
 //! The laws, each a function with an empty body whose contract is the law.
 ghost use Rattle.std.specs.Prelude.{◌≡◌, ◌++◌, ℕ, List, [], Option, Some, true, false};
-ghost use Rattle.wt_laws.specs.Exactly.{AsksFirst, ConnectGoesOn, ConnectsAnswer, MaySend, ReceivingCallsAnswer, RequestGoesOn, RequestsAnswer, ResponsesAnswer, SendingCallsAnswer, SessionCallsAnswer};
-ghost use Rattle.wt_laws.specs.Laws.{ActionsHaveCauses, CutsWell, DatagramsInOrder, FaultCloses, HeadersOut, NothingAfterEnd, OneSession, OpenExactly, ReadsFromStart, ReadsInOrder, ReplyHasCause, ResultStays, SendsAll, SendsEnd, SendsInOrder, SessionStreamOut, SessionTold, SessionsRightly, SettingsOut, StreamsAcceptedRightly, TakenGoesOut};
+ghost use Rattle.wt_laws.specs.Exactly.{AsksFirst, ConnectGoesOn, ConnectsAnswer, HeadsGoOut, MaySend, ReceivingCallsAnswer, RequestGoesOn, RequestsAnswer, ResponsesAnswer, SendingCallsAnswer, SessionCallsAnswer};
+ghost use Rattle.wt_laws.specs.Laws.{ActionsHaveCauses, CutsWell, DatagramsInOrder, FaultCloses, HeadersOut, NothingAfterEnd, OneSession, OpenExactly, ReadsFromStart, ReadsInOrder, ReplyHasCause, ResultStays, SendsAll, SendsEnd, SendsInOrder, SessionStreamOut, SessionTold, SessionsRightly, SettingsOut, StreamsAcceptedRightly, TakenGoesOut, WithinCredit};
 ghost use Rattle.wt_laws.specs.Left.{PendingExactly, is_pending};
 ghost use Rattle.wt_laws.specs.Reachable.{AllLawful, IsReachable, exchanges};
 ghost use Rattle.wt_laws.specs.ReplyCauses.{is_call};
@@ -13,6 +13,7 @@ ghost use Rattle.wt_spec.specs.Handshake.{Connecting, handshake_state};
 ghost use Rattle.wt_turn.specs.Log.{Log, calls_of, is_open};
 ghost use Rattle.wt_turn.specs.declared.call.Call.{Call};
 ghost use Rattle.wt_turn.specs.declared.turn.Turn.{Turn};
+ghost use Rattle.wt_turn.specs.declared.turn.Turn.TheVariants as turns;
 ghost use Rattle.wt_wire.specs.HeaderList.{Fields};
 ghost use Rattle.wt_wire.specs.declared.lookup.ConnectOutcome.{ConnectOutcome};
 ghost use Rattle.wt_wire.specs.declared.lookup.Lookup.{Lookup};
@@ -87,6 +88,14 @@ pub fn settings_go_out()
 #[tactic(auto, using(crate::proofs::Theorems::headers_theorem))]
 pub fn headers_go_out()
     ensures headers { (side : Side) (log : Log) → IsReachable side log → HeadersOut side log }
+{}
+
+/// What goes out on a stream stays within its credit, and a call that goes on with a head sends as
+/// much of it as credit allows.
+#[tactic(auto, using(crate::proofs::Theorems::within_credit_theorem, crate::proofs::Theorems::heads_theorem))]
+pub fn heads_go_out_as_credit_allows()
+    ensures within { (side : Side) (log : Log) → IsReachable side log → WithinCredit side log }
+    ensures heads { (side : Side) (log : Log) (call : Call) → IsReachable side log → is_lawful side log (turns.Call call) ≡ true → HeadsGoOut side log call }
 {}
 
 /// On a stream that was given exactly what writes accept goes out, and nothing after its end.
