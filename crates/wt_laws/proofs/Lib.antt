@@ -24,6 +24,7 @@ pub mod PendingLaws
 pub mod SessionStream
 pub mod AllSends
 pub mod WrittenLaws
+pub mod OrderLaws
 pub mod CreditLaws
 pub mod HeadSends
 pub mod RunLaws

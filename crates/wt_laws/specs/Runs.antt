@@ -1,5 +1,5 @@
 -- What a run of turns is, what later moments leave as it was, and what comes after the end.
-use Rattle.std.specs.Prelude.{[], ◌++◌, ◌∷◌, ◌≡◌, List, Some, false, length, true, ℕ}
+use Rattle.std.specs.Prelude.{[], ◌<◌, ◌%◌, ◌++◌, ◌∷◌, ◌≡◌, List, Some, false, length, true, ℕ}
 use Rattle.std.specs.List.{list_any}
 use Rattle.wt_proto.specs.declared.verdict.Verdict.{Verdict}
 use Rattle.wt_turn.specs.Log.{Log, calls_of}
@@ -42,3 +42,13 @@ pub record StaysSo (side : Side) (earlier later : Log) : Type 0 where
 pub record DoneLate (side : Side) (log : Log) (turn : Turn) : Type 0 where
   pub reply : (answer_to side log turn).reply ≡ replies.Done
   pub actions : (answer_to side log turn).actions ≡ []
+
+-- the streams of this kind in the list were opened after stream k (RFC 9000, section 2.1)
+abbrev pub AllLater : ℕ → ℕ → List Classified → Type 0
+AllLater kind k [] = Unit {0}
+AllLater kind k (c ∷ cs) = (c.id % 4 ≡ kind → k < c.id) × AllLater kind k cs
+
+-- the streams of this kind stand in the order in which they were opened
+abbrev pub InOrderOfOpening : ℕ → List Classified → Type 0
+InOrderOfOpening kind [] = Unit {0}
+InOrderOfOpening kind (c ∷ cs) = (c.id % 4 ≡ kind → AllLater kind c.id cs) × InOrderOfOpening kind cs
