@@ -5,11 +5,12 @@ ghost use Rattle.wt_laws.specs.Laws.{ActionsHaveCauses, CutsWell, DatagramsInOrd
 ghost use Rattle.wt_laws.specs.Left.{PendingExactly, is_pending};
 ghost use Rattle.wt_laws.specs.Reachable.{AllLawful, IsReachable, exchanges};
 ghost use Rattle.wt_laws.specs.ReplyCauses.{is_call};
-ghost use Rattle.wt_laws.specs.Runs.{DoneLate, RunsLawful, RunsLongest, StaysSo};
+ghost use Rattle.wt_laws.specs.Runs.{DoneLate, InOrderOfOpening, RunsLawful, RunsLongest, StaysSo};
 ghost use Rattle.wt_spec.specs.Answers.{answer_to, is_lawful, log_from};
-ghost use Rattle.wt_spec.specs.Driver.{established};
+ghost use Rattle.wt_spec.specs.Driver.{established, stream_table};
 ghost use Rattle.wt_spec.specs.Halves.{has_receiving_half, has_sending_half};
 ghost use Rattle.wt_spec.specs.Handshake.{Connecting, handshake_state};
+ghost use Rattle.wt_seam_spec.specs.Streams.{peer_bi};
 ghost use Rattle.wt_turn.specs.Log.{Log, calls_of, is_open};
 ghost use Rattle.wt_turn.specs.declared.call.Call.{Call};
 ghost use Rattle.wt_turn.specs.declared.turn.Turn.{Turn};
@@ -35,9 +36,10 @@ pub fn sessions_are_established_rightly()
 {}
 
 /// A stream that an accept gives is the peer's, of the session, and given once; the first in the
-/// order in which streams were classified.
-#[tactic(auto, using(crate::proofs::Theorems::accepted_theorem))]
+/// order in which streams were classified, which for bidirectional ones is that of their opening.
+#[tactic(auto, using(crate::proofs::Theorems::accepted_theorem, crate::proofs::Theorems::order_theorem))]
 pub fn streams_are_accepted_rightly()
+    ensures order { (side : Side) (log : Log) → InOrderOfOpening (peer_bi side) (stream_table side log).classified }
     ensures accepted { (side : Side) (log : Log) (turn : Turn) → IsReachable side log → is_lawful side log turn ≡ true → StreamsAcceptedRightly side log turn }
 {}
 
