@@ -53,7 +53,7 @@ own-within : (side : Side) (turn : Turn) (own : List Action) (log : Log) → Own
 own-within side turn [] log c p = p
 own-within side turn (a ∷ own) log c p = own-within side turn own (Sent a ∷ log) c.1 (record { within = λ k. rw (with-piece k a (sent_on (actions_of log) k)) (sent-within side turn log k a c.0 (p.within k)); none = p.none })
 
-closed-flush : (side : Side) (e : Entry) (log : Log) → is_open (e ∷ log) ≡ false → log_and_flush side log e ≡ e ∷ log
+pub closed-flush : (side : Side) (e : Entry) (log : Log) → is_open (e ∷ log) ≡ false → log_and_flush side log e ≡ e ∷ log
 unfolding flush
 closed-flush side e log o = ap (λ (b : Bool). apply_if b (with_actions (pending_actions side (e ∷ log))) (e ∷ log)) (closed (is_moment e) (is_open (e ∷ log)) o)
   where

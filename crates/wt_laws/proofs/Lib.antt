@@ -27,6 +27,7 @@ pub mod WrittenLaws
 pub mod OrderLaws
 pub mod CreditLaws
 pub mod HeadSends
+pub mod LateLaws
 pub mod RunLaws
 pub mod ExactLaws
 pub mod Theorems
