@@ -1,30 +1,46 @@
 -- What comes after the end changes no later answer.
-use Rattle.std.specs.Prelude.{[], ◌%◌, ◌&&◌, ◌*◌, ◌++◌, ◌+◌, ◌-◌, ◌/◌, ◌==◌, ◌||◌, ◌∷◌, ◌≡◌, ◌≤◌, Bool, List, None, Option, Some, drop, false, if◌then◌else◌, is_some, length, nat_lt, not, slice_get, suc, take, true, zero, ℕ, ℤ}
-use Rattle.std.proofs.Common.{◌∙◌, ap, arith, refl, subst, sym}
+use Rattle.std.specs.Prelude.{[], ◌%◌, ◌&&◌, ◌*◌, ◌+◌, ◌-◌, ◌==◌, ◌||◌, ◌∷◌, ◌≡◌, Bool, List, None, Option, Some, drop, false, if◌then◌else◌, is_some, length, nat_lt, not, slice_get, suc, take, true, zero, ℕ, ℤ}
+use Rattle.std.proofs.Common.{◌∙◌, ap, refl, subst, sym}
 use Rattle.std.proofs.lemmas.Bool.{and_parts}
 use Rattle.std.specs.List.{list_any}
 use Rattle.wt_proto.specs.ResponseWalk.{response_walk_of}
 use Rattle.wt_proto.specs.declared.response_walk.ResponseWalk.{ResponseWalk}
+use Rattle.wt_seam_spec.specs.Arrivals.{event_entry}
+use Rattle.wt_seam_spec.specs.Joined.{joined}
 use Rattle.wt_seam_spec.specs.Outgoing.{if_open}
 use Rattle.wt_seam_spec.specs.Reports.{datagram_fact, datagrams_of, end_of, is_acknowledged, is_connected, loss_of, stop_of}
 use Rattle.wt_seam_spec.specs.Sent.{is_finished, is_reset, priority_of, resets, sent_on}
 use Rattle.wt_seam_spec.specs.Streams.{contents, local_bi, local_count, local_uni, peer_bi, peer_count, peer_uni}
-use Rattle.wt_turn.specs.Log.{BytesRead, CallRecord, Called, DatagramPassed, DatagramReceived, Event, HandshakeOver, Log, OpeningFailed, Polled, PrioritySet, ReportedLate, RequestDelivered, ResetUnsent, StreamAccepted, StreamGivenUp, actions_of, calls_of, ends_by, events_of, is_open, with_actions}
+use Rattle.wt_turn.specs.Log.{Acked, BytesRead, CallRecord, Called, Connected, Datagram, DatagramLimit, DatagramPassed, DatagramReceived, End, Event, HandshakeOver, Log, Loss, MaxBi, MaxData, MaxUni, OpeningFailed, PeerBi, PeerUni, Polled, PrioritySet, ReportedLate, RequestDelivered, Reset, ResetUnsent, Stop, StreamAccepted, StreamGivenUp, actions_of, calls_of, events_of, is_open, with_actions}
 use Rattle.wt_turn.specs.declared.action.Action.{Action}
+use Rattle.wt_turn.specs.declared.answer.Answer.{Answer}
+use Rattle.wt_turn.specs.declared.call.Call.{Call}
+use Rattle.wt_turn.specs.declared.connecting_error.ConnectingError.{ConnectingError}
+use Rattle.wt_turn.specs.declared.connection_error.ConnectionError.{ConnectionError}
 use Rattle.wt_turn.specs.declared.reply.Reply.{Reply}
 use Rattle.wt_turn.specs.declared.stream_error.StreamWriteError.{StreamWriteError}
+use Rattle.wt_turn.specs.declared.turn.Turn.{Turn}
+use Rattle.wt_wire.specs.Codes.{code_of}
 use Rattle.wt_wire.specs.declared.side.Side.{Side}
 use Rattle.wt_wire.specs.declared.side.StreamEnd.{StreamEnd}
 use Rattle.wt_laws.proofs.CreditLaws.{closed-flush}
 use Rattle.wt_laws.proofs.Classified.{next-is-due}
-use Rattle.wt_spec.specs.Answers.{in_session}
-use Rattle.wt_spec.specs.Connection.{accept_due, accept_first, accept_stream, accepts_stream, close_connection, ends_opening, first_of, give_or_pass, is_due, is_for_session, is_opening, next_datagram, next_due, open_stream, poll_opening, read_datagram, send_datagram, starts_opening}
-use Rattle.wt_spec.specs.Driver.{apply_if, call_view, established, log_and_flush, releases, settled_datagrams, stream_table, transport_view}
+use Rattle.wt_laws.proofs.RunLaws.{late-bytes, none-since}
+use Rattle.wt_laws.specs.Reachable.{AllLawful}
+use Rattle.wt_laws.specs.Runs.{LateChangesNothing}
+use Rattle.wt_spec.specs.Answers.{actions_since, answer_to, answers_from, call_effect, in_session, is_client, is_first, is_lawful, log_after, may_call, receive, turn_effect}
+use Rattle.wt_spec.specs.Connection.{accept_due, accept_first, accept_stream, accepts_stream, close_connection, ends_opening, first_of, give_or_pass, is_due, is_for_session, is_opening, next_datagram, next_due, open_stream, payload_limit, poll_opening, read_datagram, receive_datagram, receive_first, receive_next, receive_or_pass, send_datagram, starts_opening}
+use Rattle.wt_spec.specs.Driver.{apply_if, call_view, delivers, established, flush, log_and_flush, releases, settings_came, settled_datagrams, stream_table, transport_view}
 use Rattle.wt_spec.specs.Scan.{scan_order}
-use Rattle.wt_spec.specs.Effect.{Effect, driver_error, error_of_ending, head_left, log_call, loss_or_local, pending_or_failed, poll_only, reply_with, transport_error}
-use Rattle.wt_spec.specs.Halves.{at_stream_end, body_offset, exact_at_end, finish, finishing, gives_up, has_receiving_half, has_sending_half, is_done, on_half, read, read_exact, read_reply, reset, set_priority, stop_receiving, stopped_reply, total_read, unread, write_by, write_error}
-use Rattle.wt_spec.specs.StreamTable.{ByFault, BySession, Classified, Ending, StreamTable, awaits_accept, only, verdict_of}
+use Rattle.wt_spec.specs.Effect.{Effect, closing, driver_error, error_of_ending, head_left, is_empty, log_call, loss_or_local, pending_or_failed, poll_only, reply_with, transport_error}
+use Rattle.wt_spec.specs.Halves.{all_written_reply, at_stream_end, body_offset, exact_at_end, finish, finishing, gives_up, has_receiving_half, has_sending_half, is_done, on_half, priority, read, read_exact, read_reply, reset, set_priority, stop_receiving, stopped, stopped_reply, total_read, unread, write, write_all, write_by, write_error, written_reply}
+use Rattle.wt_spec.specs.Handshake.{Connecting, HandshakeState, Responding, await_or_fail, await_response, continue_by, continue_connect, continue_handshake, deliver, fail_connect, handshake_state, has_success, incoming, lost, open_request, queued_requests, read_response, respond, send_request, unless_reserved}
+use Rattle.wt_spec.specs.StreamTable.{ByFault, BySession, Classified, Ending, StreamTable, awaits_accept, awaits_delivery, only, verdict_of}
 use Rattle.wt_turn.specs.declared.action.Action.TheVariants as actions
+use Rattle.wt_turn.specs.declared.call.Call.TheVariants as calls
+use Rattle.wt_turn.specs.declared.connecting_error.ConnectingError.TheVariants as connects
+use Rattle.wt_proto.specs.declared.response_walk.ResponseWalk.TheVariants as responses
+use Rattle.wt_turn.specs.declared.turn.Turn.TheVariants as turns
 use Rattle.wt_wire.specs.declared.side.StreamEnd.TheVariants as ends
 use Rattle.wt_turn.specs.declared.reply.Reply.TheVariants as replies
 use Rattle.wt_turn.specs.declared.stream_error.StreamWriteError.TheVariants as writes
@@ -279,3 +295,188 @@ module _ (side : Side) (a b : Log) (p : EndedAlike side a b) where
 
   alike-stop : (k code : ℕ) → Alike side a b (stop_receiving side a k code) (stop_receiving side b k code)
   alike-stop k code = leaf side a b p (if_open a (actions.StopOut k code)) (if_open b (actions.StopOut k code)) (StreamGivenUp k) (StreamGivenUp k) replies.Done replies.Done (none-if a (actions.StopOut k code) p.closed) (none-if b (actions.StopOut k code) p.closed_too) refl refl
+
+  -- ---- the handshake
+
+  alike-deliver : (cs : List Classified) → Alike side a b (deliver side a cs) (deliver side b cs)
+  alike-deliver (c ∷ cs) = leaf side a b p [] [] (RequestDelivered c.id) (RequestDelivered c.id) _ _ refl refl refl refl
+  alike-deliver [] = if-open side a b p (is_open a) (is_open b) _ _ _ _ p.closed p.closed_too (leaf side a b p [] [] HandshakeOver HandshakeOver _ _ refl refl refl (ap (λ e. replies.Failed e) same-driver))
+
+  same-queued : queued_requests side a ≡ queued_requests side b
+  same-queued =
+      ap (λ (t : StreamTable). if t.progress.settings then only (awaits_delivery (λ k. list_any (delivers k) (calls_of a))) t.classified else []) p.table
+      ∙ ap (λ (cs : List CallRecord). if (stream_table side b).progress.settings then only (awaits_delivery (λ k. list_any (delivers k) cs)) (stream_table side b).classified else []) p.calls
+
+  alike-incoming : Alike side a b (incoming side a) (incoming side b)
+  alike-incoming = subst (λ cs. Alike side a b (deliver side a (queued_requests side a)) (deliver side b cs)) same-queued (alike-deliver (queued_requests side a))
+
+  alike-respond : (accepts : Bool) (head : List ℕ) (waiting : CallRecord) → Alike side a b (respond side a accepts head waiting) (respond side b accepts head waiting)
+  alike-respond true head waiting = not-open side a b p (is_open a) (is_open b) _ _ _ _ p.closed p.closed_too (leaf side a b p [] [] HandshakeOver HandshakeOver _ _ refl refl refl (ap (λ e. replies.Failed e) same-transport))
+  alike-respond false head waiting = not-open side a b p (is_open a) (is_open b) _ _ _ _ p.closed p.closed_too (leaf side a b p [] [] HandshakeOver HandshakeOver _ _ refl refl refl refl)
+
+  failing : (e f : ConnectingError) → e ≡ f → Alike side a b (fail_connect side a [] e) (fail_connect side b [] f)
+  failing e f q = leaf side a b p [] [] HandshakeOver HandshakeOver _ _ refl refl refl (ap (λ x. replies.ConnectFailed x) q)
+
+  abandoning : (code : ℕ) (e f : ConnectingError) → e ≡ f → Alike side a b (fail_connect side a (closing a code) e) (fail_connect side b (closing b code) f)
+  abandoning code e f q = leaf side a b p (closing a code) (closing b code) HandshakeOver HandshakeOver _ _ (none-if a (actions.Close code []) p.closed) (none-if b (actions.Close code []) p.closed_too) refl (ap (λ x. replies.ConnectFailed x) q)
+
+  same-lost : lost a ≡ lost b
+  same-lost = ap (λ e. connects.ConnectionError e) same-transport
+
+  alike-walk : (id : ℕ) (r : ResponseWalk) → Alike side a b (read_response side a id [] r) (read_response side b id [] r)
+  alike-walk id (responses.Fault code) = abandoning (code_of code) _ _ refl
+  alike-walk id responses.Ended = abandoning 0 _ _ same-lost
+  alike-walk id responses.Waiting = if-open side a b p (is_open a) (is_open b) _ _ _ _ p.closed p.closed_too (failing _ _ same-lost)
+  alike-walk id (responses.Response fields at) =
+      same-if side a b p (not (has_success fields)) (not (has_success fields)) _ _ _ _ refl (λ s. abandoning 0 _ _ refl)
+      (λ s. if-open side a b p (is_open a) (is_open b) _ _ _ _ p.closed p.closed_too (failing _ _ (ap (λ e. connects.ConnectionError e) same-driver)))
+
+  alike-await : (id : ℕ) → Alike side a b (await_response side a id []) (await_response side b id [])
+  alike-await id =
+      subst (λ r. Alike side a b (read_response side a id [] (response_walk_of (contents a id) (end_of (events_of a) id))) (read_response side b id [] r))
+      (ap (λ xs. response_walk_of xs (end_of (events_of a) id)) (p.contents id) ∙ ap (λ es. response_walk_of (contents b id) (end_of es id)) p.events) (alike-walk id (response_walk_of (contents a id) (end_of (events_of a) id)))
+
+  alike-send : (id : ℕ) (left : List ℕ) → Alike side a b (send_request side a id [] left) (send_request side b id [] left)
+  alike-send id left =
+      same-if side a b p (is_empty left) (is_empty left) _ _ _ _ refl (λ e. alike-await id) (λ e. not-open side a b p (is_open a) (is_open b) _ _ _ _ p.closed p.closed_too (failing _ _ same-lost))
+
+  alike-request : (head : List ℕ) → Alike side a b (open_request side a head) (open_request side b head)
+  alike-request head =
+      same-if side a b p (not (local_count (actions_of a) (local_bi side) == 0)) (not (local_count (actions_of b) (local_bi side) == 0)) _ _ _ _ (ap (λ as_. not (local_count as_ (local_bi side) == 0)) p.actions)
+      (λ n. subst (λ xs. Alike side a b (send_request side a (local_bi side) [] (head_left a (local_bi side) head)) (send_request side b (local_bi side) [] xs)) (same-left (local_bi side) head) (alike-send (local_bi side) (head_left a (local_bi side) head)))
+      (λ n. not-open side a b p (is_open a) (is_open b) _ _ _ _ p.closed p.closed_too (failing _ _ same-lost))
+
+  alike-reserved : (reserved : Option (List ℕ)) (head : List ℕ) → Alike side a b (unless_reserved side a reserved head) (unless_reserved side b reserved head)
+  alike-reserved (Some name) head = abandoning 0 _ _ refl
+  alike-reserved None head = alike-request head
+
+  alike-waiting : (e f : ConnectionError) → e ≡ f → Alike side a b (await_or_fail side a e) (await_or_fail side b f)
+  alike-waiting e f q = if-open side a b p (is_open a) (is_open b) _ _ _ _ p.closed p.closed_too (failing _ _ (ap (λ x. connects.ConnectionError x) q))
+
+  alike-connect : (reserved : Option (List ℕ)) (head : List ℕ) → Alike side a b (continue_connect side a reserved head) (continue_connect side b reserved head)
+  alike-connect reserved head =
+      same-if side a b p (not (is_connected (events_of a))) (not (is_connected (events_of b))) _ _ _ _ (ap (λ es. not (is_connected es)) p.events) (λ c. alike-waiting _ _ same-transport)
+      (λ c. same-if side a b p (settings_came side a) (settings_came side b) _ _ _ _ (ap (λ (t : StreamTable). t.progress.settings) p.table) (λ s. alike-reserved reserved head) (λ s. alike-waiting _ _ same-driver))
+
+  alike-continue : (s : HandshakeState) → Alike side a b (continue_by s side a) (continue_by s side b)
+  alike-continue (Responding accepts head) = alike-respond accepts head Polled
+  alike-continue (Connecting reserved head) = alike-connect reserved head
+  alike-continue _ = polled _ _ refl
+
+  alike-handshake : Alike side a b (continue_handshake side a) (continue_handshake side b)
+  alike-handshake = subst (λ cs. Alike side a b (continue_by (handshake_state (calls_of a)) side a) (continue_by (handshake_state cs) side b)) p.calls (alike-continue (handshake_state (calls_of a)))
+
+-- ---- datagrams
+
+alike-next : (side : Side) (again too : Log → Effect) (s : ℕ) (a b : Log) (p : EndedAlike side a b) → (EndedAlike side (log_call side a [] DatagramPassed) (log_call side b [] DatagramPassed) → Alike side (log_call side a [] DatagramPassed) (log_call side b [] DatagramPassed) (again (log_call side a [] DatagramPassed)) (too (log_call side b [] DatagramPassed)))
+    → (o : Option (ℕ × List ℕ)) → Alike side a b (receive_next side again s a o) (receive_next side too s b o)
+alike-next side again too s a b p f None = polled side a b p _ _ (same-wait side a b p)
+alike-next side again too s a b p f (Some d) = at (4 * d.0 == s)
+  where
+    at : (m : Bool) → Alike side a b (receive_or_pass m side again a d.1) (receive_or_pass m side too b d.1)
+    at true = settled side a b p DatagramReceived DatagramReceived _ _ refl refl
+    at false =
+        let x = leaf side a b p [] [] DatagramPassed DatagramPassed replies.Done replies.Done refl refl refl refl in
+        let y = f x.after in
+        record { reply = y.reply; after = y.after; none = y.none ∙ x.none }
+
+alike-receive : (side : Side) (n s : ℕ) (a b : Log) → EndedAlike side a b → Alike side a b (receive_first n side s a) (receive_first n side s b)
+alike-receive side zero s a b p = polled side a b p _ _ (same-wait side a b p)
+alike-receive side (suc n) s a b p =
+    subst (λ o. Alike side a b (receive_next side (λ later. receive_first n side s later) s a (next_datagram side a)) (receive_next side (λ later. receive_first n side s later) s b o)) (same-datagram side a b p)
+    (alike-next side (λ later. receive_first n side s later) (λ later. receive_first n side s later) s a b p (alike-receive side n s _ _) (next_datagram side a))
+
+-- ---- every turn
+
+not-first : (side : Side) (log : Log) → is_open log ≡ false → (is_client side && is_first log) ≡ true → ⊥
+not-first side [] o l = absurd (cc)
+not-first side (e ∷ log) o l = absurd (let x = (and_parts (is_client side) false l).1 in cc)
+
+alike-call : (side : Side) (a b : Log) → EndedAlike side a b → (c : Call) → may_call side a c ≡ true → Alike side a b (call_effect side a c) (call_effect side b c)
+unfolding call_effect
+alike-call side a b p (calls.Connect options lookup outcome) l = absurd (not-first side a p.closed l)
+alike-call side a b p calls.Incoming l = alike-incoming side a b p
+alike-call side a b p (calls.Accept headers) l = alike-respond side a b p true _ _
+alike-call side a b p calls.Forbidden l = alike-respond side a b p false _ _
+alike-call side a b p calls.NotFound l = alike-respond side a b p false _ _
+alike-call side a b p calls.TooManyRequests l = alike-respond side a b p false _ _
+alike-call side a b p calls.Handshake l = alike-handshake side a b p
+alike-call side a b p (calls.EndpointClose code reason) l = alike-close side a b p code reason
+alike-call side a b p calls.AcceptUni l = in-session side a b p _ _ (λ s. alike-accept side a b p replies.Uni (peer_uni side) s)
+alike-call side a b p calls.AcceptBi l = in-session side a b p _ _ (λ s. alike-accept side a b p replies.Bi (peer_bi side) s)
+alike-call side a b p calls.ReceiveDatagram l =
+    in-session side a b p _ _ (λ s. subst (λ es. Alike side a b (receive_datagram side a s) (receive_first (suc (length (datagrams_of es))) side s b)) p.events (alike-receive side (suc (length (datagrams_of (events_of a)))) s a b p))
+alike-call side a b p calls.OpenUni l = in-session side a b p _ _ (λ s. alike-open side a b p (local_uni side) s)
+alike-call side a b p calls.OpenBi l = in-session side a b p _ _ (λ s. alike-open side a b p (local_bi side) s)
+alike-call side a b p (calls.PollOpening id) l = in-session side a b p _ _ (λ s. alike-poll side a b p id s)
+alike-call side a b p (calls.SendDatagram payload) l = in-session side a b p _ _ (λ s. alike-datagram side a b p payload s)
+alike-call side a b p calls.MaxDatagramSize l = in-session side a b p _ _ (λ s. polled side a b p _ _ (ap (λ es. replies.Size (payload_limit s (datagram_fact es))) p.events))
+alike-call side a b p calls.SessionId l = in-session side a b p _ _ (λ s. polled side a b p _ _ refl)
+alike-call side a b p (calls.Close code reason) l = in-session side a b p _ _ (λ s. alike-close side a b p code reason)
+alike-call side a b p calls.Closed l = in-session side a b p _ _ (λ s. polled side a b p _ _ (closed-reply side a b p (is_open a) (is_open b) _ _ _ _ p.closed p.closed_too (ap (λ e. replies.Closed e) (same-transport side a b p))))
+alike-call side a b p (calls.Write id bytes) l = on-half side a b p _ _ _ (λ k. write side b k bytes) id (same-sending side a b p id) (alike-write side a b p written_reply id bytes)
+alike-call side a b p (calls.WriteAll id bytes) l = on-half side a b p _ _ _ (λ k. write_all side b k bytes) id (same-sending side a b p id) (alike-write side a b p all_written_reply id bytes)
+alike-call side a b p (calls.Finish id) l = on-half side a b p _ _ _ (λ k. finish side b k) id (same-sending side a b p id) (alike-finish side a b p id)
+alike-call side a b p (calls.Stopped id) l = on-half side a b p _ _ _ (λ k. stopped side b k) id (same-sending side a b p id) (polled side a b p _ _ (same-stopped side a b p id (λ e. replies.StoppedBy e) (replies.StoppedBy writes.Closed)))
+alike-call side a b p (calls.Priority id) l = on-half side a b p _ _ _ (λ k. priority side b k) id (same-sending side a b p id) (polled side a b p _ _ (same-priority side a b p id))
+alike-call side a b p (calls.SetPriority id n) l = on-half side a b p _ _ _ (λ k. set_priority side b k n) id (same-sending side a b p id) (alike-set side a b p id n)
+alike-call side a b p (calls.ResetSend id code) l = on-half side a b p _ _ _ (λ k. reset side b k code) id (same-sending side a b p id) (alike-reset side a b p id code)
+alike-call side a b p (calls.Read id size) l = on-half side a b p _ _ _ (λ k. read side b k size) id (same-receiving side a b p id) (alike-read side a b p id size)
+alike-call side a b p (calls.ReadExact id size) l = on-half side a b p _ _ _ (λ k. read_exact side b k size) id (same-receiving side a b p id) (alike-exact side a b p id size)
+alike-call side a b p (calls.StopRecv id code) l = on-half side a b p _ _ _ (λ k. stop_receiving side b k code) id (same-receiving side a b p id) (alike-stop side a b p id code)
+
+late-logged : (side : Side) (log : Log) (e : Event) (b : Bool) → b ≡ false → flush side (event_entry b e ∷ log) ≡ ReportedLate e ∷ log
+unfolding flush
+late-logged side log e true o = absurd (cc)
+late-logged side log e false o = refl
+
+alike-event : (side : Side) (a b : Log) (e : Event) → EndedAlike side a b → Alike side a b (reply_with (flush side (event_entry (is_open a) e ∷ a)) replies.Done) (reply_with (flush side (event_entry (is_open b) e ∷ b)) replies.Done)
+alike-event side a b e p = record {
+  reply = refl;
+  after = subst (λ g. EndedAlike side (flush side (event_entry (is_open a) e ∷ a)) g) (sym (late-logged side b e (is_open b) p.closed_too)) (subst (λ g. EndedAlike side g (ReportedLate e ∷ b)) (sym (late-logged side a e (is_open a) p.closed)) (both-late side e a b p));
+  none = ap actions_of (late-logged side a e (is_open a) p.closed);
+}
+
+alike-turn : (side : Side) (a b : Log) → EndedAlike side a b → (t : Turn) → is_lawful side a t ≡ true → Alike side a b (turn_effect side a t) (turn_effect side b t)
+alike-turn side a b p (turns.Call c) l = alike-call side a b p c l
+alike-turn side a b p (turns.Bytes id piece) l = record {
+  reply = refl;
+  after = subst (λ g. EndedAlike side (receive side a id piece) g) (sym (late-bytes side b id piece p.closed_too)) (subst (λ g. EndedAlike side g b) (sym (late-bytes side a id piece p.closed)) p);
+  none = ap actions_of (late-bytes side a id piece p.closed);
+}
+alike-turn side a b p (turns.Connected uni bi credit fact) l = alike-event side a b (Connected uni bi credit fact) p
+alike-turn side a b p turns.PeerUni l = alike-event side a b PeerUni p
+alike-turn side a b p turns.PeerBi l = alike-event side a b PeerBi p
+alike-turn side a b p (turns.End id) l = alike-event side a b (End id) p
+alike-turn side a b p (turns.Reset id code) l = alike-event side a b (Reset id code) p
+alike-turn side a b p (turns.Stop id code) l = alike-event side a b (Stop id code) p
+alike-turn side a b p (turns.Acked id) l = alike-event side a b (Acked id) p
+alike-turn side a b p (turns.Datagram piece) l = alike-event side a b (Datagram piece) p
+alike-turn side a b p (turns.MaxUni total) l = alike-event side a b (MaxUni total) p
+alike-turn side a b p (turns.MaxBi total) l = alike-event side a b (MaxBi total) p
+alike-turn side a b p (turns.MaxData id total) l = alike-event side a b (MaxData id total) p
+alike-turn side a b p (turns.DatagramLimit fact) l = alike-event side a b (DatagramLimit fact) p
+alike-turn side a b p (turns.Loss reason) l = alike-event side a b (Loss reason) p
+
+abbrev record_of : Reply → List Action → Answer
+record_of reply actions = record { reply = reply; actions = actions }
+
+same-answer : (r s : Reply) (xs ys : List Action) → r ≡ s → xs ≡ ys → record_of r xs ≡ record_of s ys
+same-answer r s xs ys p q = ap (λ x. record_of x xs) p ∙ ap (record_of s) q
+
+since : (a x : Log) → actions_of x ≡ actions_of a → actions_since a x ≡ []
+since a x e = ap (λ as_. joined (take (length as_ - length (actions_of a)) as_)) e ∙ none-since (actions_of a)
+
+alike-answer : (side : Side) (a b : Log) (t : Turn) → EndedAlike side a b → Alike side a b (turn_effect side a t) (turn_effect side b t) → answer_to side a t ≡ answer_to side b t
+alike-answer side a b t p q =
+    same-answer (turn_effect side a t).reply (turn_effect side b t).reply (actions_since a (turn_effect side a t).log) (actions_since b (turn_effect side b t).log) q.reply
+    (since a (turn_effect side a t).log q.none ∙ sym (since b (turn_effect side b t).log (sym q.after.actions ∙ q.none ∙ p.actions)))
+
+alike-answers : (side : Side) (all : List Turn) (a b : Log) → EndedAlike side a b → AllLawful side a all → answers_from side a all ≡ answers_from side b all
+alike-answers side [] a b p l = refl
+alike-answers side (t ∷ later) a b p l =
+    let q = alike-turn side a b p t l.0 in
+    ap (λ x. x ∷ answers_from side (log_after side a t) later) (alike-answer side a b t p q) ∙ ap (λ xs. answer_to side b t ∷ xs) (alike-answers side later (log_after side a t) (log_after side b t) q.after l.1)
+
+pub late-changes-nothing : (side : Side) (log : Log) (e : Event) (all : List Turn) → LateChangesNothing side log e all
+late-changes-nothing side log e all o l = alike-answers side all (ReportedLate e ∷ log) log (late-alike side e log o) l

@@ -27,8 +27,8 @@ pub mod WrittenLaws
 pub mod OrderLaws
 pub mod CreditLaws
 pub mod HeadSends
-pub mod LateLaws
 pub mod RunLaws
+pub mod LateLaws
 pub mod ExactLaws
 pub mod Theorems
 pub mod Recorded
