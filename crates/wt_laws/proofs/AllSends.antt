@@ -1,27 +1,24 @@
 -- What goes out on any stream whose head is out: what writes accept, and nothing after its end.
-use Rattle.std.specs.Prelude.{[], ◌&&◌, ◌++◌, ◌==◌, ◌||◌, ◌∷◌, ◌≡◌, ◌≢◌, ◌⊎◌, Bool, List, None, Option, Some, false, true, ℕ}
+use Rattle.std.specs.Prelude.{◌&&◌, ◌++◌, ◌∷◌, ◌≡◌, List, None, Option, Some, false, true, ℕ}
 use Rattle.std.proofs.Common.{◌∙◌, ap, inl, inr, refl, subst, sym}
 use Rattle.std.proofs.lemmas.Bool.{and_from, and_parts, eqb-true, or_right}
 use Rattle.std.proofs.lemmas.List.{append-nil}
-use Rattle.std.specs.List.{list_any}
-use Rattle.wt_seam_spec.specs.Sent.{finishes, is_finished, is_reset, sent_on}
-use Rattle.wt_seam_spec.specs.Streams.{local_uni, peer_uni}
-use Rattle.wt_turn.specs.Log.{CallRecord, Log, actions_of, calls_of}
+use Rattle.wt_seam_spec.specs.Sent.{finishes, is_finished, sent_on}
+use Rattle.wt_turn.specs.Log.{Log, actions_of, calls_of}
 use Rattle.wt_turn.specs.declared.turn.Turn.{Turn}
 use Rattle.wt_wire.specs.declared.side.Side.{Side}
 use Rattle.wt_laws.proofs.Looks.{from-or}
 use Rattle.wt_laws.proofs.Reached.{keeps-turn}
 use Rattle.wt_laws.proofs.SendLaws.{given-sends, none-accepted}
 use Rattle.wt_laws.proofs.SessionLaws.{one-session}
-use Rattle.wt_laws.proofs.SessionStream.{Answers, Begins, Both, Connects, Out, SoFar, begins, is_unanswered, keeps-out, more-sessions, not-given, not-true-so, so-far-reached}
-use Rattle.wt_laws.proofs.Steps.{Keeps, KeepsEntries, by-entries}
-use Rattle.wt_laws.specs.Causes.{bytes_for, frame_of, is_under_way}
-use Rattle.wt_laws.specs.Laws.{SendsEnd, SendsInOrder, accepted_by, is_head_out, is_session_stream, is_stream_of, session_frame}
-use Rattle.wt_laws.specs.Reachable.{Exchange, IsReachable}
+use Rattle.wt_laws.proofs.SessionStream.{Answers, Begins, Both, Connects, begins, is_unanswered, keeps-out, more-sessions, not-given, not-true-so, so-far-reached}
+use Rattle.wt_laws.proofs.Steps.{KeepsEntries, by-entries}
+use Rattle.wt_laws.specs.Causes.{bytes_for, is_under_way}
+use Rattle.wt_laws.specs.Laws.{SendsEnd, SendsInOrder, accepted_by, is_session_stream, is_stream_of, session_frame}
+use Rattle.wt_laws.specs.Reachable.{IsReachable}
 use Rattle.wt_spec.specs.Answers.{answer_to, is_lawful, log_after}
 use Rattle.wt_spec.specs.Driver.{established}
 use Rattle.wt_spec.specs.Halves.{has_sending_half, is_accepted}
-use Rattle.wt_spec.specs.Handshake.{handshake_state}
 
 -- the frame of the session's stream is settled: no later call begins it
 record Settled (side : Side) (frame : Option (List ℕ)) (log : Log) (turn : Turn) : Type 0 where

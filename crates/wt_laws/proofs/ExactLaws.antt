@@ -1,5 +1,5 @@
 -- Where the causes of a reply hold, the call has that reply.
-use Rattle.std.specs.Prelude.{[], ◌&&◌, ◌++◌, ◌/◌, ◌==◌, ◌||◌, ◌∷◌, ◌≡◌, ◌≢◌, Bool, Err, List, None, Ok, Option, Result, Some, bytes_eq, codes, false, if◌then◌else◌, is_some, length, nat_lt, not, suc, take, true, zero, ℕ, ℤ}
+use Rattle.std.specs.Prelude.{[], ◌++◌, ◌/◌, ◌==◌, ◌||◌, ◌∷◌, ◌≡◌, ◌≢◌, Bool, Err, List, None, Ok, Option, Result, Some, bytes_eq, codes, false, if◌then◌else◌, is_some, length, nat_lt, not, suc, take, true, zero, ℕ}
 use Rattle.std.proofs.Common.{◌∙◌, ap, refl, subst, sym}
 use Rattle.std.proofs.lemmas.Bool.{and_parts, eq-eqb, eqb-true, not-true}
 use Rattle.url.specs.Parser.{parse_url}
@@ -7,13 +7,12 @@ use Rattle.url.specs.Parts.{Parts, host_or_empty}
 use Rattle.url.specs.declared.error.ParseError.{ParseError}
 use Rattle.wt_message.specs.Datagram.{datagram_bytes}
 use Rattle.wt_message.specs.FixedBytes.{response_bytes}
-use Rattle.wt_proto.specs.ResponseWalk.{response_walk_of}
 use Rattle.wt_proto.specs.declared.response_walk.ResponseWalk.{ResponseWalk}
 use Rattle.wt_seam_spec.specs.Outgoing.{covered, credit_left, may_open, next_id, opening}
 use Rattle.wt_seam_spec.specs.Joined.{send_of}
 use Rattle.wt_seam_spec.specs.Reports.{datagram_fact, end_of, is_acknowledged, is_connected, stop_of}
 use Rattle.wt_seam_spec.specs.Sent.{is_finished}
-use Rattle.wt_seam_spec.specs.Streams.{contents, local_bi, local_count, local_uni}
+use Rattle.wt_seam_spec.specs.Streams.{local_bi, local_count, local_uni}
 use Rattle.wt_turn.specs.Log.{CallRecord, Log, Polled, ResponseStarted, actions_of, calls_of, events_of, is_open}
 use Rattle.wt_turn.specs.declared.action.Action.{Action}
 use Rattle.wt_turn.specs.declared.call.Call.{Call}
@@ -23,7 +22,6 @@ use Rattle.wt_turn.specs.declared.reply.Reply.{Reply}
 use Rattle.wt_turn.specs.declared.stream_error.StreamWriteError.{StreamWriteError}
 use Rattle.wt_wire.specs.HeaderList.{Fields}
 use Rattle.wt_wire.specs.declared.addr.Addr.{Addr}
-use Rattle.wt_wire.specs.declared.error.ErrorCode.{ErrorCode}
 use Rattle.wt_wire.specs.declared.lookup.ConnectOutcome.{ConnectOutcome}
 use Rattle.wt_wire.specs.declared.lookup.Lookup.{Lookup}
 use Rattle.wt_wire.specs.declared.side.Side.{Side}
@@ -219,7 +217,7 @@ module _ (side : Side) (log : Log) where
   reply-of : (x y : Effect) (r : Reply) → x ≡ y → Gives r y → Gives r x
   reply-of x y r e p = ap (λ (z : Effect). z.reply) e ∙ p
 
-  by-response : (call : Call) (accepts : Bool) (head : List ℕ) → response_by (handshake_state (calls_of log)) call ≡ Some (accepts, head) → (waiting : CallRecord) × (call_effect side log call ≡ respond side log accepts head waiting)
+  pub by-response : (call : Call) (accepts : Bool) (head : List ℕ) → response_by (handshake_state (calls_of log)) call ≡ Some (accepts, head) → (waiting : CallRecord) × (call_effect side log call ≡ respond side log accepts head waiting)
   unfolding call_effect
   by-response (calls.Accept headers) accepts head e = let p : (true, response_head (codes "200") headers) ≡ (accepts, head) = cc in (ResponseStarted true (response_head (codes "200") headers), ap (λ (x : Bool × List ℕ). respond side log x.0 x.1 (ResponseStarted true (response_head (codes "200") headers))) p)
   by-response calls.Forbidden accepts head e = let p : (false, response_bytes (codes "403")) ≡ (accepts, head) = cc in (ResponseStarted false (response_bytes (codes "403")), ap (λ (x : Bool × List ℕ). respond side log x.0 x.1 (ResponseStarted false (response_bytes (codes "403")))) p)

@@ -24,7 +24,11 @@ pub mod PendingLaws
 pub mod SessionStream
 pub mod AllSends
 pub mod WrittenLaws
+pub mod OrderLaws
+pub mod CreditLaws
+pub mod HeadSends
 pub mod RunLaws
+pub mod LateLaws
 pub mod ExactLaws
 pub mod Theorems
 pub mod Recorded

@@ -1,6 +1,6 @@
 -- Pending is answered exactly where nothing is left for a call, and the connection is open.
 use Rattle.std.specs.Prelude.{[], ◌&&◌, ◌+◌, ◌<◌, ◌*◌, ◌++◌, ◌/◌, ◌==◌, ◌||◌, ◌∷◌, ◌≡◌, ◌≤◌, Bool, Err, List, None, Ok, Option, Result, Some, bytes_eq, codes, drop, false, if◌then◌else◌, is_ok, is_some, length, nat_lt, not, suc, take, true, zero, ℕ}
-use Rattle.std.proofs.Common.{◌∙◌, ap, arith, length-take, refl, subst, sym}
+use Rattle.std.proofs.Common.{◌∙◌, ap, arith, length-take, refl, sym}
 use Rattle.std.proofs.lemmas.Bool.{and_parts, or_parts}
 use Rattle.std.specs.List.{list_any}
 use Rattle.url.specs.Parser.{parse_url}
@@ -19,7 +19,6 @@ use Rattle.wt_turn.specs.Log.{CallRecord, Called, DatagramPassed, Log, StreamPas
 use Rattle.wt_turn.specs.declared.action.Action.{Action}
 use Rattle.wt_turn.specs.declared.call.Call.{Call}
 use Rattle.wt_turn.specs.declared.connecting_error.ConnectingError.{ConnectingError}
-use Rattle.wt_turn.specs.declared.connection_error.ConnectionError.{ConnectionError}
 use Rattle.wt_turn.specs.declared.datagram_fact.DatagramFact.{DatagramFact}
 use Rattle.wt_turn.specs.declared.reply.Reply.{Reply}
 use Rattle.wt_turn.specs.declared.stream_error.StreamWriteError.{StreamWriteError}
@@ -36,15 +35,15 @@ use Rattle.wt_laws.proofs.During.{actions-extend, extend, flush-extends}
 use Rattle.wt_laws.proofs.Looks.{at-first, events-logged, left_to_release, next-within, pass-drops}
 use Rattle.wt_laws.proofs.Steps.{calls-logged}
 use Rattle.wt_laws.specs.Causes.{FoundDatagram, FoundStream, accepted_kind, is_accept, is_receive}
-use Rattle.wt_laws.specs.Left.{PassesDatagram, PassesNone, PassesStream, PassesTo, PendingExactly, awaits_response, connect_waits, datagram_reply, goes_on, handshake_waits, has_no_credit, has_no_stream, has_nothing_left, is_none_queued, is_pending, is_settled, is_waiting, lacks_credit, lacks_stream, may_dial, of_session, passing_reply, rejection_waits, request_waits, response_waits, session_reply, stream_reply, write_waits}
+use Rattle.wt_laws.specs.Left.{PassesDatagram, PassesNone, PassesStream, PassesTo, PendingExactly, awaits_response, connect_waits, datagram_reply, handshake_waits, has_no_stream, has_nothing_left, is_none_queued, is_pending, is_waiting, lacks_credit, may_dial, of_session, passing_reply, rejection_waits, request_waits, response_waits, session_reply, stream_reply}
 use Rattle.wt_laws.specs.Laws.{GoesOnFrom}
 use Rattle.wt_spec.specs.Answers.{answer_to, call_effect, in_session, is_client, is_first, is_lawful, may_call, on_session, turn_effect}
 use Rattle.wt_spec.specs.Connect.{address_of, connect_to, outcome_error, port_of, unless_stopped, with_address}
-use Rattle.wt_spec.specs.Connection.{accept_due, accept_first, accept_stream, close_connection, continue_opening, datagram_allowed, datagram_within, give_or_pass, is_for_session, is_opening, next_datagram, next_due, open_stream, opened_reply, pass_stream, poll_opening, receive_datagram, receive_first, receive_next, receive_or_pass, send_datagram, stream_header}
+use Rattle.wt_spec.specs.Connection.{accept_due, accept_first, accept_stream, datagram_allowed, datagram_within, give_or_pass, is_for_session, is_opening, next_datagram, next_due, open_stream, pass_stream, poll_opening, receive_datagram, receive_first, receive_next, receive_or_pass, send_datagram, stream_header}
 use Rattle.wt_spec.specs.Driver.{established, session_id, settings_came, settled_datagrams}
 use Rattle.wt_spec.specs.Effect.{Effect, head_left, is_covered, is_empty, log_call, pending_or_failed, poll_only}
 use Rattle.wt_spec.specs.Halves.{all_written_reply, at_stream_end, exact_at_end, has_receiving_half, has_sending_half, is_done, on_half, read, read_exact, read_reply, reset, stopped_reply, unread, write_by, write_error, written_reply}
-use Rattle.wt_spec.specs.Handshake.{Connecting, HandshakeState, Responding, accept_response, await_or_fail, await_response, continue_by, continue_connect, deliver, finish_rejection, handshake_state, has_success, is_continuable, is_refused, open_request, queued_requests, read_response, reject_response, requested, respond, response_head, send_request, start_response, unless_reserved}
+use Rattle.wt_spec.specs.Handshake.{Connecting, HandshakeState, Responding, accept_response, continue_by, continue_connect, deliver, handshake_state, has_success, is_continuable, is_refused, open_request, queued_requests, read_response, reject_response, requested, respond, response_head, send_request, unless_reserved}
 use Rattle.wt_spec.specs.StreamTable.{Classified}
 use Rattle.wt_turn.specs.declared.action.Action.TheVariants as actions
 use Rattle.wt_wire.specs.declared.error.ErrorCode.TheVariants as h3

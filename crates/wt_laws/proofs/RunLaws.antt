@@ -1,10 +1,9 @@
 -- Runs of turns, what stays, and what comes after the end.
-use Rattle.std.specs.Prelude.{[], ◌++◌, ◌-◌, ◌==◌, ◌||◌, ◌∷◌, ◌≡◌, ◌≤◌, Bool, List, None, Option, Some, false, if◌then◌else◌, length, take, true, ℕ}
-use Rattle.std.proofs.Common.{◌∙◌, ap, arith, refl, subst, sym}
+use Rattle.std.specs.Prelude.{[], ◌++◌, ◌-◌, ◌==◌, ◌∷◌, ◌≡◌, Bool, List, false, if◌then◌else◌, length, take, true, ℕ}
+use Rattle.std.proofs.Common.{◌∙◌, ap, arith, refl, sym}
 use Rattle.std.proofs.lemmas.Bool.{or_right}
 use Rattle.std.proofs.lemmas.List.{append-nil, append_assoc}
 use Rattle.std.specs.List.{list_any}
-use Rattle.wt_proto.specs.declared.verdict.Verdict.{Verdict}
 use Rattle.wt_seam_spec.specs.Arrivals.{event_entry}
 use Rattle.wt_seam_spec.specs.Joined.{joined}
 use Rattle.wt_turn.specs.Log.{Acked, CallRecord, Called, Connected, Datagram, DatagramLimit, End, Entry, Event, Log, Loss, MaxBi, MaxData, MaxUni, PeerBi, PeerUni, Received, Reset, Stop, actions_of, calls_of, is_open}
@@ -12,16 +11,15 @@ use Rattle.wt_turn.specs.declared.action.Action.{Action}
 use Rattle.wt_turn.specs.declared.turn.Turn.{Turn}
 use Rattle.wt_wire.specs.declared.side.Side.{Side}
 use Rattle.wt_laws.proofs.Classified.{classified-stays, of-classified}
-use Rattle.wt_laws.proofs.Moments.{Causes, IsKept, kept}
+use Rattle.wt_laws.proofs.Moments.{kept}
 use Rattle.wt_laws.proofs.SessionLaws.{settings-stay}
 use Rattle.wt_laws.specs.Reachable.{AllLawful}
 use Rattle.wt_laws.specs.ReplyCauses.{is_call}
 use Rattle.wt_laws.specs.Runs.{DoneLate, RunsLawful, RunsLongest, StaysSo}
-use Rattle.wt_spec.specs.Answers.{AtUnlawful, Finished, Run, RunEnd, actions_since, answer_to, answers_from, is_lawful, log_after, log_from, receive, run_from, turn_effect, with_answer}
+use Rattle.wt_spec.specs.Answers.{AtUnlawful, Finished, Run, actions_since, answer_to, answers_from, is_lawful, log_after, log_from, receive, run_from, with_answer}
 use Rattle.wt_spec.specs.Driver.{delivers, flush, log_and_flush, releases, stream_table}
-use Rattle.wt_spec.specs.Effect.{Effect}
 use Rattle.wt_spec.specs.Scan.{has}
-use Rattle.wt_spec.specs.StreamTable.{Classified, Consequence, StreamTable}
+use Rattle.wt_spec.specs.StreamTable.{Classified}
 use Rattle.wt_turn.specs.declared.turn.Turn.TheVariants as turns
 
 -- ---- runs
@@ -128,7 +126,7 @@ stays-behind side (e ∷ more) log =
 
 -- ---- after the end
 
-none-since : (xs : List Action) → joined (take (length xs - length xs) xs) ≡ []
+pub none-since : (xs : List Action) → joined (take (length xs - length xs) xs) ≡ []
 none-since xs = ap (λ n. joined (take n xs)) (nothing (length xs))
   where
     nothing : (n : ℕ) → n - n ≡ 0
@@ -139,7 +137,7 @@ unfolding flush
 late-event side log e true o = absurd (cc)
 late-event side log e false o = none-since (actions_of log)
 
-late-bytes : (side : Side) (log : Log) (id : ℕ) (piece : List ℕ) → is_open log ≡ false → receive side log id piece ≡ log
+pub late-bytes : (side : Side) (log : Log) (id : ℕ) (piece : List ℕ) → is_open log ≡ false → receive side log id piece ≡ log
 late-bytes side log id [] o = refl
 late-bytes side log id (b ∷ piece) o = ap (λ (c : Bool). receive side (if c then log_and_flush side log (Received id b) else log) id piece) o ∙ late-bytes side log id piece o
 

@@ -1,7 +1,7 @@
 -- The session's own stream: what goes out on it is the frame of its request or of its response, and nothing else.
-use Rattle.std.specs.Prelude.{[], ◌&&◌, ◌++◌, ◌+◌, ◌/◌, ◌%◌, ◌<◌, ◌==◌, ◌||◌, ◌∷◌, ◌≡◌, ◌≢◌, ◌≤◌, ◌⊎◌, Bool, Err, List, None, Ok, Option, Result, Some, codes, drop, false, if◌then◌else◌, is_some, length, nat_lt, not, suc, take, true, unwrap_or, zero, ℕ}
-use Rattle.std.proofs.Common.{◌∙◌, ap, arith, inl, inr, length-take, refl, subst, sym}
-use Rattle.std.proofs.lemmas.Bool.{and_parts, eq-eqb, eqb-true, not-true, or_left, or_parts, or_right}
+use Rattle.std.specs.Prelude.{[], ◌&&◌, ◌++◌, ◌+◌, ◌/◌, ◌%◌, ◌==◌, ◌||◌, ◌∷◌, ◌≡◌, ◌≢◌, ◌⊎◌, Bool, List, None, Option, Some, codes, drop, false, if◌then◌else◌, is_some, length, nat_lt, not, suc, take, true, unwrap_or, zero, ℕ}
+use Rattle.std.proofs.Common.{◌∙◌, ap, arith, inl, inr, refl, subst, sym}
+use Rattle.std.proofs.lemmas.Bool.{and_parts, eq-eqb, eqb-true, not-true, or_parts, or_right}
 use Rattle.std.proofs.lemmas.List.{append-nil, drop_all}
 use Rattle.std.specs.List.{list_any}
 use Rattle.std.specs.Option.{option_or}
@@ -11,11 +11,10 @@ use Rattle.wt_seam_spec.specs.Outgoing.{covered, credit_left}
 use Rattle.wt_seam_spec.specs.Reports.{credit, is_acknowledged, stop_of, unis_allowed}
 use Rattle.wt_seam_spec.specs.Sent.{finishes, is_finished, sent_on}
 use Rattle.wt_seam_spec.specs.Streams.{local_bi, local_count, local_uni, opens, peer_uni}
-use Rattle.wt_turn.specs.Log.{CallRecord, Called, ConnectStarted, Entry, Event, HandshakeOver, Log, OpeningStarted, Polled, Received, Reported, ReportedLate, RequestDelivered, ResponseStarted, Sent, SessionEstablished, actions_of, calls_of, events_of, is_open, with_actions}
+use Rattle.wt_turn.specs.Log.{CallRecord, Called, ConnectStarted, Entry, HandshakeOver, Log, OpeningStarted, Polled, Received, Reported, ReportedLate, RequestDelivered, ResponseStarted, Sent, SessionEstablished, actions_of, calls_of, events_of, is_open, with_actions}
 use Rattle.wt_turn.specs.declared.action.Action.{Action}
 use Rattle.wt_turn.specs.declared.turn.Turn.{Turn}
 use Rattle.wt_wire.specs.Codes.{code_of}
-use Rattle.wt_wire.specs.HeaderList.{Fields}
 use Rattle.wt_wire.specs.declared.side.Side.{Side}
 use Rattle.wt_wire.specs.declared.side.Side.TheVariants.{Client, Server}
 use Rattle.wt_laws.proofs.Caused.{head-out}
@@ -24,15 +23,15 @@ use Rattle.wt_laws.proofs.HeaderLaws.{Heads, all-of-it, first-heads, further, he
 use Rattle.wt_laws.proofs.Looks.{from-or}
 use Rattle.wt_laws.proofs.Reached.{Law, holds, keeps-turn}
 use Rattle.wt_laws.proofs.ReadLaws.{local-unclassified}
-use Rattle.wt_laws.proofs.SendLaws.{given-entries, not-same}
+use Rattle.wt_laws.proofs.SendLaws.{not-same}
 use Rattle.wt_laws.proofs.Sends.{more-or-same, piece_on, with-piece}
 use Rattle.wt_laws.proofs.SessionLaws.{HadRequest, from-request, has_request, was-delivered}
 use Rattle.wt_laws.proofs.SettingsLaws.{ControlOut, first-control, keeps-control}
-use Rattle.wt_laws.proofs.Steps.{Brings, Keeps, KeepsEntries, by-entries, calls-logged, calls-with, of-record}
+use Rattle.wt_laws.proofs.Steps.{Keeps, KeepsEntries, by-entries, calls-logged, calls-with, of-record}
 use Rattle.wt_laws.specs.Causes.{ActionCause, ByAcceptance, ByAnswer, ByRejection, ByResponse, CallCause, EstablishCause, EstablishedBy, FinishCause, FromBefore, OfCall, OfHeader, OfRejection, OfRequest, OfResponse, OfWrite, OwnCauses, RecordCause, ResponseFrom, SendCause, frame_of, is_under_way}
 use Rattle.wt_laws.specs.Laws.{SessionStreamOut, is_session_stream, session_frame}
 use Rattle.wt_laws.specs.Reachable.{AfterTurn, AllLawful, AtStart, Exchange, IsReachable, exchanges}
-use Rattle.wt_spec.specs.Answers.{answer_to, call_effect, is_client, is_first, is_lawful, log_after, log_from, may_respond, turn_effect}
+use Rattle.wt_spec.specs.Answers.{answer_to, call_effect, is_client, is_first, is_lawful, log_after, log_from, may_respond}
 use Rattle.wt_spec.specs.Connection.{accepts_stream, starts_opening}
 use Rattle.wt_spec.specs.Driver.{ControlSent, apply_if, close_actions, control_actions, control_sent, delivers, established, flush, is_moment, log_and_flush, opened_if, pending_actions, session_id, stop_actions, stream_table}
 use Rattle.wt_spec.specs.Effect.{Effect, closing, head_left, is_covered, log_call}
@@ -66,10 +65,10 @@ on-server : (side : Side) (cs : List CallRecord) (k : ℕ) (b : Bool) → is_cli
 on-server side cs k true c e i = absurd (cc)
 on-server side cs k false c e i = ap (λ (b : Bool). if b then k == local_bi side else list_any (delivers k) cs) (sym c) ∙ i
 
-for-client : (side : Side) (cs : List CallRecord) (k : ℕ) → is_client side ≡ true → k ≡ local_bi side → is_session_stream side cs k ≡ true
+pub for-client : (side : Side) (cs : List CallRecord) (k : ℕ) → is_client side ≡ true → k ≡ local_bi side → is_session_stream side cs k ≡ true
 for-client side cs k c e = ap (λ (b : Bool). if b then k == local_bi side else list_any (delivers k) cs) c ∙ eq-eqb k (local_bi side) e
 
-for-server : (side : Side) (cs : List CallRecord) (k : ℕ) → is_client side ≡ false → list_any (delivers k) cs ≡ true → is_session_stream side cs k ≡ true
+pub for-server : (side : Side) (cs : List CallRecord) (k : ℕ) → is_client side ≡ false → list_any (delivers k) cs ≡ true → is_session_stream side cs k ≡ true
 for-server side cs k c e = ap (λ (b : Bool). if b then k == local_bi side else list_any (delivers k) cs) c ∙ e
 
 -- a stream of the session stays so
@@ -162,7 +161,7 @@ module _ (side : Side) (frame : Option (List ℕ)) where
           not-started log k h i (h.heads.local_accepted k l a)
       at false c = request-not-given log k h (on-server side (calls_of log) k false c refl i) a
 
-  not-control-stream : (log : Log) (k : ℕ) → Out side frame log → is_session_stream side (calls_of log) k ≡ true → k ≢ local_uni side
+  pub not-control-stream : (log : Log) (k : ℕ) → Out side frame log → is_session_stream side (calls_of log) k ≡ true → k ≢ local_uni side
   not-control-stream log k h i e = at (is_client side) refl
     where
       other : (sd : Side) → local_bi sd ≢ local_uni sd

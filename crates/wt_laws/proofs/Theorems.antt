@@ -1,6 +1,7 @@
 -- The laws, by the names that contracts cite.
 use Rattle.std.specs.Prelude.{[], ◌++◌, ◌≡◌, List, Option, Some, false, true, ℕ}
-use Rattle.wt_turn.specs.Log.{Log, calls_of, is_open}
+use Rattle.wt_seam_spec.specs.Streams.{peer_bi}
+use Rattle.wt_turn.specs.Log.{Event, Log, calls_of, is_open}
 use Rattle.wt_turn.specs.declared.call.Call.{Call}
 use Rattle.wt_turn.specs.declared.turn.Turn.{Turn}
 use Rattle.wt_wire.specs.HeaderList.{Fields}
@@ -9,11 +10,15 @@ use Rattle.wt_wire.specs.declared.lookup.Lookup.{Lookup}
 use Rattle.wt_wire.specs.declared.side.Side.{Side}
 use Rattle.wt_laws.proofs.AfterEnd.{nothing-after-end}
 use Rattle.wt_laws.proofs.CauseLaws.{actions-have-causes, reply-has-cause}
+use Rattle.wt_laws.proofs.CreditLaws.{within-credit}
 use Rattle.wt_laws.proofs.Cutting.{cuts-well}
 use Rattle.wt_laws.proofs.DatagramLaws.{datagrams-in-order}
 use Rattle.wt_laws.proofs.EndLaws.{fault-closes, open-exactly, result-stays}
 use Rattle.wt_laws.proofs.ExactLaws.{asks-first, connect-goes-on, connects-answer, receiving-calls, request-goes-on, requests-answer, responses-answer, sending-calls, session-calls}
+use Rattle.wt_laws.proofs.HeadSends.{heads-go-out}
 use Rattle.wt_laws.proofs.HeaderLaws.{headers-out}
+use Rattle.wt_laws.proofs.LateLaws.{late-changes-nothing}
+use Rattle.wt_laws.proofs.OrderLaws.{in-order-of-opening}
 use Rattle.wt_laws.proofs.PendingLaws.{none-waits-ended, pending-exactly}
 use Rattle.wt_laws.proofs.Reached.{reachable}
 use Rattle.wt_laws.proofs.ReadLaws.{reads-from-start, reads-in-order}
@@ -25,16 +30,17 @@ use Rattle.wt_laws.proofs.SettingsLaws.{settings-out}
 use Rattle.wt_laws.proofs.StreamLaws.{streams-accepted-rightly}
 use Rattle.wt_laws.proofs.TakenLaws.{taken-goes-out}
 use Rattle.wt_laws.proofs.WrittenLaws.{sends-all}
-use Rattle.wt_laws.specs.Exactly.{AsksFirst, ConnectGoesOn, ConnectsAnswer, MaySend, ReceivingCallsAnswer, RequestGoesOn, RequestsAnswer, ResponsesAnswer, SendingCallsAnswer, SessionCallsAnswer}
-use Rattle.wt_laws.specs.Laws.{ActionsHaveCauses, CutsWell, DatagramsInOrder, FaultCloses, HeadersOut, NothingAfterEnd, OneSession, OpenExactly, ReadsFromStart, ReadsInOrder, ReplyHasCause, ResultStays, SendsAll, SendsEnd, SendsInOrder, SessionStreamOut, SessionTold, SessionsRightly, SettingsOut, StreamsAcceptedRightly, TakenGoesOut}
+use Rattle.wt_laws.specs.Exactly.{AsksFirst, ConnectGoesOn, ConnectsAnswer, HeadsGoOut, MaySend, ReceivingCallsAnswer, RequestGoesOn, RequestsAnswer, ResponsesAnswer, SendingCallsAnswer, SessionCallsAnswer}
+use Rattle.wt_laws.specs.Laws.{ActionsHaveCauses, CutsWell, DatagramsInOrder, FaultCloses, HeadersOut, NothingAfterEnd, OneSession, OpenExactly, ReadsFromStart, ReadsInOrder, ReplyHasCause, ResultStays, SendsAll, SendsEnd, SendsInOrder, SessionStreamOut, SessionTold, SessionsRightly, SettingsOut, StreamsAcceptedRightly, TakenGoesOut, WithinCredit}
 use Rattle.wt_laws.specs.Left.{PendingExactly, is_pending}
 use Rattle.wt_laws.specs.Reachable.{AllLawful, IsReachable, exchanges}
 use Rattle.wt_laws.specs.ReplyCauses.{is_call}
-use Rattle.wt_laws.specs.Runs.{DoneLate, RunsLawful, RunsLongest, StaysSo}
+use Rattle.wt_laws.specs.Runs.{DoneLate, InOrderOfOpening, LateChangesNothing, RunsLawful, RunsLongest, StaysSo}
 use Rattle.wt_spec.specs.Answers.{answer_to, is_lawful, log_from}
-use Rattle.wt_spec.specs.Driver.{established}
+use Rattle.wt_spec.specs.Driver.{established, stream_table}
 use Rattle.wt_spec.specs.Halves.{has_receiving_half, has_sending_half}
 use Rattle.wt_spec.specs.Handshake.{Connecting, handshake_state}
+use Rattle.wt_turn.specs.declared.turn.Turn.TheVariants as turns
 
 pub sessions_theorem : (side : Side) (log : Log) → IsReachable side log → SessionsRightly side log
 sessions_theorem = sessions-rightly
@@ -146,3 +152,15 @@ own_reads_theorem = reads-from-start
 
 pub sends_all_theorem : (side : Side) (all : List Turn) → AllLawful side [] all → SendsAll side (exchanges side all) (log_from side [] all)
 sends_all_theorem = sends-all
+
+pub within_credit_theorem : (side : Side) (log : Log) → IsReachable side log → WithinCredit side log
+within_credit_theorem = within-credit
+
+pub heads_theorem : (side : Side) (log : Log) (call : Call) → IsReachable side log → is_lawful side log (turns.Call call) ≡ true → HeadsGoOut side log call
+heads_theorem = heads-go-out
+
+pub order_theorem : (side : Side) (log : Log) → InOrderOfOpening (peer_bi side) (stream_table side log).classified
+order_theorem = in-order-of-opening
+
+pub later_theorem : (side : Side) (log : Log) (e : Event) (all : List Turn) → LateChangesNothing side log e all
+later_theorem = late-changes-nothing

@@ -1,33 +1,32 @@
 -- On a stream that was given its head and the accepted bytes are out, all of them.
-use Rattle.std.specs.Prelude.{[], ◌%◌, ◌&&◌, ◌++◌, ◌==◌, ◌||◌, ◌∷◌, ◌≡◌, ◌≢◌, ◌⊎◌, Bool, List, None, Option, Some, false, if◌then◌else◌, is_some, not, true, ℕ}
-use Rattle.std.proofs.Common.{◌∙◌, ap, inl, inr, refl, subst, sym}
+use Rattle.std.specs.Prelude.{[], ◌++◌, ◌==◌, ◌||◌, ◌∷◌, ◌≡◌, ◌≢◌, Bool, List, None, Option, Some, false, if◌then◌else◌, is_some, true, ℕ}
+use Rattle.std.proofs.Common.{◌∙◌, ap, inl, refl, subst, sym}
 use Rattle.std.proofs.lemmas.Bool.{and_parts, eqb-true, or_right}
 use Rattle.std.proofs.lemmas.List.{append-nil, append_assoc}
 use Rattle.std.specs.List.{list_any}
 use Rattle.wt_seam_spec.specs.Sent.{sent_on}
-use Rattle.wt_seam_spec.specs.Streams.{local_bi, local_uni}
-use Rattle.wt_turn.specs.Log.{CallRecord, Called, Event, Log, Received, Reported, SessionEstablished, StreamAccepted, actions_of, calls_of, with_actions}
+use Rattle.wt_seam_spec.specs.Streams.{local_uni}
+use Rattle.wt_turn.specs.Log.{CallRecord, Called, Log, Received, Reported, SessionEstablished, StreamAccepted, actions_of, calls_of, with_actions}
 use Rattle.wt_turn.specs.declared.action.Action.{Action}
 use Rattle.wt_turn.specs.declared.turn.Turn.{Turn}
 use Rattle.wt_wire.specs.declared.side.Side.{Side}
-use Rattle.wt_laws.proofs.Facts.{IsSessions, found-sessions, is_local}
+use Rattle.wt_laws.proofs.Facts.{found-sessions, is_local}
 use Rattle.wt_laws.proofs.HeaderLaws.{all-of-it, no-new-session}
 use Rattle.wt_laws.proofs.Reached.{Law, holds, keeps-turn}
 use Rattle.wt_laws.proofs.ReadLaws.{local-unclassified}
 use Rattle.wt_laws.proofs.SendLaws.{alone, flush-other, flushed-accept, given-sends, none-accepted, not-same, other-own}
-use Rattle.wt_laws.proofs.Sends.{sends_of, sent-with}
+use Rattle.wt_laws.proofs.Sends.{sent-with}
 use Rattle.wt_laws.proofs.SessionLaws.{one-session}
-use Rattle.wt_laws.proofs.SessionStream.{Both, Out, SoFar, TurnStart, keeps-out, not-true-so, out-own, so-far, so-far-turn, start-of-turn}
+use Rattle.wt_laws.proofs.SessionStream.{Both, Out, SoFar, keeps-out, not-true-so, out-own, so-far, so-far-turn, start-of-turn}
 use Rattle.wt_laws.proofs.Steps.{Keeps, KeepsEntries, blind-flush, by-entries, calls-with, of-record}
-use Rattle.wt_laws.specs.Causes.{AcceptCause, ByAccept, ByOpening, CallCause, OwnCauses, RecordCause, bytes_for, frame_of, is_accept, polls_opening}
-use Rattle.wt_laws.specs.Laws.{SendsAll, accepted_by, head_of, is_of_this_end, written_on}
+use Rattle.wt_laws.specs.Causes.{AcceptCause, ByAccept, ByOpening, OwnCauses, RecordCause, bytes_for, frame_of, is_accept, polls_opening}
+use Rattle.wt_laws.specs.Laws.{SendsAll, accepted_by, head_of, written_on}
 use Rattle.wt_laws.specs.Reachable.{AfterTurn, AllLawful, AtStart, Exchange, IsReachable, exchanges}
 use Rattle.wt_spec.specs.Answers.{answer_to, is_lawful, log_after, log_from}
 use Rattle.wt_spec.specs.Connection.{accepts_stream, starts_opening, stream_header}
-use Rattle.wt_spec.specs.Driver.{delivers, established, log_and_flush, session_id, stream_table}
+use Rattle.wt_spec.specs.Driver.{delivers, established, session_id}
 use Rattle.wt_spec.specs.Effect.{head_left}
 use Rattle.wt_spec.specs.Halves.{has_sending_half, is_accepted}
-use Rattle.wt_spec.specs.StreamTable.{verdict_of}
 use Rattle.wt_turn.specs.declared.call.Call.TheVariants as calls
 use Rattle.wt_turn.specs.declared.turn.Turn.TheVariants as turns
 

@@ -1,5 +1,5 @@
 -- Which reply a call has, row by row: where the causes of a reply hold, the call has that reply. (Accepts and receives: Left.)
-use Rattle.std.specs.Prelude.{[], ◌/◌, ◌==◌, ◌∷◌, ◌≡◌, ◌≢◌, Bool, Err, List, None, Ok, Option, Some, bytes_eq, codes, false, is_some, length, nat_lt, take, true, ℕ, ℤ}
+use Rattle.std.specs.Prelude.{[], ◌/◌, ◌==◌, ◌∷◌, ◌≡◌, ◌≢◌, Bool, Err, List, None, Ok, Option, Some, bytes_eq, codes, false, length, nat_lt, take, true, ℕ, ℤ}
 use Rattle.url.specs.Parser.{parse_url}
 use Rattle.url.specs.Parts.{Parts, host_or_empty}
 use Rattle.url.specs.declared.error.ParseError.{ParseError}
@@ -8,15 +8,14 @@ use Rattle.wt_message.specs.FixedBytes.{response_bytes}
 use Rattle.wt_proto.specs.ResponseWalk.{response_walk_of}
 use Rattle.wt_proto.specs.declared.response_walk.ResponseWalk.{ResponseWalk}
 use Rattle.wt_seam_spec.specs.Outgoing.{covered, may_open, next_id}
-use Rattle.wt_seam_spec.specs.Reports.{datagram_fact, end_of, is_connected, stop_of}
-use Rattle.wt_seam_spec.specs.Sent.{priority_of}
+use Rattle.wt_seam_spec.specs.Reports.{credit, datagram_fact, end_of, is_connected, stop_of}
+use Rattle.wt_seam_spec.specs.Sent.{priority_of, sent_on}
 use Rattle.wt_seam_spec.specs.Streams.{contents, local_bi, local_count, local_uni}
-use Rattle.wt_turn.specs.Log.{Log, actions_of, calls_of, events_of, is_open}
+use Rattle.wt_turn.specs.Log.{Log, actions_of, all_events_of, calls_of, events_of, is_open}
 use Rattle.wt_turn.specs.declared.call.Call.{Call}
 use Rattle.wt_turn.specs.declared.connecting_error.ConnectingError.{ConnectingError}
 use Rattle.wt_turn.specs.declared.reply.Reply.{Reply}
 use Rattle.wt_turn.specs.declared.stream_error.StreamWriteError.{StreamWriteError}
-use Rattle.wt_turn.specs.declared.turn.Turn.{Turn}
 use Rattle.wt_wire.specs.HeaderList.{Fields}
 use Rattle.wt_wire.specs.declared.addr.Addr.{Addr}
 use Rattle.wt_wire.specs.declared.error.ErrorCode.{ErrorCode}
@@ -25,12 +24,12 @@ use Rattle.wt_wire.specs.declared.lookup.Lookup.{Lookup}
 use Rattle.wt_wire.specs.declared.side.Side.{Side}
 use Rattle.wt_laws.specs.Left.{is_settled}
 use Rattle.wt_laws.specs.ReplyCauses.{asks_for_session, half_of}
-use Rattle.wt_spec.specs.Answers.{answer_to}
+use Rattle.wt_spec.specs.Answers.{answer_to, log_after}
 use Rattle.wt_spec.specs.Connect.{address_of, outcome_error, port_of}
 use Rattle.wt_spec.specs.Connection.{is_opening, opened_reply, payload_limit, stream_header}
 use Rattle.wt_spec.specs.Driver.{established, settings_came}
 use Rattle.wt_spec.specs.Effect.{driver_error, head_left, is_covered, is_empty, transport_error}
-use Rattle.wt_spec.specs.Halves.{has_receiving_half, has_sending_half, is_done, unread, write_error}
+use Rattle.wt_spec.specs.Halves.{is_done, unread, write_error}
 use Rattle.wt_spec.specs.Handshake.{Connecting, HandshakeState, Responding, handshake_state, has_success, is_refused, lost, queued_requests, request_fields_of, requested, response_head}
 use Rattle.wt_spec.specs.StreamTable.{Classified}
 use Rattle.wt_turn.specs.declared.call.Call.TheVariants as calls
@@ -60,6 +59,7 @@ pub record AsksFirst (side : Side) (log : Log) (call : Call) : Type 0 where
 
 -- ---- the calls on session s
 
+-- what opens, polls of openings, sends of datagrams and the questions about the session answer, and closes
 pub record SessionCallsAnswer (side : Side) (log : Log) (s : ℕ) : Type 0 where
   pub uni_ended : is_open log ≡ false → reply_to side log calls.OpenUni ≡ replies.Failed (transport_error log)
   pub uni_opens : is_open log ≡ true → may_open side log (local_uni side) ≡ true → reply_to side log calls.OpenUni ≡ replies.Opening (next_id side log (local_uni side))
@@ -84,6 +84,7 @@ pub record SessionCallsAnswer (side : Side) (log : Log) (s : ℕ) : Type 0 where
 
 -- ---- the calls on a sending half that the application has
 
+-- what writes, finishes, resets and the questions about the half answer, each in its order
 pub record SendingCallsAnswer (side : Side) (log : Log) (k : ℕ) : Type 0 where
   pub write_failed : (bytes : List ℕ) (e : StreamWriteError) → write_error log k ≡ Some e → reply_to side log (calls.Write k bytes) ≡ replies.WriteFailed e
   pub write_none : write_error log k ≡ None → reply_to side log (calls.Write k []) ≡ replies.Written 0
@@ -105,6 +106,7 @@ pub record SendingCallsAnswer (side : Side) (log : Log) (k : ℕ) : Type 0 where
 
 -- ---- the calls on a receiving half that the application has
 
+-- what reads answer, by the bytes that are unread and then by the end of the stream
 pub record ReceivingCallsAnswer (side : Side) (log : Log) (k : ℕ) : Type 0 where
   pub read_none : reply_to side log (calls.Read k 0) ≡ replies.Read (Some [])
   pub read : (size b : ℕ) (more : List ℕ) → (size == 0) ≡ false → unread side log k ≡ b ∷ more → reply_to side log (calls.Read k size) ≡ replies.Read (Some (take size (b ∷ more)))
@@ -132,6 +134,7 @@ response_by state call = None
 abbrev pub response_rest : Log → List ℕ → List ℕ
 response_rest log head = head_left log (requested (calls_of log)) head
 
+-- An acceptance or a rejection, in its order: the connection's end, the peer's stop, then the response that is out.
 pub record ResponsesAnswer (side : Side) (log : Log) (call : Call) : Type 0 where
   pub accept_ended : (head : List ℕ) → response_by (handshake_state (calls_of log)) call ≡ Some (true, head) → is_open log ≡ false → reply_to side log call ≡ replies.Failed (transport_error log)
   pub accept_refused : (head : List ℕ) → response_by (handshake_state (calls_of log)) call ≡ Some (true, head) → is_open log ≡ true → is_refused log (requested (calls_of log)) (response_rest log head) ≡ true
@@ -143,12 +146,14 @@ pub record ResponsesAnswer (side : Side) (log : Log) (call : Call) : Type 0 wher
   pub rejected : (head : List ℕ) → response_by (handshake_state (calls_of log)) call ≡ Some (false, head) → is_open log ≡ true → is_refused log (requested (calls_of log)) (response_rest log head) ≡ false → is_covered log (requested (calls_of log)) (response_rest log head) ≡ true
       → is_settled log (requested (calls_of log)) ≡ true → reply_to side log call ≡ replies.Rejected
 
+-- a call for a request gives the first that is queued, and without one fails once the connection has ended
 pub record RequestsAnswer (side : Side) (log : Log) : Type 0 where
   pub request : (queued : Classified) (later : List Classified) → queued_requests side log ≡ queued ∷ later → reply_to side log calls.Incoming ≡ replies.Request queued.id (request_fields_of queued.verdict)
   pub ended : queued_requests side log ≡ [] → is_open log ≡ false → reply_to side log calls.Incoming ≡ replies.Failed (driver_error side log)
 
 -- ---- a client's handshake
 
+-- A connect that doesn't dial fails for the first of these: its URL, the address of its host, the endpoint.
 pub record ConnectsAnswer (side : Side) (log : Log) (text : List ℕ) (headers : Fields) (lookup : Lookup) (outcome : ConnectOutcome) : Type 0 where
   pub no_url : (e : ParseError) → parse_url None text ≡ Err e → reply_to side log (calls.Connect (text, headers) lookup outcome) ≡ replies.ConnectFailed (connects.InvalidUrl refusals.Parse)
   pub not_https : (url : Parts) → parse_url None text ≡ Ok url → bytes_eq url.scheme (codes "https") ≡ false → reply_to side log (calls.Connect (text, headers) lookup outcome) ≡ replies.ConnectFailed (connects.InvalidUrl refusals.Scheme)
@@ -173,7 +178,13 @@ pub record ConnectGoesOn (side : Side) (log : Log) (reserved : Option (List ℕ)
   pub no_settings : is_connected (events_of log) ≡ true → settings_came side log ≡ false → is_open log ≡ false → reply_to side log calls.Handshake ≡ replies.ConnectFailed (connects.ConnectionError (driver_error side log))
   pub reserved_name : (name : List ℕ) → is_connected (events_of log) ≡ true → settings_came side log ≡ true → reserved ≡ Some name → reply_to side log calls.Handshake ≡ replies.ConnectFailed (connects.ReservedHeader name)
 
--- behind these steps
+-- a connect under way that got as far as its request
+pub record MaySend (side : Side) (log : Log) (head : List ℕ) : Type 0 where
+  pub under_way : handshake_state (calls_of log) ≡ Connecting None head
+  pub connected : is_connected (events_of log) ≡ true
+  pub settings : settings_came side log ≡ true
+
+-- Behind these steps: the stream of the request, the request, then its response.
 pub record RequestGoesOn (side : Side) (log : Log) (head : List ℕ) : Type 0 where
   pub no_stream : local_count (actions_of log) (local_bi side) ≡ 0 → is_open log ≡ false → reply_to side log calls.Handshake ≡ replies.ConnectFailed (lost log)
   pub unsent : local_count (actions_of log) (local_bi side) ≢ 0 → is_empty (head_left log (local_bi side) head) ≡ false → is_open log ≡ false → reply_to side log calls.Handshake ≡ replies.ConnectFailed (lost log)
@@ -186,8 +197,16 @@ pub record RequestGoesOn (side : Side) (log : Log) (head : List ℕ) : Type 0 wh
   pub ended : (fields : Fields) (at : ℕ) → RequestOut side log head → walk_at side log ≡ responses.Response fields at → has_success fields ≡ true → is_open log ≡ false
       → reply_to side log calls.Handshake ≡ replies.ConnectFailed (connects.ConnectionError (driver_error side log))
 
--- where it is allowed to send its request
-pub record MaySend (side : Side) (log : Log) (head : List ℕ) : Type 0 where
-  pub under_way : handshake_state (calls_of log) ≡ Connecting None head
-  pub connected : is_connected (events_of log) ≡ true
-  pub settings : settings_came side log ≡ true
+-- ---- how far a head is out
+
+-- after the call as much of this head is out on the stream as its credit allows
+abbrev pub IsOutAsFar : Side → Log → Call → ℕ → List ℕ → Type 0
+IsOutAsFar side log call k head = sent_on (actions_of (log_after side log (turns.Call call))) k ≡ take (credit (all_events_of log) k) head
+
+-- A call that finds the connection open and goes on with a head, of which the peer didn't stop a rest, sends it as far as
+-- credit allows: the header of a stream that is being opened, a response, and the request of a connect that has a stream.
+pub record HeadsGoOut (side : Side) (log : Log) (call : Call) : Type 0 where
+  pub header : (k s at : ℕ) → call ≡ calls.PollOpening k → established (calls_of log) ≡ Some (s, at) → is_opening log k ≡ true → is_open log ≡ true → is_refused log k (head_left log k (stream_header k s)) ≡ false → IsOutAsFar side log call k (stream_header k s)
+  pub response : (accepts : Bool) (head : List ℕ) → response_by (handshake_state (calls_of log)) call ≡ Some (accepts, head) → is_open log ≡ true → is_refused log (requested (calls_of log)) (response_rest log head) ≡ false → IsOutAsFar side log call (requested (calls_of log)) head
+  pub request : (head : List ℕ) → call ≡ calls.Handshake → MaySend side log head → is_open log ≡ true → (local_count (actions_of log) (local_bi side) ≡ 0 → may_open side log (local_bi side) ≡ true)
+      → is_refused log (local_bi side) (head_left log (local_bi side) head) ≡ false → IsOutAsFar side log call (local_bi side) head

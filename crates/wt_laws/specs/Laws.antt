@@ -10,7 +10,7 @@ use Rattle.wt_seam_spec.specs.Joined.{join_all, send_of}
 use Rattle.wt_seam_spec.specs.Reports.{credit, datagrams_of, end_of, unis_allowed}
 use Rattle.wt_seam_spec.specs.Sent.{is_finished, is_reset, sent_on}
 use Rattle.wt_seam_spec.specs.Streams.{contents, local_bi, local_count, local_uni, peer_bi, peer_count, peer_uni}
-use Rattle.wt_turn.specs.Log.{CallRecord, Called, Entry, Log, Sent, SessionEstablished, actions_of, calls_of, closes, events_of, is_open, loses, newest, with_actions}
+use Rattle.wt_turn.specs.Log.{CallRecord, Called, Entry, Log, Sent, SessionEstablished, actions_of, all_events_of, calls_of, closes, events_of, is_open, loses, newest, with_actions}
 use Rattle.wt_turn.specs.declared.action.Action.{Action}
 use Rattle.wt_turn.specs.declared.reply.Reply.{Reply}
 use Rattle.wt_turn.specs.declared.turn.Turn.{Turn}
@@ -316,6 +316,10 @@ abbrev pub SendsEnd : Side → Log → Turn → Type 0
 SendsEnd side log turn =
     (k : ℕ) → k ≢ local_uni side → is_head_out side log k ≡ true → (is_finished (actions_of log) k || is_reset log k) ≡ true
     → sent_on (actions_of (log_after side log turn)) k ≡ sent_on (actions_of log) k
+
+-- no more goes out on a stream than its credit allows
+abbrev pub WithinCredit : Side → Log → Type 0
+WithinCredit side log = (k : ℕ) → length (sent_on (actions_of log) k) ≤ credit (all_events_of log) k
 
 -- the bytes that writes on the stream accepted, joined
 abbrev pub written_on : ℕ → List Exchange → List ℕ

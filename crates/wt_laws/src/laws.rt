@@ -1,18 +1,20 @@
 //! The laws, each a function with an empty body whose contract is the law.
 ghost use Rattle.std.specs.Prelude.{◌≡◌, ◌++◌, ℕ, List, [], Option, Some, true, false};
-ghost use Rattle.wt_laws.specs.Exactly.{AsksFirst, ConnectGoesOn, ConnectsAnswer, MaySend, ReceivingCallsAnswer, RequestGoesOn, RequestsAnswer, ResponsesAnswer, SendingCallsAnswer, SessionCallsAnswer};
-ghost use Rattle.wt_laws.specs.Laws.{ActionsHaveCauses, CutsWell, DatagramsInOrder, FaultCloses, HeadersOut, NothingAfterEnd, OneSession, OpenExactly, ReadsFromStart, ReadsInOrder, ReplyHasCause, ResultStays, SendsAll, SendsEnd, SendsInOrder, SessionStreamOut, SessionTold, SessionsRightly, SettingsOut, StreamsAcceptedRightly, TakenGoesOut};
+ghost use Rattle.wt_laws.specs.Exactly.{AsksFirst, ConnectGoesOn, ConnectsAnswer, HeadsGoOut, MaySend, ReceivingCallsAnswer, RequestGoesOn, RequestsAnswer, ResponsesAnswer, SendingCallsAnswer, SessionCallsAnswer};
+ghost use Rattle.wt_laws.specs.Laws.{ActionsHaveCauses, CutsWell, DatagramsInOrder, FaultCloses, HeadersOut, NothingAfterEnd, OneSession, OpenExactly, ReadsFromStart, ReadsInOrder, ReplyHasCause, ResultStays, SendsAll, SendsEnd, SendsInOrder, SessionStreamOut, SessionTold, SessionsRightly, SettingsOut, StreamsAcceptedRightly, TakenGoesOut, WithinCredit};
 ghost use Rattle.wt_laws.specs.Left.{PendingExactly, is_pending};
 ghost use Rattle.wt_laws.specs.Reachable.{AllLawful, IsReachable, exchanges};
 ghost use Rattle.wt_laws.specs.ReplyCauses.{is_call};
-ghost use Rattle.wt_laws.specs.Runs.{DoneLate, RunsLawful, RunsLongest, StaysSo};
+ghost use Rattle.wt_laws.specs.Runs.{DoneLate, InOrderOfOpening, LateChangesNothing, RunsLawful, RunsLongest, StaysSo};
 ghost use Rattle.wt_spec.specs.Answers.{answer_to, is_lawful, log_from};
-ghost use Rattle.wt_spec.specs.Driver.{established};
+ghost use Rattle.wt_spec.specs.Driver.{established, stream_table};
 ghost use Rattle.wt_spec.specs.Halves.{has_receiving_half, has_sending_half};
 ghost use Rattle.wt_spec.specs.Handshake.{Connecting, handshake_state};
-ghost use Rattle.wt_turn.specs.Log.{Log, calls_of, is_open};
+ghost use Rattle.wt_seam_spec.specs.Streams.{peer_bi};
+ghost use Rattle.wt_turn.specs.Log.{Event, Log, calls_of, is_open};
 ghost use Rattle.wt_turn.specs.declared.call.Call.{Call};
 ghost use Rattle.wt_turn.specs.declared.turn.Turn.{Turn};
+ghost use Rattle.wt_turn.specs.declared.turn.Turn.TheVariants as turns;
 ghost use Rattle.wt_wire.specs.HeaderList.{Fields};
 ghost use Rattle.wt_wire.specs.declared.lookup.ConnectOutcome.{ConnectOutcome};
 ghost use Rattle.wt_wire.specs.declared.lookup.Lookup.{Lookup};
@@ -34,9 +36,10 @@ pub fn sessions_are_established_rightly()
 {}
 
 /// A stream that an accept gives is the peer's, of the session, and given once; the first in the
-/// order in which streams were classified.
-#[tactic(auto, using(crate::proofs::Theorems::accepted_theorem))]
+/// order in which streams were classified, which for bidirectional ones is that of their opening.
+#[tactic(auto, using(crate::proofs::Theorems::accepted_theorem, crate::proofs::Theorems::order_theorem))]
 pub fn streams_are_accepted_rightly()
+    ensures order { (side : Side) (log : Log) → InOrderOfOpening (peer_bi side) (stream_table side log).classified }
     ensures accepted { (side : Side) (log : Log) (turn : Turn) → IsReachable side log → is_lawful side log turn ≡ true → StreamsAcceptedRightly side log turn }
 {}
 
@@ -89,6 +92,14 @@ pub fn headers_go_out()
     ensures headers { (side : Side) (log : Log) → IsReachable side log → HeadersOut side log }
 {}
 
+/// What goes out on a stream stays within its credit, and a call that goes on with a head sends as
+/// much of it as credit allows.
+#[tactic(auto, using(crate::proofs::Theorems::within_credit_theorem, crate::proofs::Theorems::heads_theorem))]
+pub fn heads_go_out_as_credit_allows()
+    ensures within { (side : Side) (log : Log) → IsReachable side log → WithinCredit side log }
+    ensures heads { (side : Side) (log : Log) (call : Call) → IsReachable side log → is_lawful side log (turns.Call call) ≡ true → HeadsGoOut side log call }
+{}
+
 /// On a stream that was given exactly what writes accept goes out, and nothing after its end.
 #[tactic(auto, using(crate::proofs::Theorems::sends_theorem, crate::proofs::Theorems::sends_end_theorem, crate::proofs::Theorems::sends_all_theorem))]
 pub fn writes_go_out()
@@ -131,9 +142,11 @@ pub fn what_is_settled_stays()
     ensures stays { (side : Side) (more earlier : Log) → StaysSo side earlier (more ++ earlier) }
 {}
 
-/// After the end a turn of the transport is answered Done, and nothing goes out.
-#[tactic(auto, using(crate::proofs::Theorems::late_theorem))]
+/// After the end a turn of the transport is answered Done, nothing goes out, and no later answer
+/// changes.
+#[tactic(auto, using(crate::proofs::Theorems::late_theorem, crate::proofs::Theorems::later_theorem))]
 pub fn late_turns_do_nothing()
+    ensures later { (side : Side) (log : Log) (e : Event) (all : List Turn) → LateChangesNothing side log e all }
     ensures late { (side : Side) (log : Log) (turn : Turn) → is_call turn ≡ false → is_open log ≡ false → DoneLate side log turn }
 {}
 
