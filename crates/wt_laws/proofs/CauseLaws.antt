@@ -1,14 +1,14 @@
 -- Every reply and every action has its cause.
-use Rattle.std.specs.Prelude.{[], ◌&&◌, ◌++◌, ◌∷◌, ◌≡◌, ◌≢◌, Bool, List, None, Option, Some, drop, false, length, nat_lt, not, take, true, ℕ}
+use Rattle.std.specs.Prelude.{[], ◌&&◌, ◌++◌, ◌==◌, ◌∷◌, ◌≡◌, ◌≢◌, Bool, List, None, Option, Some, drop, false, length, nat_lt, not, take, true, ℕ}
 use Rattle.std.proofs.Common.{◌∙◌, ap, arith, refl, subst, sym}
-use Rattle.std.proofs.lemmas.Bool.{ltb-true}
+use Rattle.std.proofs.lemmas.Bool.{eqb-true, ltb-true, not-false}
 use Rattle.wt_proto.specs.Bi.{bi_verdict_of}
 use Rattle.wt_message.specs.FixedBytes.{local_control_bytes}
 use Rattle.wt_proto.specs.declared.verdict.Verdict.{Verdict}
 use Rattle.wt_seam_spec.specs.Joined.{send_of}
 use Rattle.wt_seam_spec.specs.Reports.{credit, end_of, unis_allowed}
 use Rattle.wt_seam_spec.specs.Sent.{sent_on}
-use Rattle.wt_seam_spec.specs.Streams.{contents, local_uni, peer_bi, peer_count}
+use Rattle.wt_seam_spec.specs.Streams.{contents, local_count, local_uni, peer_bi, peer_count}
 use Rattle.wt_turn.specs.Log.{Called, Entry, Log, Received, Reported, Sent, actions_of, calls_of, events_of, is_open, with_actions}
 use Rattle.wt_turn.specs.declared.action.Action.{Action}
 use Rattle.wt_turn.specs.declared.turn.Turn.{Turn}
@@ -118,9 +118,9 @@ moment-stops side e log m o =
     rw (m, o) (kept-moment (λ t. StopsFor side (e ∷ log) t.classified t.progress.stops) side (e ∷ log) (stops-kept side (e ∷ log)) (stream_table side log) tt)
 
 module _ (side : Side) (log : Log) where
-  opened-cause : (b : Bool) → unis_allowed (events_of log) ≢ 0 → DriverCauses side log (opened_if b (local_uni side))
-  opened-cause true n = (OpensControl n, tt)
-  opened-cause false n = tt
+  opened-cause : (b : Bool) → not (local_count (actions_of log) (local_uni side) == 0) ≡ b → unis_allowed (events_of log) ≢ 0 → DriverCauses side log (opened_if (not b) (local_uni side))
+  opened-cause false e n = (OpensControl n (eqb-true (local_count (actions_of log) (local_uni side)) 0 (not-false _ e)), tt)
+  opened-cause true e n = tt
 
   send-cause : (piece : List ℕ) → piece ≡ drop (length (sent_on (actions_of log) (local_uni side))) (take (credit (events_of log) (local_uni side)) local_control_bytes) → DriverCauses side log (send_of (local_uni side) piece)
   send-cause [] e = tt
@@ -131,7 +131,7 @@ module _ (side : Side) (log : Log) where
   control-cause true f =
       let s = control_sent side log in
       all-append side log (opened_if (not s.opened) (local_uni side)) (send_of (local_uni side) (drop s.sent (take (credit (events_of log) (local_uni side)) local_control_bytes)))
-      (opened-cause (not s.opened) (f refl)) (send-cause (drop s.sent (take (credit (events_of log) (local_uni side)) local_control_bytes)) refl)
+      (opened-cause s.opened refl (f refl)) (send-cause (drop s.sent (take (credit (events_of log) (local_uni side)) local_control_bytes)) refl)
 
   stop-causes : (xs : List Stopped) → StopsFor side log (stream_table side log).classified xs → DriverCauses side log (stop_actions xs)
   stop-causes [] p = tt

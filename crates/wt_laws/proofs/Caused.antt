@@ -450,7 +450,7 @@ module _ (side : Side) (turn : Turn) where
 
   -- the handshake that is under way goes on
   pub caused-continue : (log : Log) (s : HandshakeState) → turn ≡ turns.Call calls.Handshake → handshake_state (calls_of log) ≡ s → is_continuable s ≡ true → Caused side turn log (continue_by s side log)
-  caused-continue log (Responding accepts head) t e c = caused-respond log accepts head Polled (record { from = FromBefore e; under_way = under-way log (Responding accepts head) e refl; quiet = refl; waits = λ own. tt })
+  caused-continue log (Responding accepts head) t e c = caused-respond log accepts head Polled (record { from = FromBefore t e; under_way = under-way log (Responding accepts head) e refl; quiet = refl; waits = λ own. tt })
   caused-continue log (Connecting reserved head) t e c = caused-connect log reserved head t e
   caused-continue log _ t e c = absurd (cc)
 

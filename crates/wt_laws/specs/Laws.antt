@@ -228,7 +228,7 @@ pub data StoppedFor (side : Side) (log : Log) (classified : List Classified) (st
 
 -- the action that the driver sends at a moment: of its control stream, a stop of a stream that was classified, or for the end
 pub data DriverCause (side : Side) (log : Log) : Action → Type 0 where
-  OpensControl : unis_allowed (events_of log) ≢ 0 → DriverCause side log (actions.Opened (local_uni side))
+  OpensControl : unis_allowed (events_of log) ≢ 0 → local_count (actions_of log) (local_uni side) ≡ 0 → DriverCause side log (actions.Opened (local_uni side))
   SendsControl : (piece : List ℕ) → piece ≡ drop (length (sent_on (actions_of log) (local_uni side))) (take (credit (events_of log) (local_uni side)) local_control_bytes) → DriverCause side log (actions.Send (local_uni side) piece)
   StopsStream : (stop : Stopped) → StoppedFor side log (stream_table side log).classified stop → DriverCause side log (actions.StopOut stop.id (code_of stop.code))
   ResetsSession : (code : ℕ) (reason : List ℕ) → (stream_table side log).progress.ending ≡ Some (BySession code reason true) → DriverCause side log (actions.ResetOut (session_id (established (calls_of log))) (code_of h3.NoError))
