@@ -66,7 +66,7 @@ fresh-piece side turn log k (actions.Send id piece) h l u c = at (id == k) refl 
     at true e (OfWrite bytes b w m p) = absurd (none (h.local_accepted k l (subst (λ (j : ℕ). is_accepted log j ≡ true) (eqb-true id k e) (and_parts (is_accepted log id) _ w).0)))
     at true e (OfHeader session t z d o p) = absurd (none (subst (λ (j : ℕ). list_any (starts_opening j) (calls_of log) ≡ true) (eqb-true id k e) (and_parts (list_any (starts_opening id) (calls_of log)) _ o).0))
     at true e (OfResponse accepts head f i p) = absurd (no-request side log k h l (from-request turn (calls_of log) accepts head f) (sym i ∙ eqb-true id k e))
-    at true e (OfRequest reserved head s i z p) = absurd (by-side side (subst (λ (j : ℕ). local_count (actions_of log) (j % 4) ≤ j / 4) (sym (eqb-true id k e) ∙ i) u) z)
+    at true e (OfRequest reserved head c s i z p) = absurd (by-side side (subst (λ (j : ℕ). local_count (actions_of log) (j % 4) ≤ j / 4) (sym (eqb-true id k e) ∙ i) u) z)
 fresh-piece side turn log k _ h l u c = refl
 
 take-more : (m c : ℕ) (xs : List ℕ) → m ≤ length xs → take m xs ++ take c (drop m xs) ≡ take (m + c) xs
@@ -109,7 +109,7 @@ begun-piece side turn log k s t (actions.Send id piece) h o d c = at (id == k) r
               ∙ subst (λ xs. xs ++ take (credit_left log k) (drop (length xs) (stream_header k s)) ≡ take (length xs + credit_left log k) (stream_header k s)) (sym p.1) (further (credit_left log k) p.0 (stream_header k s)),
         )
     at true e (OfResponse accepts head f i q) = absurd (no-request side log k h (local-opening side log k h o) (from-request turn (calls_of log) accepts head f) (sym i ∙ eqb-true id k e))
-    at true e (OfRequest reserved head i j z q) = absurd (let x = h.given.handshakes.none_yet (ap is_under_way i) in cc)
+    at true e (OfRequest reserved head c i j z q) = absurd (let x = h.given.handshakes.none_yet (ap is_under_way i) in cc)
 begun-piece side turn log k s t _ h o d c = ((h.begun k s t o d).0, append-nil (sent_on (actions_of log) k) ∙ (h.begun k s t o d).1)
 
 pub heads-action : (side : Side) (turn : Turn) (log : Log) (a : Action) → ActionCause side turn log a → Heads side log → Heads side (Sent a ∷ log)

@@ -218,7 +218,7 @@ module _ (side : Side) (frame : Option (List ℕ)) where
         at true e (OfWrite bytes b w m q) = absurd (not-given log k h i (sends-written log id k e w))
         at true e (OfHeader session u z d o q) = absurd (not-started log k h i (subst (λ (j : ℕ). list_any (starts_opening j) (calls_of log) ≡ true) (eqb-true id k e) (and_parts (list_any (starts_opening id) (calls_of log)) _ o).0))
         at true e (OfResponse accepts head f r q) = goes-on log k head piece (response-frame log accepts head h f) (h.begun k i) (moved log id k head piece e q)
-        at true e (OfRequest reserved head s r z q) = goes-on log k head piece (h.connecting reserved head s).0 (h.begun k i) (moved log id k head piece e q)
+        at true e (OfRequest reserved head c s r z q) = goes-on log k head piece (h.connecting reserved head s).0 (h.begun k i) (moved log id k head piece e q)
     action-begun log k _ h i c = ((h.begun k i).0, append-nil (sent_on (actions_of log) k) ∙ (h.begun k i).1)
 
     -- nothing more goes out on it once the session is established
@@ -236,7 +236,7 @@ module _ (side : Side) (frame : Option (List ℕ)) where
         at true e (OfWrite bytes b w m q) = absurd (not-given log k h i (sends-written log id k e w))
         at true e (OfHeader session u z d o q) = absurd (not-started log k h i (subst (λ (j : ℕ). list_any (starts_opening j) (calls_of log) ≡ true) (eqb-true id k e) (and_parts (list_any (starts_opening id) (calls_of log)) _ o).0))
         at true e (OfResponse accepts head f r q) = absurd (over (under-way-request (handshake_state (calls_of log)) (from-request turn (calls_of log) accepts head f)))
-        at true e (OfRequest reserved head s r z q) = absurd (over (ap is_under_way s))
+        at true e (OfRequest reserved head c s r z q) = absurd (over (ap is_under_way s))
     action-whole log k at_ _ h d c = refl
 
     -- nor once the response is finished
@@ -254,7 +254,7 @@ module _ (side : Side) (frame : Option (List ℕ)) where
         at true e (OfWrite bytes b w m q) = absurd (not-given log k h i (sends-written log id k e w))
         at true e (OfHeader session u z d o q) = absurd (not-started log k h i (subst (λ (j : ℕ). list_any (starts_opening j) (calls_of log) ≡ true) (eqb-true id k e) (and_parts (list_any (starts_opening id) (calls_of log)) _ o).0))
         at true e (OfResponse accepts head f r q) = none head (response-frame log accepts head h f) (moved log id k head piece e q)
-        at true e (OfRequest reserved head s r z q) = none head (h.connecting reserved head s).0 (moved log id k head piece e q)
+        at true e (OfRequest reserved head c s r z q) = none head (h.connecting reserved head s).0 (moved log id k head piece e q)
     action-finished log k _ h i d c = refl
 
     -- the response is finished once all of it is out
@@ -278,7 +278,7 @@ module _ (side : Side) (frame : Option (List ℕ)) where
         at true e (OfWrite bytes b w m q) = absurd (let x = sends-written log id k e w in cc)
         at true e (OfHeader session u z s o q) = absurd (let x = h.heads.given.facts_hold.openings k (subst (λ (j : ℕ). list_any (starts_opening j) (calls_of log) ≡ true) (eqb-true id k e) (and_parts (list_any (starts_opening id) (calls_of log)) _ o).0) in cc)
         at true e (OfResponse accepts head f r q) = absurd (let x = subst (λ (j : ℕ). list_any (delivers j) (calls_of log) ≡ true) (sym r ∙ eqb-true id k e) (h.heads.given.handshakes.has_one (from-request turn (calls_of log) accepts head f)) in cc)
-        at true e (OfRequest reserved head s r z q) = absurd (let x = is-local-bi side in let y = ap (is_local side) (sym r ∙ eqb-true id k e) in cc)
+        at true e (OfRequest reserved head c s r z q) = absurd (let x = is-local-bi side in let y = ap (is_local side) (sym r ∙ eqb-true id k e) in cc)
     untouched-send log k _ h l n d c = refl
 
     untouched-finish : (log : Log) (k : ℕ) (a : Action) → Out side frame log → is_accepted log k ≡ false → list_any (delivers k) (calls_of log) ≡ false → ActionCause side turn log a → finishes k a ≡ false
