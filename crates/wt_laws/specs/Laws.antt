@@ -346,6 +346,7 @@ pub record TakenGoesOut (side : Side) (log : Log) : Type 0 where
   pub datagram : (payload : List ℕ) → (answer_to side log (turns.Call (calls.SendDatagram payload))).reply ≡ replies.Done
       → (s : ℕ) × (at : ℕ) × (established (calls_of log) ≡ Some (s, at)) × GoesOut side log (turns.Call (calls.SendDatagram payload)) (actions.DatagramOut (datagram_bytes (s / 4) payload))
   pub close : (code : ℕ) (reason : List ℕ) → is_open log ≡ true → (answer_to side log (turns.Call (calls.Close code reason))).reply ≡ replies.Done → GoesOut side log (turns.Call (calls.Close code reason)) (actions.Close code reason)
+  pub endpoint_close : (code : ℕ) (reason : List ℕ) → is_open log ≡ true → GoesOut side log (turns.Call (calls.EndpointClose code reason)) (actions.Close code reason)
   pub reset : (k code : ℕ) → is_open log ≡ true → (answer_to side log (turns.Call (calls.ResetSend k code))).reply ≡ replies.Done → GoesOut side log (turns.Call (calls.ResetSend k code)) (actions.ResetOut k code)
   pub stop : (k code : ℕ) → is_open log ≡ true → (answer_to side log (turns.Call (calls.StopRecv k code))).reply ≡ replies.Done → GoesOut side log (turns.Call (calls.StopRecv k code)) (actions.StopOut k code)
 
