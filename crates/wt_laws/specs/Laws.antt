@@ -220,11 +220,11 @@ pub record CutsWell (side : Side) (log : Log) (id : ℕ) (first second : List �
 
 -- ---- causes
 
--- why the driver stops a stream as it is classified: a request is refused, or another one is queued
+-- why the driver stops a stream as it is classified: its request is refused, or another stream's is queued
 pub data StoppedFor (side : Side) (log : Log) (classified : List Classified) (stop : Stopped) : Type 0 where
   IsRefused : is_among (peer_bi side) (peer_count side (events_of log) (peer_bi side)) stop.id ≡ true → bi_verdict_of (contents log stop.id) (end_of (events_of log) stop.id) ≡ verdicts.Refused stop.code → StoppedFor side log classified stop
   IsSurplus : (headers : Fields) (at : ℕ) (queued : Classified) (later : List Classified) → is_among (peer_bi side) (peer_count side (events_of log) (peer_bi side)) stop.id ≡ true → bi_verdict_of (contents log stop.id) (end_of (events_of log) stop.id) ≡ verdicts.Request headers at
-      → (dispatched (call_view log) classified).requests ≡ queued ∷ later → stop.code ≡ h3.RequestRejected → StoppedFor side log classified stop
+      → (dispatched (call_view log) classified).requests ≡ queued ∷ later → (queued.id == stop.id) ≡ false → stop.code ≡ h3.RequestRejected → StoppedFor side log classified stop
 
 -- the action that the driver sends at a moment: of its control stream, a stop of a stream that was classified, or for the end
 pub data DriverCause (side : Side) (log : Log) : Action → Type 0 where
