@@ -1,11 +1,11 @@
 -- What goes out stays within credit, and heads go out as far as it allows.
-use Rattle.std.specs.Prelude.{[], ◌&&◌, ◌++◌, ◌+◌, ◌-◌, ◌==◌, ◌||◌, ◌∷◌, ◌≡◌, ◌≢◌, ◌≤◌, Bool, List, None, Option, Some, drop, false, if◌then◌else◌, is_some, length, nat_lt, not, suc, take, true, unwrap_or, zero, ℕ}
+use Rattle.std.specs.Prelude.{[], ◌&&◌, ◌++◌, ◌==◌, ◌∷◌, ◌≡◌, ◌≤◌, Bool, List, Some, false, if◌then◌else◌, length, nat_lt, not, true, ℕ}
 use Rattle.std.proofs.Common.{◌∙◌, ap, arith, length-append, length-take, refl, subst, sym}
-use Rattle.std.proofs.lemmas.Bool.{and_parts, eqb-true, not-false, not-true}
-use Rattle.std.proofs.lemmas.List.{append-nil, append_assoc}
+use Rattle.std.proofs.lemmas.Bool.{and_parts, eqb-true}
+use Rattle.std.proofs.lemmas.List.{append-nil}
 use Rattle.wt_message.specs.FixedBytes.{local_control_bytes}
 use Rattle.wt_seam_spec.specs.Arrivals.{fits, may_come}
-use Rattle.wt_seam_spec.specs.Outgoing.{covered, credit_left}
+use Rattle.wt_seam_spec.specs.Outgoing.{credit_left}
 use Rattle.wt_seam_spec.specs.Reports.{credit, is_connected}
 use Rattle.wt_seam_spec.specs.Sent.{sent_on}
 use Rattle.wt_seam_spec.specs.Streams.{can_send, local_uni}
@@ -16,9 +16,9 @@ use Rattle.wt_wire.specs.declared.side.Side.{Side}
 use Rattle.wt_laws.proofs.Classified.{eq-turned}
 use Rattle.wt_laws.proofs.Facts.{Facts, facts-entries}
 use Rattle.wt_laws.proofs.Reached.{reached}
-use Rattle.wt_laws.proofs.SendLaws.{flush-other, not-same}
+use Rattle.wt_laws.proofs.SendLaws.{flush-other}
 use Rattle.wt_laws.proofs.Sends.{piece_on, with-piece}
-use Rattle.wt_laws.proofs.SettingsLaws.{ControlOut, before-connected, connected-fits, data-fits, first-control, keeps-control}
+use Rattle.wt_laws.proofs.SettingsLaws.{ControlOut, connected-fits, data-fits, first-control, keeps-control}
 use Rattle.wt_laws.proofs.Steps.{Brings, Keeps, blind-flush, event_of, kept-actions, of-record}
 use Rattle.wt_laws.specs.Causes.{ActionCause, OfHeader, OfRequest, OfResponse, OfWrite, OwnCauses, SendCause}
 use Rattle.wt_laws.specs.Laws.{WithinCredit}

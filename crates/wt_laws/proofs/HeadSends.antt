@@ -1,5 +1,5 @@
 -- A poll that goes on with a head sends as much of it as credit allows.
-use Rattle.std.specs.Prelude.{[], ◌&&◌, ◌++◌, ◌+◌, ◌-◌, ◌==◌, ◌||◌, ◌∷◌, ◌≡◌, ◌≢◌, ◌≤◌, Bool, List, None, Option, Some, drop, false, if◌then◌else◌, is_some, length, not, suc, take, true, unwrap_or, zero, ℕ}
+use Rattle.std.specs.Prelude.{[], ◌&&◌, ◌++◌, ◌+◌, ◌-◌, ◌==◌, ◌||◌, ◌∷◌, ◌≡◌, ◌≤◌, Bool, List, None, Option, Some, drop, false, if◌then◌else◌, is_some, length, not, suc, take, true, unwrap_or, zero, ℕ}
 use Rattle.std.proofs.Common.{◌∙◌, ap, arith, refl, subst, sym}
 use Rattle.std.proofs.lemmas.Bool.{and_parts, eqb-true, not-false}
 use Rattle.std.proofs.lemmas.List.{append-nil, drop_all}
@@ -13,10 +13,8 @@ use Rattle.wt_seam_spec.specs.Streams.{contents, local_bi, local_count, local_un
 use Rattle.wt_turn.specs.Log.{CallRecord, Called, HandshakeOver, Log, Polled, SessionEstablished, StreamAccepted, actions_of, all_events_of, calls_of, events_of, is_open, with_actions}
 use Rattle.wt_turn.specs.declared.action.Action.{Action}
 use Rattle.wt_turn.specs.declared.call.Call.{Call}
-use Rattle.wt_turn.specs.declared.reply.Reply.{Reply}
 use Rattle.wt_wire.specs.Codes.{code_of}
 use Rattle.wt_wire.specs.declared.side.Side.{Side}
-use Rattle.wt_wire.specs.declared.side.Side.TheVariants.{Client, Server}
 use Rattle.wt_laws.proofs.Caused.{covered-whole}
 use Rattle.wt_laws.proofs.CreditLaws.{within-credit}
 use Rattle.wt_laws.proofs.ExactLaws.{by-response}
@@ -28,10 +26,10 @@ use Rattle.wt_laws.proofs.SessionStream.{TurnStart, for-client, for-server, not-
 use Rattle.wt_laws.specs.Exactly.{HeadsGoOut, IsOutAsFar, MaySend, response_by, response_rest}
 use Rattle.wt_laws.specs.Reachable.{IsReachable}
 use Rattle.wt_spec.specs.Answers.{call_effect, in_session, is_client, is_lawful, may_respond}
-use Rattle.wt_spec.specs.Connection.{continue_opening, is_opening, opened_reply, poll_opening, stream_header}
+use Rattle.wt_spec.specs.Connection.{is_opening, poll_opening, stream_header}
 use Rattle.wt_spec.specs.Driver.{established, settings_came, stream_table}
-use Rattle.wt_spec.specs.Effect.{Effect, closing, head_left, is_covered, is_empty, log_call, poll_only, reply_with}
-use Rattle.wt_spec.specs.Handshake.{Connecting, HandshakeState, Requested, Responding, accept_response, await_response, awaits_answer, continue_by, continue_connect, establish, finish_rejection, handshake_state, has_success, is_refused, open_request, read_response, reject_response, request_end, requested, respond, send_request, unless_reserved}
+use Rattle.wt_spec.specs.Effect.{Effect, closing, head_left, is_covered, is_empty, log_call}
+use Rattle.wt_spec.specs.Handshake.{HandshakeState, Requested, Responding, accept_response, awaits_answer, continue_by, finish_rejection, handshake_state, has_success, is_refused, open_request, read_response, reject_response, request_end, requested, respond, send_request}
 use Rattle.wt_spec.specs.StreamTable.{verdict_of}
 use Rattle.wt_turn.specs.declared.action.Action.TheVariants as actions
 use Rattle.wt_turn.specs.declared.call.Call.TheVariants as calls

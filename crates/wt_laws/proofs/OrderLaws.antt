@@ -1,18 +1,18 @@
 -- The peer's bidirectional streams are classified in the order in which it opened them, since one at a time has a slot.
-use Rattle.std.specs.Prelude.{[], ◌%◌, ◌&&◌, ◌*◌, ◌++◌, ◌+◌, ◌/◌, ◌<◌, ◌==◌, ◌||◌, ◌∷◌, ◌≡◌, ◌≢◌, ◌≤◌, Bool, List, None, Option, Some, false, if◌then◌else◌, is_some, nat_lt, suc, true, zero, ℕ}
+use Rattle.std.specs.Prelude.{[], ◌%◌, ◌&&◌, ◌*◌, ◌++◌, ◌+◌, ◌/◌, ◌<◌, ◌==◌, ◌||◌, ◌∷◌, ◌≡◌, ◌≢◌, Bool, List, None, Option, Some, false, if◌then◌else◌, is_some, nat_lt, suc, true, zero, ℕ}
 use Rattle.std.proofs.Common.{◌∙◌, ap, arith, refl, subst, sym}
 use Rattle.std.proofs.lemmas.Bool.{and_parts, eq-eqb, eqb-false, eqb-true, ltb-false, ltb-true}
 use Rattle.wt_proto.specs.Uni.{is_final}
 use Rattle.wt_proto.specs.declared.verdict.Verdict.{Verdict}
 use Rattle.wt_seam_spec.specs.Streams.{peer_bi, peer_uni}
-use Rattle.wt_turn.specs.Log.{Entry, Log, is_open}
+use Rattle.wt_turn.specs.Log.{Log, is_open}
 use Rattle.wt_wire.specs.declared.side.Side.{Side}
 use Rattle.wt_wire.specs.declared.side.Side.TheVariants.{Client, Server}
 use Rattle.wt_laws.proofs.Looks.{from-or}
 use Rattle.wt_laws.specs.Runs.{AllLater, InOrderOfOpening}
 use Rattle.wt_spec.specs.Driver.{apply_if, call_view, is_moment, stream_table, transport_view}
-use Rattle.wt_spec.specs.Scan.{Scan, SlotRule, bi_ids, bi_rule, classify, dequeue, has, is_released, occupied, scan, scan_bis, scan_order, scan_unis, stream_ids, uni_ids, uni_rule, unless_ended, visit, with_classified, with_dequeued, without_stops}
-use Rattle.wt_spec.specs.StreamTable.{CallView, Classified, Consequence, Ending, StreamTable, TransportView, dispatched, verdict_of}
+use Rattle.wt_spec.specs.Scan.{Scan, SlotRule, bi_rule, classify, dequeue, has, is_released, occupied, scan, scan_order, scan_unis, stream_ids, uni_rule, unless_ended, visit, with_classified, with_dequeued, without_stops}
+use Rattle.wt_spec.specs.StreamTable.{CallView, Classified, Consequence, Ending, StreamTable, dispatched, verdict_of}
 
 abbrev IsKnown : ℕ → List Classified → Type 0
 IsKnown k cs = is_some (verdict_of k cs) ≡ true
