@@ -32,3 +32,5 @@ pub mod LateLaws
 pub mod ExactLaws
 pub mod Theorems
 pub mod Recorded
+pub mod TurnCauses
+pub mod GivenOnce
