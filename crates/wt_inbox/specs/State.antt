@@ -101,13 +101,3 @@ control_stopped_now t = is_some (stop_now t (local_uni t.side))
 -- this end's SETTINGS are out, or can go out whole
 abbrev pub ready_now : TransportState → Bool
 ready_now t = t.is_connected && may_open_uni_now t && not (nat_lt (control_credit_now t) (length local_control_bytes))
-
--- ---- what reading leaves
-
--- a stream but for what its readers do
-abbrev pub quiet_stream : Stream → Stream
-quiet_stream s = record s { unread = []; given_up = false }
-
--- a transport but for what the readers of its streams do: reading and giving up leave it as it is
-abbrev pub quiet : TransportState → TransportState
-quiet t = record t { streams = map (λ (row : List Stream). map quiet_stream row) t.streams }

@@ -10,7 +10,8 @@ ghost use Rattle.wt_seam_spec.specs.Outgoing.{if_open};
 ghost use Rattle.wt_seam_spec.specs.Streams.{contents};
 ghost use Rattle.wt_seam.specs.Rules.{after_finishing, after_priority_unless_closed, after_reset_unless_closed, after_write, finishing, log_priority, log_reset, receiving_half_now, resetting, sending_half, sending_half_now, writing};
 ghost use Rattle.wt_seam.specs.Step.{after_consume, after_give_up, after_stop, can_receive_now, can_send_now, unread_now};
-ghost use Rattle.wt_inbox.specs.State.{SameAt, quiet, with_transport};
+ghost use Rattle.wt_inbox.specs.Quiet.{quiet};
+ghost use Rattle.wt_inbox.specs.State.{SameAt, with_transport};
 ghost use Rattle.wt_inbox.specs.Stage.{Refines, Stage, body_offset, half_from, with_stage};
 
 use super::Inbox;

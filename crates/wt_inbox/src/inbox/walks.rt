@@ -11,7 +11,8 @@ ghost use Rattle.wt_proto.specs.SessionWalk.{is_over, session_walk_of};
 ghost use Rattle.wt_proto.specs.ResponseWalk.{is_answered, response_walk_of};
 ghost use Rattle.wt_seam_spec.specs.Streams.{contents};
 ghost use Rattle.wt_seam_spec.specs.Reports.{end_of};
-ghost use Rattle.wt_inbox.specs.State.{SameAt, bi_verdict_now, control_now, is_over_by_bytes, quiet, response_now, session_now, uni_verdict_now};
+ghost use Rattle.wt_inbox.specs.Quiet.{quiet};
+ghost use Rattle.wt_inbox.specs.State.{SameAt, bi_verdict_now, control_now, is_over_by_bytes, response_now, session_now, uni_verdict_now};
 ghost use Rattle.wt_inbox.specs.Stage.{Refines, Stage, awaits_bi, awaits_response, awaits_uni, control_offset, response_offset, session_offset, stage_from, verdict_offset, with_stage};
 
 use super::Inbox;
