@@ -47,7 +47,7 @@ module _ (t : TransportState) (id n : ℕ) where
 
 -- ---- one call after another
 
-drop-drop : (m n : ℕ) (xs : List ℕ) → drop n (drop m xs) ≡ drop (m + n) xs
+pub drop-drop : (m n : ℕ) (xs : List ℕ) → drop n (drop m xs) ≡ drop (m + n) xs
 drop-drop zero n xs = ap (λ i. drop i xs) (omega arith)
 drop-drop (suc m) n [] = drop_none n ∙ sym (drop_none (suc m + n))
 drop-drop (suc m) n (x ∷ xs) =

@@ -3,3 +3,7 @@ pub mod Consuming
 pub mod ReadOn
 pub mod QuietLaws
 pub mod Shelves
+pub mod Offsets
+pub mod Reaching
+pub mod Asked
+pub mod Staging

@@ -2,3 +2,4 @@ pub mod Quiet
 pub mod Kept
 pub mod State
 pub mod Stage
+pub mod Moves

@@ -15,4 +15,4 @@ pub returns-in-Some-clause-others : goal.returns-in-Some-clause-others
 returns-in-Some-clause-others g c = found-removed g.W.Walk.start_state c.args.id c.args.self.now c.self.inside.entries.items c.remove.new.self.items c.in-Some.index c.in-Some.ensures c.self.view_is c.remove.ensures.items
 
 pub returns-in-None-clause-outcome : goal.returns-in-None-clause-outcome
-returns-in-None-clause-outcome g c = c.into_outcome-in-None.ensures ∙ ap (outcome_in g.W.Walk.unfinished_at) (c.requires ∙ sym (none-found g.W.Walk.start_state c.args.id c.args.self.now c.in-None.ensures))
+returns-in-None-clause-outcome g c = c.into_outcome-in-None.ensures.value ∙ ap (outcome_in g.W.Walk.unfinished_at) (c.requires ∙ sym (none-found g.W.Walk.start_state c.args.id c.args.self.now c.in-None.ensures))
