@@ -7,3 +7,4 @@ pub mod Offsets
 pub mod Reaching
 pub mod Asked
 pub mod Staging
+pub mod Passing

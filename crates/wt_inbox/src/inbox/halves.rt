@@ -35,7 +35,8 @@ impl Inbox {
         ensures log_answer { (side : Side) (log : Log) (stage : ℕ → Stage) (untaken : List Action) → Refines side self.old log stage untaken → IfOk result (λ a. a ≡ write_answer (is_open log) (sending_half log id) bytes.now) }
         ensures log { (side : Side) (log : Log) (stage : ℕ → Stage) (untaken : List Action) → Refines side self.old log stage untaken → OnOk result (Refines side self.new (with_actions (writing side log id bytes.now) log) stage (newest_first (writing side log id bytes.now) untaken)) }
     {
-        QuicSendStream::new(id).write(&mut self.transport, bytes)
+        let mut half = QuicSendStream { id };
+        half.write(&mut self.transport, bytes)
     }
 
     /// Writes as many of the bytes as credit is left for, and tells whether these were all, as
@@ -48,7 +49,8 @@ impl Inbox {
         ensures log_answer { (side : Side) (log : Log) (stage : ℕ → Stage) (untaken : List Action) → Refines side self.old log stage untaken → IfOk result (λ a. a ≡ write_all_answer (is_open log) (sending_half log id) bytes.now) }
         ensures log { (side : Side) (log : Log) (stage : ℕ → Stage) (untaken : List Action) → Refines side self.old log stage untaken → OnOk result (Refines side self.new (with_actions (writing side log id bytes.now) log) stage (newest_first (writing side log id bytes.now) untaken)) }
     {
-        QuicSendStream::new(id).write_all(&mut self.transport, bytes)
+        let mut half = QuicSendStream { id };
+        half.write_all(&mut self.transport, bytes)
     }
 
     /// Ends the half, and is through once all of it is acknowledged, as `QuicSendStream::finish` does.
@@ -60,7 +62,8 @@ impl Inbox {
         ensures log_answer { (side : Side) (log : Log) (stage : ℕ → Stage) (untaken : List Action) → Refines side self.old log stage untaken → IfOk result (λ a. a ≡ finish_answer (is_open log) (sending_half log id)) }
         ensures log { (side : Side) (log : Log) (stage : ℕ → Stage) (untaken : List Action) → Refines side self.old log stage untaken → OnOk result (Refines side self.new (with_actions (finishing side log id) log) stage (newest_first (finishing side log id) untaken)) }
     {
-        QuicSendStream::new(id).finish(&mut self.transport)
+        let mut half = QuicSendStream { id };
+        half.finish(&mut self.transport)
     }
 
     /// Resets the half, as `QuicSendStream::reset` does.
@@ -72,7 +75,8 @@ impl Inbox {
         ensures log_answer { (side : Side) (log : Log) (stage : ℕ → Stage) (untaken : List Action) → Refines side self.old log stage untaken → IfOk result (λ a. a ≡ reset_answer (sending_half log id)) }
         ensures log { (side : Side) (log : Log) (stage : ℕ → Stage) (untaken : List Action) → Refines side self.old log stage untaken → OnOk result (Refines side self.new (log_reset log id code) stage (newest_first (resetting log id code) untaken)) }
     {
-        QuicSendStream::new(id).reset(&mut self.transport, code)
+        let mut half = QuicSendStream { id };
+        half.reset(&mut self.transport, code)
     }
 
     /// Sets the priority of a half that isn't closed.
@@ -81,7 +85,8 @@ impl Inbox {
         ensures now { self.new ≡ with_transport self.old (after_priority_unless_closed self.old.transport id priority) }
         ensures log { (side : Side) (log : Log) (stage : ℕ → Stage) (untaken : List Action) → Refines side self.old log stage untaken → Refines side self.new (log_priority log id priority) stage (untaken) }
     {
-        QuicSendStream::new(id).set_priority(&mut self.transport, priority);
+        let mut half = QuicSendStream { id };
+        half.set_priority(&mut self.transport, priority);
     }
 
     /// How the half was stopped or closed; pending while it is neither and the connection is open.
@@ -91,7 +96,8 @@ impl Inbox {
         ensures unchanged { self.new ≡ self.old }
         ensures log_answer { (side : Side) (log : Log) (stage : ℕ → Stage) (untaken : List Action) → Refines side self.old log stage untaken → result ≡ stopped_answer (is_open log) (sending_half log id) }
     {
-        QuicSendStream::new(id).stopped(&mut self.transport)
+        let mut half = QuicSendStream { id };
+        half.stopped(&mut self.transport)
     }
 
     /// The priority that was set last, 0 at first.
@@ -101,7 +107,8 @@ impl Inbox {
         ensures unchanged { self.new ≡ self.old }
         ensures log_answer { (side : Side) (log : Log) (stage : ℕ → Stage) (untaken : List Action) → Refines side self.old log stage untaken → result ≡ priority_answer (sending_half log id) }
     {
-        QuicSendStream::new(id).priority(&mut self.transport)
+        let half = QuicSendStream { id };
+        half.priority(&mut self.transport)
     }
 
     /// Reads unread bytes into the buffer's front, as `QuicRecvStream::read` does.
@@ -116,7 +123,8 @@ impl Inbox {
         ensures log_bytes { (side : Side) (log : Log) (stage : ℕ → Stage) (untaken : List Action) → Refines side self.old log stage untaken → (offset : ℕ) → body_offset (stage id) ≡ Some offset → buffer.new ≡ take (read_count (half_from log id offset) (length buffer.old)) (drop offset (contents log id)) ++ drop (read_count (half_from log id offset) (length buffer.old)) buffer.old }
         ensures log { (side : Side) (log : Log) (stage : ℕ → Stage) (untaken : List Action) → Refines side self.old log stage untaken → (offset : ℕ) → body_offset (stage id) ≡ Some offset → Refines side self.new log (with_stage stage id (Stage.Body (offset + read_count (half_from log id offset) (length buffer.old)))) untaken }
     {
-        QuicRecvStream::new(id).read(&mut self.transport, buffer)
+        let mut half = QuicRecvStream { id };
+        half.read(&mut self.transport, buffer)
     }
 
     /// Fills the buffer with unread bytes, as `QuicRecvStream::read_exact` does.
@@ -131,7 +139,8 @@ impl Inbox {
         ensures log_bytes { (side : Side) (log : Log) (stage : ℕ → Stage) (untaken : List Action) → Refines side self.old log stage untaken → (offset : ℕ) → body_offset (stage id) ≡ Some offset → buffer.new ≡ take (read_exact_count (half_from log id offset) (length buffer.old)) (drop offset (contents log id)) ++ drop (read_exact_count (half_from log id offset) (length buffer.old)) buffer.old }
         ensures log { (side : Side) (log : Log) (stage : ℕ → Stage) (untaken : List Action) → Refines side self.old log stage untaken → (offset : ℕ) → body_offset (stage id) ≡ Some offset → Refines side self.new log (with_stage stage id (Stage.Body (offset + read_exact_count (half_from log id offset) (length buffer.old)))) untaken }
     {
-        QuicRecvStream::new(id).read_exact(&mut self.transport, buffer)
+        let mut half = QuicRecvStream { id };
+        half.read_exact(&mut self.transport, buffer)
     }
 
     /// Gives the receiving half up, and asks the peer to stop it where the connection is open, as
@@ -143,6 +152,7 @@ impl Inbox {
         ensures others { OnOk result ((k : ℕ) → (id == k) ≡ false → SameAt self.old self.new k) }
         ensures log { (side : Side) (log : Log) (stage : ℕ → Stage) (untaken : List Action) → Refines side self.old log stage untaken → OnOk result (Refines side self.new (with_actions (if_open log (actions.StopOut id code)) log) (with_stage stage id Stage.GivenUp) (newest_first (if_open log (actions.StopOut id code)) untaken)) }
     {
-        QuicRecvStream::new(id).stop(&mut self.transport, code)
+        let half = QuicRecvStream { id };
+        half.stop(&mut self.transport, code)
     }
 }

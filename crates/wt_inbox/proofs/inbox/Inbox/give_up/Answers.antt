@@ -1,0 +1,27 @@
+use Rattle.std.proofs.Common.{refl, sym, subst, ap, ◌∙◌}
+use Rattle.std.proofs.lemmas.Result.{on_ok_weaker}
+use Rattle.wt_turn.specs.declared.action.Action.TheVariants as actions
+use Rattle.wt_turn.specs.declared.turn.Turn.TheVariants as turns
+use Rattle.wt_turn.specs.Log.{PrioritySet}
+use Rattle.wt_seam_spec.specs.Outgoing.{may_send}
+use Rattle.wt_streams.specs.HalfRules.{is_closed}
+use Rattle.wt_seam.specs.Rules.{sending_half}
+use Rattle.wt_inbox.specs.State.{InboxState}
+use Rattle.wt_inbox.specs.Stage.{Refines}
+use Rattle.wt_inbox.proofs.Passing.{given-others, given-quiet, gives-up}
+use Rattle.wt_inbox.specs.State.{SameAt, with_transport}
+use Rattle.wt_inbox.specs.Quiet.{quiet}
+use Rattle.wt_seam.specs.State.{TransportState}
+use Rattle.wt_inbox.proofs.inbox.Inbox.give_up.Goals as goal
+
+pub returns-clause-others : goal.returns-clause-others
+returns-clause-others c = ?
+
+pub returns-clause-quiet : goal.returns-clause-quiet
+returns-clause-quiet c = ap quiet c.give_up.ensures.now ∙ ?
+
+pub returns-clause-log : goal.returns-clause-log
+returns-clause-log c = λ side log stage untaken r.
+    let x : InboxState = record { transport = c.self.inside.transport; unis = c.self.inside.unis; bis = c.self.inside.bis; responses = c.self.inside.responses; controls = c.self.inside.controls; sessions = c.self.inside.sessions } in
+    let s : Refines side x log stage untaken = subst (λ (y : InboxState). Refines side y log stage untaken) (sym c.self.view_is) r in
+    gives-up side x log stage untaken s c.give_up.new.self c.args.id (c.give_up.ensures.log side log s.position untaken s.transport)
