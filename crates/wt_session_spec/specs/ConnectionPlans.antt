@@ -1,10 +1,9 @@
 -- What the calls on an established session do, by what is kept (draft-ietf-webtrans-http3, sections 4.2 to 4.4).
-use Rattle.std.specs.Prelude.{[], ◌/◌, ◌∷◌, Bool, List, None, Option, Some, if◌then◌else◌, length, nat_lt, not, ℕ}
+use Rattle.std.specs.Prelude.{[], ◌/◌, ◌∷◌, List, None, Option, Some, if◌then◌else◌, length, nat_lt, not, ℕ}
 use Rattle.wt_message.specs.Datagram.{datagram_bytes}
 use Rattle.wt_turn.specs.Log.{OpeningFailed, OpeningStarted, StreamAccepted}
 use Rattle.wt_turn.specs.declared.action.Action.{Action}
 use Rattle.wt_turn.specs.declared.datagram_fact.DatagramFact.{DatagramFact}
-use Rattle.wt_turn.specs.declared.reply.Reply.{Reply}
 use Rattle.wt_spec.specs.Connection.{opened_reply, stream_header}
 use Rattle.wt_session_spec.specs.CallFacts.{CallFacts}
 use Rattle.wt_session_spec.specs.HandshakePlans.{AllOut, Ended, HeadProgress, Refused, Short, actions_of_head, left_of, progress_of}

@@ -1,5 +1,5 @@
 -- What the calls on the halves of a stream do, by what is kept: the rules of `HalfRules`, told as replies.
-use Rattle.std.specs.Prelude.{[], ◌&&◌, ◌∷◌, Bool, Err, List, None, Ok, Option, Result, Some, if◌then◌else◌, is_some, length, not, suc, take, zero, ℕ, ℤ}
+use Rattle.std.specs.Prelude.{[], ◌&&◌, ◌∷◌, Bool, Err, List, None, Ok, Option, Result, Some, if◌then◌else◌, is_some, not, suc, take, zero, ℕ, ℤ}
 use Rattle.wt_seam_spec.specs.Joined.{send_of}
 use Rattle.wt_streams.specs.HalfRules.{SendingHalf, finish_answer, is_closed, priority_answer, read_answer, read_count, read_exact_answer, stopped_answer, write_all_answer, write_answer, write_refusal}
 use Rattle.wt_turn.specs.Log.{BytesRead, CallRecord, Polled, PrioritySet, ResetUnsent, StreamGivenUp}

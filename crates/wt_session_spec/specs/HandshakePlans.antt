@@ -9,7 +9,6 @@ use Rattle.wt_turn.specs.Log.{CallRecord, Polled, RequestDelivered, ResponseStar
 use Rattle.wt_turn.specs.declared.action.Action.{Action}
 use Rattle.wt_turn.specs.declared.connecting_error.ConnectingError.{ConnectingError}
 use Rattle.wt_turn.specs.declared.connection_error.ConnectionError.{ConnectionError}
-use Rattle.wt_turn.specs.declared.reply.Reply.{Reply}
 use Rattle.wt_wire.specs.Codes.{code_of}
 use Rattle.wt_spec.specs.Effect.{is_empty}
 use Rattle.wt_spec.specs.Handshake.{Connecting, HandshakeState, Responding, has_success, request_fields_of}
@@ -138,17 +137,17 @@ response_read f id own (responses.Response fields at) =
     (if f.is_open then Establish own id at else failed_connect own (connects.ConnectionError f.driver_error))
 
 -- the request goes out as far as credit goes; once it is out, its response is awaited
-abbrev pub request_sent : HeadProgress → CallFacts → ℕ → List Action → Plan
-request_sent Ended f id own = failed_connect own (lost_connect f)
-request_sent Refused f id own = abandoned f own connects.SessionRejected
-request_sent Short f id own = send_and_reply own replies.Pending
-request_sent AllOut f id own = response_read f id own f.response
+abbrev pub request_sent : HeadProgress → CallFacts → ℕ → List Action → List Action → Plan
+request_sent Ended f id own out = failed_connect own (lost_connect f)
+request_sent Refused f id own out = abandoned f own connects.SessionRejected
+request_sent Short f id own out = send_and_reply (own ++ out) replies.Pending
+request_sent AllOut f id own out = response_read f id (own ++ out) f.response
 
 -- what is left of the request goes out; where nothing is left, only the response matters
 abbrev pub request_left : CallFacts → ℕ → List Action → List ℕ → Plan
 request_left f id own left =
     if is_empty left then response_read f id own f.response
-    else request_sent (progress_of f id left) f id (own ++ actions_of_head f id left)
+    else request_sent (progress_of f id left) f id own (actions_of_head f id left)
 
 -- the client's first bidirectional stream is the session's
 abbrev pub request_plan : CallFacts → ℕ → List ℕ → Plan

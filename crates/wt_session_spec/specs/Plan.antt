@@ -1,5 +1,5 @@
 -- What a call does, as data: its own actions, what it records, and its reply.
-use Rattle.std.specs.Prelude.{[], ◌∷◌, Bool, List, false, if◌then◌else◌, ℕ}
+use Rattle.std.specs.Prelude.{[], ◌∷◌, List, if◌then◌else◌, ℕ}
 use Rattle.wt_seam_spec.specs.Streams.{peer_bi, peer_uni}
 use Rattle.wt_turn.specs.Log.{CallRecord, HandshakeOver, Log, Polled, SessionEstablished}
 use Rattle.wt_turn.specs.declared.action.Action.{Action}

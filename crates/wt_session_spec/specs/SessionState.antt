@@ -1,5 +1,5 @@
 -- What a session keeps of the calls: how far the handshake is, and what the application has of each stream.
-use Rattle.std.specs.Prelude.{[], ◌%◌, ◌&&◌, ◌==◌, ◌∷◌, Bool, List, None, Option, Some, false, if◌then◌else◌, not, true, unwrap_or, ℕ}
+use Rattle.std.specs.Prelude.{[], ◌%◌, ◌&&◌, ◌==◌, ◌||◌, ◌∷◌, Bool, List, false, not, true, unwrap_or, ℕ}
 use Rattle.std.specs.List.{list_any}
 use Rattle.wt_seam_spec.specs.Streams.{local_uni, peer_uni}
 use Rattle.wt_turn.specs.Log.{CallRecord, Log, OpeningFailed, OpeningStarted, StreamAccepted, calls_of}
@@ -54,7 +54,7 @@ stream_use k calls = record { giving = giving_of k calls; given_up = list_any (g
 
 -- what it has of stream k, after a call that recorded this
 abbrev pub use_after : ℕ → CallRecord → StreamUse → StreamUse
-use_after k r u = record { giving = giving_after k r u.giving; given_up = if gives_up k r then true else u.given_up }
+use_after k r u = record { giving = giving_after k r u.giving; given_up = gives_up k r || u.given_up }
 
 -- it is being opened
 abbrev pub is_in_opening : Giving → Bool
