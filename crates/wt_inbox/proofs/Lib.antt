@@ -1,0 +1,5 @@
+pub mod Streams
+pub mod Consuming
+pub mod ReadOn
+pub mod QuietLaws
+pub mod Shelves

@@ -1,0 +1,4 @@
+pub mod Quiet
+pub mod Kept
+pub mod State
+pub mod Stage
