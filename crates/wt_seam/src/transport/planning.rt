@@ -24,7 +24,6 @@ impl Transport {
     // ---- opening
 
     /// The stream that `open_uni` would open.
-    #[tactic(auto, using(crate::proofs::Refining::refined_uni))]
     pub fn next_uni(&self) -> Option<StreamId>
         ensures now { result ≡ opened_id_now self.now (local_uni self.now.side) }
         ensures log { (side : Side) (log : Log) (position : ℕ → ReadPosition) (untaken : List Action) → Refines side self.now log position untaken → result ≡ opened_id side log (local_uni side) }
@@ -39,7 +38,6 @@ impl Transport {
     }
 
     /// The stream that `open_bi` would open.
-    #[tactic(auto, using(crate::proofs::Refining::refined_bi))]
     pub fn next_bi(&self) -> Option<StreamId>
         ensures now { result ≡ opened_id_now self.now (local_bi self.now.side) }
         ensures log { (side : Side) (log : Log) (position : ℕ → ReadPosition) (untaken : List Action) → Refines side self.now log position untaken → result ≡ opened_id side log (local_bi side) }
