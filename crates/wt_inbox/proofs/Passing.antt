@@ -1,12 +1,12 @@
 -- What leaves the readers' positions leaves the stages.
-use Rattle.std.proofs.Common.{arith, ◌≡◌, ◌≢◌, ◌<◌, ◌≤◌, ◌+◌, ◌-◌, ◌*◌, ◌%◌, ℕ, ℤ, zero, suc, Bool, true, false, List, [], ◌∷◌, ◌++◌, length, take, drop, Option, Some, None, refl, sym, ap, subst, ◌∙◌, append_assoc, length-append}
+use Rattle.std.proofs.Common.{arith, ◌≡◌, ◌≢◌, ◌<◌, ◌≤◌, ◌+◌, ◌-◌, ◌*◌, ◌%◌, ℕ, ℤ, zero, suc, Bool, true, false, List, [], ◌∷◌, ◌++◌, length, min, take, drop, Option, Some, None, refl, sym, ap, subst, ◌∙◌, append_assoc, length-append}
 use Rattle.std.specs.Prelude.{IsTrue, is_some, nat_lt, not, ◌==◌, ◌&&◌, if◌then◌else◌}
 use Rattle.std.proofs.lemmas.Bool.Decides.{nat_tests}
 use Rattle.std.proofs.lemmas.List.{append-nil, drop-append-le, length-drop, take-append-le}
 use Rattle.wt_wire.specs.declared.side.Side.{Side}
 use Rattle.wt_wire.specs.declared.side.Side.TheVariants.{Client, Server}
 use Rattle.wt_wire.specs.declared.side.StreamEnd.{StreamEnd}
-use Rattle.wt_wire.specs.declared.side.StreamEnd.TheVariants.{Running}
+use Rattle.wt_wire.specs.declared.side.StreamEnd.TheVariants.{Running, Fin, Reset}
 use Rattle.wt_turn.specs.declared.action.Action.{Action}
 use Rattle.wt_turn.specs.declared.action.Action.TheVariants as actions
 use Rattle.wt_turn.specs.declared.turn.Turn.{Turn}
@@ -25,25 +25,29 @@ use Rattle.wt_seam_spec.specs.Joined.{send_of}
 use Rattle.wt_seam_spec.specs.Outgoing.{if_open, may_open, next_id, opening, reset_entry, sending}
 use Rattle.wt_seam_spec.specs.Streams.{contents, local_bi, local_count, local_uni, one_more_if, opens, peer_bi, peer_count, peer_uni, stream_count}
 use Rattle.wt_seam_spec.specs.Reports.{end_of}
-use Rattle.wt_seam_spec.specs.Unread.{ReadPosition, AtOffset, advance, consumed, from_position, given_up, unread}
+use Rattle.wt_seam_spec.specs.Unread.{ReadPosition, AtOffset, advance, at_start, consumed, from_position, given_up, unread}
 use Rattle.wt_seam_spec.specs.Unread as positions
+use Rattle.wt_message.specs.FixedBytes.{local_control_bytes}
+use Rattle.wt_wire.specs.PrefixedInteger.{prefixed_bytes}
+use Rattle.wt_wire.specs.Varint.{varint_bytes}
+use Rattle.wt_streams.specs.HalfRules.{ReceivingHalf, count_of_few, read_count, read_exact_count}
 use Rattle.wt_streams.specs.StreamState.{give_up, has_stream}
 use Rattle.wt_seam.specs.Rules.{receiving_half}
-use Rattle.wt_seam.specs.Step.{after_consume, after_give_up, can_receive_now, unread_now}
+use Rattle.wt_seam.specs.Step.{after_consume, after_give_up, after_stop, can_receive_now, if_so, unread_now, with_action}
 use Rattle.wt_seam.proofs.Bools.{first}
 use Rattle.wt_seam.specs.State.{TransportState}
 use Rattle.wt_seam.specs.State as seam
-use Rattle.wt_seam.proofs.Refining.{actions-contents}
+use Rattle.wt_seam.proofs.Refining.{actions-contents, new_refines}
 use Rattle.wt_seam.proofs.Asking.{open_events}
 use Rattle.wt_inbox.specs.Kept.{reading_of}
 use Rattle.wt_inbox.specs.Quiet.{quiet}
-use Rattle.wt_inbox.specs.State.{InboxState, SameAt, with_transport}
+use Rattle.wt_inbox.specs.State.{InboxState, SameAt, nothing_read, with_transport}
 use Rattle.wt_inbox.specs.Moves.{SameReaders}
 use Rattle.wt_inbox.proofs.Asked.{same-at}
 use Rattle.wt_inbox.proofs.Consuming.{consume-consumes}
 use Rattle.wt_inbox.proofs.Staging.{here-consumed, is-at-same, other-consumed, staged-at}
 use Rattle.wt_inbox.proofs.Streams.{other-unread, quiet-changed}
-use Rattle.wt_inbox.specs.Stage.{Stage, Untouched, UniHeader, BiHeader, ResponseHead, Body, ControlBody, SessionBody, GivenUp, Anywhere, HasNoReader, HasNoWalk, HasReached, IsAt, Refines, body_offset, half_from, with_stage}
+use Rattle.wt_inbox.specs.Stage.{Stage, Untouched, UniHeader, BiHeader, ResponseHead, Body, ControlBody, SessionBody, GivenUp, Anywhere, HasNoReader, HasNoWalk, HasReached, IsAt, Refines, all_untouched, body_offset, half_from, with_stage}
 
 -- ---- more bytes
 
@@ -336,3 +340,109 @@ module _ (x : InboxState) (id : ℕ) where
 
     pub read-others : (k : ℕ) → (id == k) ≡ false → SameAt x (with_transport x (after_consume x.transport id count)) k
     read-others k n = same-at x (with_transport x (after_consume x.transport id count)) k (same-readers x (after_consume x.transport id count) k) ((consume-consumes x.transport id count few).others k n) read-quiet
+
+-- the same of a transport that is known by equations
+module _ (x w : InboxState) (t : TransportState) (id : ℕ) (v : x ≡ w) where
+  pub given-others-of : t ≡ after_give_up x.transport id → IsTrue (can_receive_now w.transport id) → (k : ℕ) → (id == k) ≡ false → SameAt w (with_transport x t) k
+  given-others-of e can k n = subst (λ (z : InboxState). SameAt z (with_transport x t) k) v (subst (λ (u : TransportState). SameAt x (with_transport x u) k) (sym e)
+      (given-others x id (subst (λ (z : InboxState). IsTrue (can_receive_now z.transport id)) (sym v) can) k n))
+
+  pub given-quiet-of : t ≡ after_give_up x.transport id → quiet t ≡ quiet w.transport
+  given-quiet-of e = ap quiet e ∙ (given-quiet x id ∙ ap (λ (z : InboxState). quiet z.transport) v)
+
+  module _ (count : ℕ) (few : count ≤ length (unread_now x.transport id)) (e : t ≡ after_consume x.transport id count) where
+    pub read-others-of : (k : ℕ) → (id == k) ≡ false → SameAt w (with_transport x t) k
+    read-others-of k n = subst (λ (z : InboxState). SameAt z (with_transport x t) k) v (subst (λ (u : TransportState). SameAt x (with_transport x u) k) (sym e) (read-others x id count few k n))
+
+    pub read-quiet-of : quiet t ≡ quiet w.transport
+    read-quiet-of = ap quiet e ∙ (read-quiet x id count few ∙ ap (λ (z : InboxState). quiet z.transport) v)
+
+-- what goes out leaves each stream's answers
+stop-same : (x : InboxState) (a : Action) (k : ℕ) (b : Bool) → SameAt x (with_transport x (if_so b (with_action x.transport a) x.transport)) k
+stop-same x a k true = record { uni = refl; bi = refl; response = refl; control = refl; session = refl; over = refl; unread = refl }
+stop-same x a k false = record { uni = refl; bi = refl; response = refl; control = refl; session = refl; over = refl; unread = refl }
+
+same-twice : (x y z : InboxState) (k : ℕ) → SameAt x y k → SameAt y z k → SameAt x z k
+same-twice x y z k a b = record { uni = b.uni ∙ a.uni; bi = b.bi ∙ a.bi; response = b.response ∙ a.response; control = b.control ∙ a.control; session = b.session ∙ a.session; over = b.over ∙ a.over; unread = b.unread ∙ a.unread }
+
+stop-can : (t : TransportState) (a : Action) (id : ℕ) (b : Bool) → can_receive_now (if_so b (with_action t a) t) id ≡ can_receive_now t id
+stop-can t a id true = refl
+stop-can t a id false = refl
+
+pub stopped-others-of : (x w : InboxState) (t : TransportState) (id code : ℕ) → x ≡ w → t ≡ after_give_up (after_stop x.transport id code) id → IsTrue (can_receive_now w.transport id) → (k : ℕ) → (id == k) ≡ false → SameAt w (with_transport x t) k
+stopped-others-of x w t id code v e can k n =
+    let y : InboxState = with_transport x (after_stop x.transport id code) in
+    let here : SameAt x y k = stop-same x (actions.StopOut id code) k x.transport.is_open in
+    let can_ : IsTrue (can_receive_now y.transport id) = stop-can x.transport (actions.StopOut id code) id x.transport.is_open ∙ subst (λ (z : InboxState). IsTrue (can_receive_now z.transport id)) (sym v) can in
+    subst (λ (z : InboxState). SameAt z (with_transport x t) k) v
+    (subst (λ (u : TransportState). SameAt x (with_transport x u) k) (sym e) (same-twice x y (with_transport y (after_give_up y.transport id)) k here (given-others y id can_ k n)))
+
+-- how many bytes a read takes is no more than are unread
+min-few : (size n : ℕ) → min size n ≤ n
+min-few size n = omega arith
+
+pub read-few : (half : ReceivingHalf) (size : ℕ) → read_count half size ≤ half.unread
+read-few half size = min-few size half.unread
+
+few-by : (end : StreamEnd) (n : ℕ) → count_of_few end n ≤ n
+few-by Running n = omega arith
+few-by Fin n = omega arith
+few-by (Reset code) n = omega arith
+
+exact-by : (b : Bool) (end : StreamEnd) (n size : ℕ) → nat_lt n size ≡ b → (if b then count_of_few end n else size) ≤ n
+exact-by true end n size e = few-by end n
+exact-by false end n size e = grind (arith, nat_tests)
+
+pub exact-few : (half : ReceivingHalf) (size : ℕ) → read_exact_count half size ≤ half.unread
+exact-few half size = exact-by (nat_lt half.unread size) half.end half.unread size refl
+
+-- ---- stages, as a layer above may see them
+
+module _ (side : Side) (x : InboxState) (log : Log) (stage : ℕ → Stage) (untaken : List Action) (r : Refines side x log stage untaken) where
+  -- stages that are the same one by one
+  pub same_stages : (other : ℕ → Stage) → ((k : ℕ) → other k ≡ stage k) → Refines side x log other untaken
+  same_stages other e = record {
+    position = r.position;
+    transport = r.transport;
+    no_uni = r.no_uni;
+    no_bi = r.no_bi;
+    staged = λ k. subst (λ (s : Stage). IsAt x k (contents log k) (r.position k) s) (sym (e k)) (r.staged k);
+  }
+
+  -- nothing more is said of a stream
+  pub forgets : (id : ℕ) → Refines side x log (with_stage stage id Anywhere) untaken
+  forgets id = record {
+    position = r.position;
+    transport = r.transport;
+    no_uni = r.no_uni;
+    no_bi = r.no_bi;
+    staged = staged-at x log r.position stage id Anywhere tt (λ k n. r.staged k);
+  }
+
+  -- a stream that no walk reads and of which so many bytes were read
+  pub as_body : (id offset : ℕ) → body_offset (stage id) ≡ Some offset → Refines side x log (with_stage stage id (Body offset)) untaken
+  as_body id offset a = record {
+    position = r.position;
+    transport = r.transport;
+    no_uni = r.no_uni;
+    no_bi = r.no_bi;
+    staged = staged-at x log r.position stage id (Body offset) (body-opens x id (contents log id) (r.position id) (stage id) offset a (r.staged id)) (λ k n. r.staged k);
+  }
+
+-- ---- the head of this end's control stream
+
+head-is : local_control_bytes ≡ 0 ∷ 4 ∷ 22 ∷ 1 ∷ 0 ∷ 7 ∷ 0 ∷ 8 ∷ 1 ∷ 51 ∷ 1 ∷ 171 ∷ 96 ∷ 55 ∷ 66 ∷ 1 ∷ 192 ∷ 0 ∷ 0 ∷ 0 ∷ 198 ∷ 113 ∷ 112 ∷ 106 ∷ 1 ∷ []
+unfolding varint_bytes prefixed_bytes
+head-is = refl
+
+pub head_length : length local_control_bytes ≡ 25
+head_length = rw head-is refl
+
+pub new_inbox_refines : (side : Side) → Refines side (nothing_read side) [] all_untouched []
+new_inbox_refines side = record {
+  position = at_start;
+  transport = new_refines side;
+  no_uni = refl;
+  no_bi = refl;
+  staged = λ k. (refl, record { uni = refl; bi = refl; response = refl; walk = record { control = refl; session = refl } });
+}

@@ -7,12 +7,13 @@ use Rattle.wt_wire.specs.declared.side.StreamEnd.{StreamEnd}
 use Rattle.wt_wire.specs.declared.side.StreamEnd.TheVariants as ends
 use Rattle.wt_streams.specs.declared.stream.Stream.{Stream}
 use Rattle.wt_streams.specs.StreamState.{fresh, has_stream, row_at, stream_at, stream_in}
-use Rattle.wt_seam_spec.specs.Streams.{local_uni, peer_uni}
+use Rattle.wt_seam_spec.specs.Streams.{local_uni, peer_bi, peer_uni}
+use Rattle.wt_seam_spec.specs.Reports.{is_running}
 use Rattle.wt_message.specs.FixedBytes.{local_control_bytes}
 use Rattle.wt_seam.specs.State.{TransportState}
-use Rattle.wt_seam.specs.Step.{can_receive_now, can_send_now, count_now, credit_now, end_now, may_send_now, sent_now, stop_now, is_finished_now, is_reset_now, is_acknowledged_now}
+use Rattle.wt_seam.specs.Step.{can_receive_now, can_send_now, count_now, credit_now, end_now, may_receive_now, may_send_now, sent_now, stop_now, is_finished_now, is_reset_now, is_acknowledged_now}
 use Rattle.wt_inbox.specs.Quiet.{quiet, quiet_stream}
-use Rattle.wt_inbox.specs.State.{ready_now, control_credit_now, control_stopped_now}
+use Rattle.wt_inbox.specs.State.{ready_now, control_credit_now, control_stopped_now, may_open_uni_now, peer_bis_now, peer_unis_now}
 
 module _ (t : TransportState) where
   quiet-row : (kind : ℕ) → row_at (quiet t).streams kind ≡ map quiet_stream (row_at t.streams kind)
@@ -45,6 +46,18 @@ module _ (t : TransportState) where
 
   quiet-finished : (k : ℕ) → is_finished_now (quiet t) k ≡ is_finished_now t k
   quiet-finished k = asked (λ b s. b && s.finished) (λ b s. refl) k
+
+  quiet-may-receive : (k : ℕ) → may_receive_now (quiet t) k ≡ may_receive_now t k
+  quiet-may-receive k = asked (λ b s. t.is_connected && (b && not (local_uni t.side == k % 4)) && is_running s.all_signals.end) (λ b s. refl) k
+
+  quiet-may-send : (k : ℕ) → may_send_now (quiet t) k ≡ may_send_now t k
+  quiet-may-send k = asked (λ b s. t.is_open && (b && not (peer_uni t.side == k % 4)) && not s.finished && not s.reset && not (is_some s.signals.stop)) (λ b s. refl) k
+
+  quiet-reset : (k : ℕ) → is_reset_now (quiet t) k ≡ is_reset_now t k
+  quiet-reset k = asked (λ b s. b && s.reset) (λ b s. refl) k
+
+  quiet-acknowledged : (k : ℕ) → is_acknowledged_now (quiet t) k ≡ is_acknowledged_now t k
+  quiet-acknowledged k = asked (λ b s. b && s.signals.acknowledged) (λ b s. refl) k
 
   quiet-can-receive : (k : ℕ) → can_receive_now (quiet t) k ≡ can_receive_now t k
   quiet-can-receive k = ap (λ b. b && not (local_uni t.side == k % 4)) (quiet-has k)
@@ -83,6 +96,27 @@ module _ (t u : TransportState) (e : quiet u ≡ quiet t) where
 
   pub same_can_send : (k : ℕ) → can_send_now u k ≡ can_send_now t k
   same_can_send k = same-of (λ v. can_send_now v k) (λ v. quiet-can-send v k)
+
+  pub same_may_receive : (k : ℕ) → may_receive_now u k ≡ may_receive_now t k
+  same_may_receive k = same-of (λ v. may_receive_now v k) (λ v. quiet-may-receive v k)
+
+  pub same_may_send : (k : ℕ) → may_send_now u k ≡ may_send_now t k
+  same_may_send k = same-of (λ v. may_send_now v k) (λ v. quiet-may-send v k)
+
+  pub same_reset : (k : ℕ) → is_reset_now u k ≡ is_reset_now t k
+  same_reset k = same-of (λ v. is_reset_now v k) (λ v. quiet-reset v k)
+
+  pub same_acknowledged : (k : ℕ) → is_acknowledged_now u k ≡ is_acknowledged_now t k
+  same_acknowledged k = same-of (λ v. is_acknowledged_now v k) (λ v. quiet-acknowledged v k)
+
+  pub same_may_open_uni : may_open_uni_now u ≡ may_open_uni_now t
+  same_may_open_uni = ap (λ (v : TransportState). nat_lt 0 v.unis_allowed) e
+
+  pub same_peer_unis : peer_unis_now u ≡ peer_unis_now t
+  same_peer_unis = ap (λ w. count_now u (peer_uni w)) (ap (λ (v : TransportState). v.side) e) ∙ same_count (peer_uni t.side)
+
+  pub same_peer_bis : peer_bis_now u ≡ peer_bis_now t
+  same_peer_bis = ap (λ w. count_now u (peer_bi w)) (ap (λ (v : TransportState). v.side) e) ∙ same_count (peer_bi t.side)
 
   side-same : u.side ≡ t.side
   side-same = ap (λ (v : TransportState). v.side) e

@@ -1,5 +1,5 @@
 //! Calls on one half of a stream.
-ghost use Rattle.std.specs.Prelude.{◌≡◌, ◌==◌, ◌+◌, ◌++◌, ℕ, List, Some, IfOk, IsTrue, OnErr, OnOk, length, take, drop, false};
+ghost use Rattle.std.specs.Prelude.{◌≡◌, ◌==◌, ◌≤◌, ◌+◌, ◌++◌, ℕ, List, Some, IfOk, IsTrue, OnErr, OnOk, length, take, drop, false};
 ghost use Rattle.wt_turn.specs.Log.{Log, is_open, with_actions};
 ghost use Rattle.wt_turn.specs.declared.action.Action.{Action};
 ghost use Rattle.wt_turn.specs.declared.action.Action.TheVariants as actions;
@@ -109,6 +109,17 @@ impl Inbox {
     {
         let half = QuicSendStream { id };
         half.priority(&mut self.transport)
+    }
+
+    /// Reads so many bytes of a stream.
+    pub fn consume(&mut self, id: StreamId, count: usize)
+        requires { count ≤ length (unread_now self.old.transport id) }
+        ensures now { self.new ≡ with_transport self.old (after_consume self.old.transport id count) }
+        ensures others { (k : ℕ) → (id == k) ≡ false → SameAt self.old self.new k }
+        ensures quiet { quiet self.new.transport ≡ quiet self.old.transport }
+        ensures log { (side : Side) (log : Log) (stage : ℕ → Stage) (untaken : List Action) → Refines side self.old log stage untaken → (offset : ℕ) → body_offset (stage id) ≡ Some offset → Refines side self.new log (with_stage stage id (Stage.Body (offset + count))) untaken }
+    {
+        self.transport.consume(id, count);
     }
 
     /// Reads unread bytes into the buffer's front, as `QuicRecvStream::read` does.

@@ -200,7 +200,7 @@ impl Inbox {
         ensures now { result ≡ control_credit_now self.now.transport }
         ensures log { (side : Side) (log : Log) (stage : ℕ → Stage) (untaken : List Action) → Refines side self.now log stage untaken → is_open log ≡ true → result ≡ credit (events_of log) (local_uni side) }
     {
-        self.transport.credit(self.control_id())
+        self.credit(self.control_id())
     }
 
     /// Whether the peer stopped this end's control stream.
@@ -208,7 +208,7 @@ impl Inbox {
         ensures now { result ≡ control_stopped_now self.now.transport }
         ensures log { (side : Side) (log : Log) (stage : ℕ → Stage) (untaken : List Action) → Refines side self.now log stage untaken → result ≡ is_some (stop_of (events_of log) (local_uni side)) }
     {
-        self.transport.stop_code(self.control_id()).is_some()
+        self.stop_code(self.control_id()).is_some()
     }
 
     /// Whether this end's SETTINGS are out, or can go out whole: one unidirectional stream is allowed, with
@@ -217,7 +217,11 @@ impl Inbox {
         ensures now { result ≡ ready_now self.now.transport }
         ensures log { (side : Side) (log : Log) (stage : ℕ → Stage) (untaken : List Action) → Refines side self.now log stage untaken → is_open log ≡ true → result ≡ (is_connected (events_of log) && nat_lt 0 (unis_allowed (events_of log)) && not (nat_lt (credit (events_of log) (local_uni side)) (length local_control_bytes))) }
     {
-        self.transport.is_connected() && self.may_open_uni() && self.control_credit() >= CONTROL_LENGTH
+        is_ready_by(
+            self.is_connected(),
+            self.may_open_uni(),
+            self.control_credit(),
+        )
     }
 
     /// The id of this end's first unidirectional stream, its control stream.
@@ -229,4 +233,12 @@ impl Inbox {
             Side::Server => StreamId::new(VarInt::from_u32(3)),
         }
     }
+}
+
+/// Whether SETTINGS can go out whole, by what the transport tells.
+#[tactic(auto, using(crate::proofs::Passing::head_length))]
+fn is_ready_by(connected: bool, may_open: bool, credit: u64) -> bool
+    ensures { result ≡ (connected && may_open && not (nat_lt credit (length local_control_bytes))) }
+{
+    connected && may_open && credit >= CONTROL_LENGTH
 }

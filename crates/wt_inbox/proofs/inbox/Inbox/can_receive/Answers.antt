@@ -15,4 +15,4 @@ pub returns-clause-log : goal.returns-clause-log
 returns-clause-log c = λ side log stage untaken r.
     let x : InboxState = record { transport = c.self.inside.transport; unis = c.self.inside.unis; bis = c.self.inside.bis; responses = c.self.inside.responses; controls = c.self.inside.controls; sessions = c.self.inside.sessions } in
     let s : Refines side x log stage untaken = subst (λ (y : InboxState). Refines side y log stage untaken) (sym c.self.view_is) r in
-    c.can_receive.ensures ∙ refined_can_receive side x.transport log s.position untaken s.transport c.args.id
+    c.can_receive.ensures.now ∙ refined_can_receive side x.transport log s.position untaken s.transport c.args.id

@@ -8,17 +8,14 @@ use Rattle.wt_streams.specs.HalfRules.{is_closed}
 use Rattle.wt_seam.specs.Rules.{sending_half}
 use Rattle.wt_inbox.specs.State.{InboxState}
 use Rattle.wt_inbox.specs.Stage.{Refines}
-use Rattle.wt_inbox.proofs.Passing.{given-others, given-quiet, gives-up}
-use Rattle.wt_inbox.specs.State.{SameAt, with_transport}
-use Rattle.wt_inbox.specs.Quiet.{quiet}
-use Rattle.wt_seam.specs.State.{TransportState}
+use Rattle.wt_inbox.proofs.Passing.{given-others-of, given-quiet-of, gives-up}
 use Rattle.wt_inbox.proofs.inbox.Inbox.give_up.Goals as goal
 
 pub returns-clause-others : goal.returns-clause-others
-returns-clause-others c = ?
+returns-clause-others c = given-others-of (record { transport = c.self.inside.transport; unis = c.self.inside.unis; bis = c.self.inside.bis; responses = c.self.inside.responses; controls = c.self.inside.controls; sessions = c.self.inside.sessions }) c.args.self.now c.give_up.new.self c.args.id c.self.view_is c.give_up.ensures.now c.requires
 
 pub returns-clause-quiet : goal.returns-clause-quiet
-returns-clause-quiet c = ap quiet c.give_up.ensures.now ∙ ?
+returns-clause-quiet c = given-quiet-of (record { transport = c.self.inside.transport; unis = c.self.inside.unis; bis = c.self.inside.bis; responses = c.self.inside.responses; controls = c.self.inside.controls; sessions = c.self.inside.sessions }) c.args.self.now c.give_up.new.self c.args.id c.self.view_is c.give_up.ensures.now
 
 pub returns-clause-log : goal.returns-clause-log
 returns-clause-log c = λ side log stage untaken r.
