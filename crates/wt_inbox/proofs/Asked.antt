@@ -1,16 +1,10 @@
 -- What asking and releasing leave of every stream's answers.
-use Rattle.std.proofs.Common.{arith, ◌≡◌, ◌<◌, ◌≤◌, ◌+◌, ◌-◌, ℕ, zero, suc, Bool, true, false, List, [], ◌∷◌, ◌++◌, length, take, drop, Option, Some, None, refl, sym, ap, subst, ◌∙◌}
-use Rattle.std.specs.Prelude.{is_some, ◌==◌, if◌then◌else◌}
-use Rattle.std.proofs.lemmas.Bool.Decides.{nat_tests}
-use Rattle.wt_wire.specs.declared.side.Side.{Side}
+use Rattle.std.proofs.Common.{◌≡◌, ℕ, Bool, false, List, None, refl, ap, ◌∙◌}
+use Rattle.std.specs.Prelude.{is_some, ◌==◌}
 use Rattle.wt_wire.specs.declared.side.StreamEnd.{StreamEnd}
 use Rattle.wt_wire.specs.declared.side.StreamEnd.TheVariants.{Running}
-use Rattle.wt_turn.specs.declared.action.Action.{Action}
-use Rattle.wt_turn.specs.Log.{Log, actions_of, events_of}
-use Rattle.wt_message.specs.declared.settings.Settings.{Settings}
 use Rattle.wt_proto.specs.declared.walk.Step.{Step}
 use Rattle.wt_proto.specs.declared.control_walk.ControlWalk.{ControlWalk}
-use Rattle.wt_proto.specs.Progress.{Reading, progress_over}
 use Rattle.wt_proto.specs.Reading.{outcome_in}
 use Rattle.wt_proto.specs.Uni.{is_final, uni_decides, uni_unfinished, uni_verdict_of}
 use Rattle.wt_proto.specs.Bi.{bi_decides, bi_unfinished, bi_verdict_of}
@@ -22,22 +16,14 @@ use Rattle.wt_proto.proofs.BiReading.{bi_lawful}
 use Rattle.wt_proto.proofs.ControlReading.{control_lawful}
 use Rattle.wt_proto.proofs.SessionReading.{session_lawful}
 use Rattle.wt_proto.proofs.ResponseReading.{response_lawful}
-use Rattle.wt_seam_spec.specs.Streams.{contents}
-use Rattle.wt_seam_spec.specs.Reports.{end_of}
-use Rattle.wt_seam_spec.specs.Unread.{ReadPosition, AtOffset, advance, consumed, from_position}
-use Rattle.wt_seam_spec.specs.Unread as positions
-use Rattle.wt_seam.specs.State.{TransportState, IsWithin}
-use Rattle.wt_seam.specs.State as seam
-use Rattle.wt_seam.specs.Step.{end_now, unread_now}
-use Rattle.wt_seam.proofs.Refining.{refined_end, refined_unread}
+use Rattle.wt_seam.specs.State.{TransportState}
+use Rattle.wt_seam.specs.Step.{unread_now}
 use Rattle.wt_inbox.specs.Quiet.{quiet}
-use Rattle.wt_inbox.specs.Kept.{Kept, Pulls, no_reading, outcome_after, outcome_by, reading_of}
-use Rattle.wt_inbox.specs.State.{InboxState, SameAt, bi_verdict_now, control_now, is_over_by_bytes, response_now, session_now, uni_verdict_now, with_transport}
+use Rattle.wt_inbox.specs.Kept.{Kept, outcome_after, outcome_by, reading_of}
+use Rattle.wt_inbox.specs.State.{InboxState, SameAt, bi_verdict_now, control_now, is_over_by_bytes, response_now, session_now, uni_verdict_now}
 use Rattle.wt_inbox.specs.Moves.{BiPulled, BiTaken, ControlPulled, ResponsePulled, ResponseTaken, SameReaders, SessionPulled, SessionTaken, UniPulled, UniTaken}
-use Rattle.wt_inbox.specs.Stage.{Stage, Untouched, UniHeader, BiHeader, ResponseHead, Body, ControlBody, SessionBody, GivenUp, Anywhere, HasNoReader, HasNoWalk, HasReached, IsAt, Refines, awaits_bi, awaits_response, awaits_uni, body_offset, control_offset, response_offset, session_offset, stage_from, verdict_offset, with_stage}
-use Rattle.wt_inbox.proofs.Offsets.{IsOffset, bi_offset, response_offset_is, uni_offset}
 use Rattle.wt_inbox.proofs.QuietLaws.{same_end}
-use Rattle.wt_inbox.proofs.Reaching.{answered, asked-by, asked-same, outcome-is, reached-on, read-all, stands-at}
+use Rattle.wt_inbox.proofs.Reaching.{answered, asked-by, asked-same}
 
 -- ---- the readers of other streams
 

@@ -1,20 +1,14 @@
 -- Reading unread bytes, and what it leaves.
-use Rattle.std.proofs.Common.{arith, ◌≡◌, ◌<◌, ◌≤◌, ◌+◌, ◌-◌, ℕ, zero, suc, Bool, true, false, List, [], ◌∷◌, ◌++◌, length, take, drop, refl, sym, ap, subst, ◌∙◌, add_assoc, add-zero}
+use Rattle.std.proofs.Common.{arith, ◌≡◌, ◌≤◌, ◌+◌, ◌-◌, ℕ, zero, suc, Bool, true, false, List, [], ◌∷◌, length, drop, refl, sym, ap, subst, ◌∙◌}
 use Rattle.std.specs.Prelude.{◌==◌, if◌then◌else◌}
-use Rattle.std.specs.List.{concat}
 use Rattle.std.proofs.lemmas.List.{length-drop}
-use Rattle.wt_wire.specs.declared.side.Side.{Side}
-use Rattle.wt_turn.specs.declared.action.Action.{Action}
-use Rattle.wt_turn.specs.Log.{Log}
-use Rattle.wt_streams.specs.declared.stream.Stream.{Stream}
-use Rattle.wt_streams.specs.StreamState.{consume, give_up, has_stream, stream_at}
-use Rattle.wt_streams.specs.Pieces.{skip}
+use Rattle.wt_streams.specs.StreamState.{consume, has_stream, stream_at}
 use Rattle.wt_streams.proofs.PieceLaws.{concat_skip, drop_none}
 use Rattle.wt_seam_spec.specs.Unread.{ReadPosition, AtOffset, GivenUp, advance, consumed}
 use Rattle.wt_seam.specs.State.{TransportState, Refines}
-use Rattle.wt_seam.specs.Step.{after_consume, pieces_now, unread_now, with_change}
+use Rattle.wt_seam.specs.Step.{after_consume, unread_now, with_change}
 use Rattle.wt_seam.proofs.Refining.{consume_refines}
-use Rattle.wt_inbox.specs.Quiet.{quiet, quiet_stream}
+use Rattle.wt_inbox.specs.Quiet.{quiet}
 use Rattle.wt_inbox.specs.Kept.{Consumes}
 use Rattle.wt_inbox.proofs.Streams.{here-changed, here-has, other-unread, quiet-changed}
 

@@ -1,6 +1,6 @@
 -- What leaves the readers' positions leaves the stages.
-use Rattle.std.proofs.Common.{arith, ◌≡◌, ◌≢◌, ◌<◌, ◌≤◌, ◌+◌, ◌-◌, ◌*◌, ◌%◌, ℕ, ℤ, zero, suc, Bool, true, false, List, [], ◌∷◌, ◌++◌, length, min, take, drop, Option, Some, None, refl, sym, ap, subst, ◌∙◌, append_assoc, length-append}
-use Rattle.std.specs.Prelude.{IsTrue, is_some, nat_lt, not, ◌==◌, ◌&&◌, if◌then◌else◌}
+use Rattle.std.proofs.Common.{arith, ◌≡◌, ◌≢◌, ◌<◌, ◌≤◌, ◌+◌, ◌*◌, ◌%◌, ℕ, Bool, true, false, List, [], ◌∷◌, ◌++◌, length, min, take, drop, Some, None, refl, sym, ap, subst, ◌∙◌, append_assoc, length-append}
+use Rattle.std.specs.Prelude.{IsTrue, is_some, nat_lt, not, ◌==◌, if◌then◌else◌}
 use Rattle.std.proofs.lemmas.Bool.Decides.{nat_tests}
 use Rattle.std.proofs.lemmas.List.{append-nil, drop-append-le, length-drop, take-append-le}
 use Rattle.wt_wire.specs.declared.side.Side.{Side}
@@ -11,7 +11,7 @@ use Rattle.wt_turn.specs.declared.action.Action.{Action}
 use Rattle.wt_turn.specs.declared.action.Action.TheVariants as actions
 use Rattle.wt_turn.specs.declared.turn.Turn.{Turn}
 use Rattle.wt_turn.specs.declared.turn.Turn.TheVariants as turns
-use Rattle.wt_turn.specs.Log.{Event, Entry, Log, Received, Sent, Called, ResetUnsent, actions_of, all_events_of, events_of, is_open, with_actions}
+use Rattle.wt_turn.specs.Log.{Event, Log, Received, Sent, Called, ResetUnsent, actions_of, all_events_of, events_of, is_open, with_actions}
 use Rattle.wt_proto.specs.declared.walk.Step.{Step}
 use Rattle.wt_proto.specs.declared.control_walk.ControlWalk.{ControlWalk}
 use Rattle.wt_proto.specs.Progress.{Reading, progress_over}
@@ -20,9 +20,9 @@ use Rattle.wt_proto.specs.Bi.{bi_decides, bi_verdict_of}
 use Rattle.wt_proto.specs.ControlWalk.{control_decides, control_walk_of}
 use Rattle.wt_proto.specs.SessionWalk.{is_over, session_decides, session_walk_of}
 use Rattle.wt_proto.specs.ResponseWalk.{is_response_final, response_decides, response_walk_of}
-use Rattle.wt_seam_spec.specs.Arrivals.{event_entry, log_bytes, log_bytes_if, log_event, log_turn}
+use Rattle.wt_seam_spec.specs.Arrivals.{event_entry, log_bytes, log_bytes_if, log_turn}
 use Rattle.wt_seam_spec.specs.Joined.{send_of}
-use Rattle.wt_seam_spec.specs.Outgoing.{if_open, may_open, next_id, opening, reset_entry, sending}
+use Rattle.wt_seam_spec.specs.Outgoing.{if_open, may_open, opening, reset_entry, sending}
 use Rattle.wt_seam_spec.specs.Streams.{contents, local_bi, local_count, local_uni, one_more_if, opens, peer_bi, peer_count, peer_uni, stream_count}
 use Rattle.wt_seam_spec.specs.Reports.{end_of}
 use Rattle.wt_seam_spec.specs.Unread.{ReadPosition, AtOffset, advance, at_start, consumed, from_position, given_up, unread}
@@ -37,7 +37,7 @@ use Rattle.wt_seam.specs.Step.{after_consume, after_give_up, after_stop, can_rec
 use Rattle.wt_seam.proofs.Bools.{first}
 use Rattle.wt_seam.specs.State.{TransportState}
 use Rattle.wt_seam.specs.State as seam
-use Rattle.wt_seam.proofs.Refining.{actions-contents, new_refines}
+use Rattle.wt_seam.proofs.Refining.{new_refines}
 use Rattle.wt_seam.proofs.Asking.{open_events}
 use Rattle.wt_inbox.specs.Kept.{reading_of}
 use Rattle.wt_inbox.specs.Quiet.{quiet}
@@ -47,7 +47,7 @@ use Rattle.wt_inbox.proofs.Asked.{same-at}
 use Rattle.wt_inbox.proofs.Consuming.{consume-consumes}
 use Rattle.wt_inbox.proofs.Staging.{here-consumed, is-at-same, other-consumed, staged-at}
 use Rattle.wt_inbox.proofs.Streams.{other-unread, quiet-changed}
-use Rattle.wt_inbox.specs.Stage.{Stage, Untouched, UniHeader, BiHeader, ResponseHead, Body, ControlBody, SessionBody, GivenUp, Anywhere, HasNoReader, HasNoWalk, HasReached, IsAt, Refines, all_untouched, body_offset, half_from, with_stage}
+use Rattle.wt_inbox.specs.Stage.{Stage, Untouched, UniHeader, BiHeader, ResponseHead, Body, ControlBody, SessionBody, GivenUp, Anywhere, HasNoWalk, HasReached, IsAt, Refines, all_untouched, body_offset, half_from, with_stage}
 
 -- ---- more bytes
 

@@ -1,9 +1,8 @@
 -- What reading leaves is what the transport tells of all but the unread bytes.
-use Rattle.std.proofs.Common.{arith, ◌≡◌, ◌<◌, ◌+◌, ◌/◌, ◌%◌, ℕ, zero, suc, Bool, true, false, List, [], ◌∷◌, length, get_or, refl, sym, ap, ◌∙◌}
-use Rattle.std.specs.Prelude.{Option, None, map, nat_lt, is_some, ◌==◌, ◌&&◌, not, if◌then◌else◌}
+use Rattle.std.proofs.Common.{◌≡◌, ◌/◌, ◌%◌, ℕ, Bool, List, [], length, refl, sym, ap, ◌∙◌}
+use Rattle.std.specs.Prelude.{None, map, nat_lt, is_some, ◌==◌, ◌&&◌, not, if◌then◌else◌}
 use Rattle.std.proofs.Math.ListN.{get_or-map}
 use Rattle.std.proofs.lemmas.List.{length-map}
-use Rattle.wt_wire.specs.declared.side.StreamEnd.{StreamEnd}
 use Rattle.wt_wire.specs.declared.side.StreamEnd.TheVariants as ends
 use Rattle.wt_streams.specs.declared.stream.Stream.{Stream}
 use Rattle.wt_streams.specs.StreamState.{fresh, has_stream, row_at, stream_at, stream_in}

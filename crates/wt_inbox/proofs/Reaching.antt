@@ -1,5 +1,5 @@
 -- A reader that has read so many bytes of a log's contents: what it says, and how it goes on.
-use Rattle.std.proofs.Common.{arith, ◌≡◌, ◌<◌, ◌≤◌, ◌+◌, ◌-◌, ℕ, zero, suc, Bool, true, false, List, [], ◌∷◌, ◌++◌, length, take, drop, Option, Some, None, refl, sym, ap, subst, ◌∙◌, inl, inr}
+use Rattle.std.proofs.Common.{arith, ◌≡◌, ◌<◌, ◌≤◌, ◌+◌, ◌-◌, ℕ, Bool, true, false, List, ◌++◌, length, take, drop, Option, Some, None, refl, sym, ap, subst, ◌∙◌, inl, inr}
 use Rattle.std.specs.Prelude.{◌==◌}
 use Rattle.std.proofs.lemmas.Bool.Decides.{nat_tests}
 use Rattle.std.proofs.lemmas.Bool.{cases_lt}
@@ -16,7 +16,7 @@ use Rattle.wt_proto.proofs.ReadingLaws.{read-outcome}
 use Rattle.wt_seam_spec.specs.Unread.{ReadPosition, AtOffset, advance, from_position}
 use Rattle.wt_seam.specs.State.{TransportState}
 use Rattle.wt_seam.specs.Step.{end_now, unread_now}
-use Rattle.wt_inbox.specs.Kept.{Kept, Pulled, Pulls, no_reading, outcome_after, outcome_by, outcome_now, read_on, reading_of}
+use Rattle.wt_inbox.specs.Kept.{Kept, Pulled, Pulls, outcome_after, outcome_by, outcome_now, read_on, reading_of}
 use Rattle.wt_inbox.specs.Stage.{HasReached}
 use Rattle.wt_inbox.proofs.Consuming.{drop-drop}
 use Rattle.wt_inbox.proofs.Offsets.{IsOffset}
@@ -92,11 +92,11 @@ module _ {S O : Type 0} (start : S) (decide : S → List ℕ → Step S O) (stea
 
       goes : (m : ℕ) → m < h.count + p.count → final (outcome_of (take m (drop at c)) Running) ≡ false
       goes m l = elim (cases_lt m h.count) [
-          | inl lt ↦ h.running m lt
-          | inr le ↦ (let split : h.count + (m - h.count) ≡ m = omega arith in
+        | inl lt ↦ h.running m lt
+        | inr le ↦ (let split : h.count + (m - h.count) ≡ m = omega arith in
             ap (λ (xs : List ℕ). final (outcome_of xs Running)) (ap (λ i. take i (drop at c)) (sym split) ∙ sym (bytes-are (m - h.count)))
             ∙ p.running (take h.count (drop at c)) h.read (m - h.count) (omega arith))
-        ]
+      ]
 
       pub reached-on : HasReached start decide final outcome_of new at c (advance p.count position)
       reached-on = record {

@@ -1,8 +1,7 @@
 -- A reader that takes piece after piece of what is unread stands as one that took all.
 use Rattle.std.proofs.Common.{arith, ◌≡◌, ◌<◌, ◌≤◌, ◌+◌, ◌-◌, ℕ, zero, suc, Bool, true, false, List, [], ◌∷◌, ◌++◌, length, take, drop, Option, Some, None, refl, sym, ap, subst, ◌∙◌, append_assoc, ◌⊎◌, inl, inr}
-use Rattle.std.specs.Prelude.{◌==◌}
 use Rattle.std.specs.List.{concat}
-use Rattle.std.proofs.lemmas.List.{append-nil, length-drop, length-take, take-append-drop, take-append-le}
+use Rattle.std.proofs.lemmas.List.{append-nil, length-drop, take-append-drop, take-append-le}
 use Rattle.std.proofs.lemmas.Bool.{cases_lt}
 use Rattle.wt_wire.specs.declared.side.StreamEnd.{StreamEnd}
 use Rattle.wt_wire.specs.declared.side.StreamEnd.TheVariants.{Running}
@@ -16,7 +15,7 @@ use Rattle.wt_streams.specs.Pieces.{first_piece}
 use Rattle.wt_seam.specs.State.{TransportState}
 use Rattle.wt_streams.proofs.PieceLaws.{drop_none}
 use Rattle.wt_seam.specs.Step.{after_consume, end_now, pieces_now, unread_now}
-use Rattle.wt_inbox.specs.Kept.{Consumes, Takes, Pulls, read_on, outcome_after}
+use Rattle.wt_inbox.specs.Kept.{Consumes, Takes, Pulls, outcome_after}
 use Rattle.wt_inbox.proofs.Consuming.{consume-consumes, consumes-twice}
 
 -- ---- bytes
@@ -102,15 +101,15 @@ module _ {S O : Type 0} (start : S) (decide : S → List ℕ → Step S O) (stea
 
     running-twice : (bytes : List ℕ) (end : StreamEnd) → HasRead decide start old bytes end → (k : ℕ) → k < m + n → final (outcome_of (bytes ++ take k (unread_now t id)) end) ≡ false
     running-twice bytes end has k l = elim (cases_lt k m) [
-        | inl lt ↦ a.running bytes end has k lt
-        | inr le ↦
+      | inl lt ↦ a.running bytes end has k lt
+      | inr le ↦
           let read : HasRead decide start mid (bytes ++ take m (unread_now t id)) end = a.taken ∙ fed-read old bytes (take m (unread_now t id)) end has in
           let at : m + (k - m) ≡ k = omega arith in
           let split : take k (unread_now t id) ≡ take m (unread_now t id) ++ take (k - m) (unread_now u id) =
           ap (λ i. take i (unread_now t id)) (sym at) ∙ (take-more m (k - m) (unread_now t id) ∙ ap (λ (ys : List ℕ). take m (unread_now t id) ++ take (k - m) ys) (sym a.consumes.here)) in
           ap (λ (ys : List ℕ). final (outcome_of ys end)) (ap (λ (ys : List ℕ). bytes ++ ys) split ∙ sym (append_assoc bytes (take m (unread_now t id)) (take (k - m) (unread_now u id))))
           ∙ b.running (bytes ++ take m (unread_now t id)) end read (k - m) (omega arith)
-      ]
+    ]
 
     pub takes-twice : Takes start decide final outcome_of old new t v id (m + n)
     takes-twice = record { consumes = consumes-twice t u v id m n a.consumes b.consumes; taken = taken-twice; running = running-twice }

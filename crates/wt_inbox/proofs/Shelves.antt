@@ -1,5 +1,5 @@
 -- Readers by their streams, in a list.
-use Rattle.std.proofs.Common.{arith, ◌≡◌, ◌<◌, ◌≤◌, ◌+◌, ℕ, zero, suc, Bool, true, false, cond, List, [], ◌∷◌, ◌++◌, length, get_or, set, take, drop, Option, Some, None, refl, sym, ap, subst, ◌∙◌, inl, inr}
+use Rattle.std.proofs.Common.{arith, ◌≡◌, ◌<◌, ◌+◌, ℕ, zero, suc, Bool, true, false, List, [], ◌∷◌, ◌++◌, length, get_or, set, Option, Some, None, refl, sym, ap, subst, ◌∙◌, inl, inr}
 use Rattle.std.specs.Prelude.{Result, Ok, Err, IfOk, OnOk, IfSome, nat_lt, ◌==◌, if◌then◌else◌}
 use Rattle.std.specs.List.{position, position_or_len, remove}
 use Rattle.std.proofs.lemmas.Bool.{cases_lt}
@@ -75,11 +75,11 @@ module _ {S O : Type 0} (start : S) where
 -- no test passes
 pub none-passes : {X : Type 0} (p : X → Bool) (xs : List X) (d : X) → position p xs ≡ None → (k : ℕ) → k < length xs → p (get_or xs k d) ≡ false
 none-passes p xs d e k l = elim (cases_lt k (position_or_len p xs)) [
-    | inl lt ↦ fails_before_first p xs k d lt
-    | inr le ↦ (let some : nat_lt (position_or_len p xs) (length xs) ≡ true = grind (arith, nat_tests) in
+  | inl lt ↦ fails_before_first p xs k d lt
+  | inr le ↦ (let some : nat_lt (position_or_len p xs) (length xs) ≡ true = grind (arith, nat_tests) in
       let found : position p xs ≡ Some (position_or_len p xs) = rw some refl in
       absurd (cc))
-  ]
+]
 
 module _ {S O : Type 0} (start : S) (id : ℕ) where
   pub found-at : (xs : List (Kept S O)) (i : ℕ) → Some i ≡ position (λ (kept : Kept S O). kept.id == id) xs → StandsAt start xs id i

@@ -1,17 +1,14 @@
 -- An inbox that refines a log says of streams what the log says, and after each step refines the log at other stages.
-use Rattle.std.proofs.Common.{arith, ◌≡◌, ◌<◌, ◌≤◌, ◌+◌, ◌-◌, ℕ, zero, suc, Bool, true, false, List, [], ◌∷◌, ◌++◌, length, take, drop, Option, Some, None, refl, sym, ap, subst, ◌∙◌}
+use Rattle.std.proofs.Common.{arith, ◌≡◌, ◌≤◌, ◌+◌, ℕ, Bool, true, false, List, length, drop, Option, Some, None, refl, sym, ap, subst, ◌∙◌}
 use Rattle.std.specs.Prelude.{is_some, ◌==◌, if◌then◌else◌}
 use Rattle.std.proofs.lemmas.Bool.Decides.{nat_tests}
 use Rattle.wt_wire.specs.declared.side.Side.{Side}
 use Rattle.wt_wire.specs.declared.side.StreamEnd.{StreamEnd}
-use Rattle.wt_wire.specs.declared.side.StreamEnd.TheVariants.{Running}
 use Rattle.wt_turn.specs.declared.action.Action.{Action}
-use Rattle.wt_turn.specs.Log.{Log, actions_of, events_of}
-use Rattle.wt_message.specs.declared.settings.Settings.{Settings}
+use Rattle.wt_turn.specs.Log.{Log, events_of}
 use Rattle.wt_proto.specs.declared.walk.Step.{Step}
 use Rattle.wt_proto.specs.declared.control_walk.ControlWalk.{ControlWalk}
-use Rattle.wt_proto.specs.Progress.{Reading, progress_over}
-use Rattle.wt_proto.specs.Reading.{outcome_in}
+use Rattle.wt_proto.specs.Progress.{Reading}
 use Rattle.wt_proto.specs.Uni.{is_final, uni_decides, uni_unfinished, uni_verdict_of}
 use Rattle.wt_proto.specs.Bi.{bi_decides, bi_unfinished, bi_verdict_of}
 use Rattle.wt_proto.specs.ControlWalk.{control_decides, control_unfinished, control_walk_of}
@@ -25,20 +22,17 @@ use Rattle.wt_proto.proofs.ResponseReading.{response_lawful}
 use Rattle.wt_seam_spec.specs.Streams.{contents}
 use Rattle.wt_seam_spec.specs.Reports.{end_of}
 use Rattle.wt_seam_spec.specs.Unread.{ReadPosition, AtOffset, advance, consumed, from_position}
-use Rattle.wt_seam_spec.specs.Unread as positions
 use Rattle.wt_seam.specs.State.{TransportState, IsWithin}
 use Rattle.wt_seam.specs.State as seam
 use Rattle.wt_seam.specs.Step.{end_now, unread_now}
 use Rattle.wt_seam.proofs.Refining.{refined_end, refined_unread}
-use Rattle.wt_inbox.specs.Quiet.{quiet}
-use Rattle.wt_inbox.specs.Kept.{Kept, Pulls, no_reading, outcome_after, outcome_by, reading_of}
-use Rattle.wt_inbox.specs.State.{InboxState, SameAt, bi_verdict_now, control_now, is_over_by_bytes, response_now, session_now, uni_verdict_now, with_transport}
+use Rattle.wt_inbox.specs.Kept.{no_reading, outcome_by, reading_of}
+use Rattle.wt_inbox.specs.State.{InboxState, bi_verdict_now, control_now, response_now, session_now, uni_verdict_now}
 use Rattle.wt_inbox.specs.Moves.{BiPulled, BiTaken, ControlPulled, ResponsePulled, ResponseTaken, SameReaders, SessionPulled, SessionTaken, UniPulled, UniTaken}
-use Rattle.wt_inbox.specs.Stage.{Stage, Untouched, UniHeader, BiHeader, ResponseHead, Body, ControlBody, SessionBody, GivenUp, Anywhere, HasNoReader, HasNoWalk, HasReached, IsAt, Refines, awaits_bi, awaits_response, awaits_uni, body_offset, control_offset, response_offset, session_offset, stage_from, verdict_offset, with_stage}
-use Rattle.wt_inbox.proofs.Offsets.{IsOffset, bi_offset, response_offset_is, uni_offset}
-use Rattle.wt_inbox.proofs.QuietLaws.{same_end}
+use Rattle.wt_inbox.specs.Stage.{Stage, Untouched, UniHeader, BiHeader, ResponseHead, Body, ControlBody, SessionBody, GivenUp, Anywhere, HasNoWalk, HasReached, IsAt, Refines, awaits_bi, awaits_response, awaits_uni, control_offset, response_offset, session_offset, stage_from, verdict_offset, with_stage}
+use Rattle.wt_inbox.proofs.Offsets.{bi_offset, response_offset_is, uni_offset}
 use Rattle.wt_inbox.proofs.Asked.{readers-twice, uni-pulled-readers, uni-taken-readers, bi-pulled-readers, bi-taken-readers, response-pulled-readers, response-taken-readers, control-pulled-readers, session-pulled-readers, session-taken-readers}
-use Rattle.wt_inbox.proofs.Reaching.{answered, asked-by, asked-same, outcome-is, reached-on, read-all, stands-at}
+use Rattle.wt_inbox.proofs.Reaching.{outcome-is, reached-on, read-all, stands-at}
 
 -- ---- one stream
 
@@ -194,11 +188,12 @@ module _ (side : Side) (x : InboxState) (log : Log) (stage : ℕ → Stage) (unt
       module _ (z : InboxState) (q : UniTaken y z id) where
         uni-body : (at : Option ℕ) → verdict_offset (uni_verdict_of (contents log id) (end_of (events_of log) id)) ≡ at → IsAt z id (contents log id) (consumed r.position id p.pulled.pulls.count id) (stage_from at)
         uni-body None e = tt
-        uni-body (Some at) e =
-            (stands-at tt uni_decides uni_lawful.steady uni_unfinished is_final uni_verdict_of uni_lawful.reaches verdict_offset uni_offset (reading_of tt y.unis id) (contents log id) (consumed r.position id p.pulled.pulls.count id) uni-reached
-            (read-all tt uni_decides uni_lawful.steady uni_unfinished is_final uni_verdict_of uni_lawful.reaches (reading_of tt x.unis id) 0 (contents log id) (r.position id) uni-open.0 (reading_of tt y.unis id) x.transport y.transport id p.pulled.pulls (unread-is id))
-            (end_of (events_of log) id) at e,
-            record { control = ap (λ (w : InboxState). reading_of None w.controls id) q.rest ∙ uni-no-walk.control; session = ap (λ (w : InboxState). reading_of tt w.sessions id) q.rest ∙ uni-no-walk.session })
+        uni-body (Some at) e = (
+          stands-at tt uni_decides uni_lawful.steady uni_unfinished is_final uni_verdict_of uni_lawful.reaches verdict_offset uni_offset (reading_of tt y.unis id) (contents log id) (consumed r.position id p.pulled.pulls.count id) uni-reached
+              (read-all tt uni_decides uni_lawful.steady uni_unfinished is_final uni_verdict_of uni_lawful.reaches (reading_of tt x.unis id) 0 (contents log id) (r.position id) uni-open.0 (reading_of tt y.unis id) x.transport y.transport id p.pulled.pulls (unread-is id))
+              (end_of (events_of log) id) at e,
+          record { control = ap (λ (w : InboxState). reading_of None w.controls id) q.rest ∙ uni-no-walk.control; session = ap (λ (w : InboxState). reading_of tt w.sessions id) q.rest ∙ uni-no-walk.session },
+        )
 
         pub uni_released_refines : Refines side z log (with_stage stage id (stage_from (verdict_offset (uni_verdict_of (contents log id) (end_of (events_of log) id))))) untaken
         uni_released_refines = record {
@@ -246,11 +241,12 @@ module _ (side : Side) (x : InboxState) (log : Log) (stage : ℕ → Stage) (unt
       module _ (z : InboxState) (q : BiTaken y z id) where
         bi-body : (at : Option ℕ) → verdict_offset (bi_verdict_of (contents log id) (end_of (events_of log) id)) ≡ at → IsAt z id (contents log id) (consumed r.position id p.pulled.pulls.count id) (stage_from at)
         bi-body None e = tt
-        bi-body (Some at) e =
-            (stands-at 0 bi_decides bi_lawful.steady bi_unfinished is_final bi_verdict_of bi_lawful.reaches verdict_offset bi_offset (reading_of 0 y.bis id) (contents log id) (consumed r.position id p.pulled.pulls.count id) bi-reached
-            (read-all 0 bi_decides bi_lawful.steady bi_unfinished is_final bi_verdict_of bi_lawful.reaches (reading_of 0 x.bis id) 0 (contents log id) (r.position id) bi-open.0 (reading_of 0 y.bis id) x.transport y.transport id p.pulled.pulls (unread-is id))
-            (end_of (events_of log) id) at e,
-            record { control = ap (λ (w : InboxState). reading_of None w.controls id) q.rest ∙ bi-no-walk.control; session = ap (λ (w : InboxState). reading_of tt w.sessions id) q.rest ∙ bi-no-walk.session })
+        bi-body (Some at) e = (
+          stands-at 0 bi_decides bi_lawful.steady bi_unfinished is_final bi_verdict_of bi_lawful.reaches verdict_offset bi_offset (reading_of 0 y.bis id) (contents log id) (consumed r.position id p.pulled.pulls.count id) bi-reached
+              (read-all 0 bi_decides bi_lawful.steady bi_unfinished is_final bi_verdict_of bi_lawful.reaches (reading_of 0 x.bis id) 0 (contents log id) (r.position id) bi-open.0 (reading_of 0 y.bis id) x.transport y.transport id p.pulled.pulls (unread-is id))
+              (end_of (events_of log) id) at e,
+          record { control = ap (λ (w : InboxState). reading_of None w.controls id) q.rest ∙ bi-no-walk.control; session = ap (λ (w : InboxState). reading_of tt w.sessions id) q.rest ∙ bi-no-walk.session },
+        )
 
         pub bi_released_refines : Refines side z log (with_stage stage id (stage_from (verdict_offset (bi_verdict_of (contents log id) (end_of (events_of log) id))))) untaken
         bi_released_refines = record {
@@ -298,11 +294,12 @@ module _ (side : Side) (x : InboxState) (log : Log) (stage : ℕ → Stage) (unt
       module _ (z : InboxState) (q : ResponseTaken y z id) where
         response-body : (at : Option ℕ) → response_offset (response_walk_of (contents log id) (end_of (events_of log) id)) ≡ at → IsAt z id (contents log id) (consumed r.position id p.pulled.pulls.count id) (stage_from at)
         response-body None e = tt
-        response-body (Some at) e =
-            (stands-at 0 response_decides response_lawful.steady response_unfinished is_response_final response_walk_of response_lawful.reaches response_offset response_offset_is (reading_of 0 y.responses id) (contents log id) (consumed r.position id p.pulled.pulls.count id) response-reached
-            (read-all 0 response_decides response_lawful.steady response_unfinished is_response_final response_walk_of response_lawful.reaches (reading_of 0 x.responses id) 0 (contents log id) (r.position id) response-open.0 (reading_of 0 y.responses id) x.transport y.transport id p.pulled.pulls (unread-is id))
-            (end_of (events_of log) id) at e,
-            record { control = ap (λ (w : InboxState). reading_of None w.controls id) q.rest ∙ response-no-walk.control; session = ap (λ (w : InboxState). reading_of tt w.sessions id) q.rest ∙ response-no-walk.session })
+        response-body (Some at) e = (
+          stands-at 0 response_decides response_lawful.steady response_unfinished is_response_final response_walk_of response_lawful.reaches response_offset response_offset_is (reading_of 0 y.responses id) (contents log id) (consumed r.position id p.pulled.pulls.count id) response-reached
+              (read-all 0 response_decides response_lawful.steady response_unfinished is_response_final response_walk_of response_lawful.reaches (reading_of 0 x.responses id) 0 (contents log id) (r.position id) response-open.0 (reading_of 0 y.responses id) x.transport y.transport id p.pulled.pulls (unread-is id))
+              (end_of (events_of log) id) at e,
+          record { control = ap (λ (w : InboxState). reading_of None w.controls id) q.rest ∙ response-no-walk.control; session = ap (λ (w : InboxState). reading_of tt w.sessions id) q.rest ∙ response-no-walk.session },
+        )
 
         pub response_released_refines : Refines side z log (with_stage stage id (stage_from (response_offset (response_walk_of (contents log id) (end_of (events_of log) id))))) untaken
         response_released_refines = record {

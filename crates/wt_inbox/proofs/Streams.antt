@@ -1,5 +1,5 @@
 -- What a change of one stream does to the streams of a transport.
-use Rattle.std.proofs.Common.{arith, ◌≡◌, ◌≢◌, ◌<◌, ◌≤◌, ◌+◌, ◌*◌, ◌/◌, ◌%◌, zero, suc, ℕ, Bool, true, false, List, [], ◌∷◌, length, get_or, set, refl, sym, ap, ◌∙◌, inl, inr}
+use Rattle.std.proofs.Common.{arith, ◌≡◌, ◌≢◌, ◌<◌, ◌≤◌, ◌/◌, ◌%◌, zero, suc, ℕ, Bool, true, false, List, [], ◌∷◌, length, get_or, refl, sym, ap, ◌∙◌, inl, inr}
 use Rattle.std.specs.Prelude.{map, nat_lt, ◌==◌, if◌then◌else◌}
 use Rattle.std.specs.List.{concat}
 use Rattle.std.proofs.lemmas.Bool.Decides.{nat_tests}
@@ -10,7 +10,7 @@ use Rattle.std.proofs.Math.ListN.{length-set}
 use Rattle.wt_streams.specs.declared.stream.Stream.{Stream}
 use Rattle.wt_streams.specs.StreamState.{changed, changed_in, fresh, has_stream, row_at, stream_at, stream_in}
 use Rattle.wt_seam.specs.State.{TransportState}
-use Rattle.wt_seam.specs.Step.{with_change, pieces_now, unread_now}
+use Rattle.wt_seam.specs.Step.{with_change, unread_now}
 use Rattle.wt_inbox.specs.Quiet.{quiet, quiet_stream}
 
 -- past the end of a list there is the default
@@ -22,9 +22,9 @@ past-end (x ∷ xs) (suc i) d l = past-end xs i d (omega arith)
 -- a kind that has a stream is there
 kind-there : (streams : List (List Stream)) (kind index : ℕ) → index < length (row_at streams kind) → kind < length streams
 kind-there streams kind index l = elim (cases_lt kind (length streams)) [
-    | inl lt ↦ lt
-    | inr le ↦ let none : length (row_at streams kind) ≡ 0 = ap length (past-end streams kind [] le) in absurd (omega arith)
-  ]
+  | inl lt ↦ lt
+  | inr le ↦ let none : length (row_at streams kind) ≡ 0 = ap length (past-end streams kind [] le) in absurd (omega arith)
+]
 
 module _ (streams : List (List Stream)) (id : ℕ) (f : Stream → Stream) (has : has_stream streams id ≡ true) where
   index-below : id / 4 < length (row_at streams (id % 4))

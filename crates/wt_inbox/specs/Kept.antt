@@ -3,7 +3,7 @@ use Rattle.std.specs.Prelude.{◌≡◌, ℕ, ◌<◌, ◌≤◌, ◌==◌, List
 use Rattle.wt_wire.specs.declared.side.StreamEnd.{StreamEnd}
 use Rattle.wt_wire.specs.declared.side.StreamEnd.TheVariants.{Running}
 use Rattle.wt_proto.specs.declared.walk.Step.{Step}
-use Rattle.wt_proto.specs.Progress.{HasRead, Progress, Reading, at_item, fed, fed_reading, progress_over}
+use Rattle.wt_proto.specs.Progress.{HasRead, Reading, at_item, fed, fed_reading, progress_over}
 use Rattle.wt_proto.specs.Reading.{outcome_in}
 use Rattle.wt_wire.specs.declared.side.Side.{Side}
 use Rattle.wt_turn.specs.declared.action.Action.{Action}

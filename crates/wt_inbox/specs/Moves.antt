@@ -1,9 +1,7 @@
 -- What a private step does to an inbox: the reader of one stream reads on, or is let go.
 use Rattle.std.specs.Prelude.{◌≡◌, ◌==◌, ℕ, List, None, Bool, false, is_some}
 use Rattle.wt_wire.specs.declared.side.StreamEnd.{StreamEnd}
-use Rattle.wt_message.specs.declared.settings.Settings.{Settings}
 use Rattle.wt_proto.specs.declared.walk.Step.{Step}
-use Rattle.wt_proto.specs.declared.control_walk.ControlWalk.{ControlWalk}
 use Rattle.wt_proto.specs.Uni.{is_final, uni_decides, uni_verdict_of}
 use Rattle.wt_proto.specs.Bi.{bi_decides, bi_verdict_of}
 use Rattle.wt_proto.specs.ControlWalk.{control_decides, control_walk_of}

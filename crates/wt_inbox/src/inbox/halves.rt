@@ -27,7 +27,11 @@ use wt_wire::varint::VarInt;
 impl Inbox {
     /// Writes as many of the bytes as credit is left for, and tells how many, as
     /// `QuicSendStream::write` does.
-    pub fn write(&mut self, id: StreamId, bytes: &[u8]) -> Result<Poll<Result<usize, StreamWriteError>>, OutOfMemory>
+    pub fn write(
+        &mut self,
+        id: StreamId,
+        bytes: &[u8],
+    ) -> Result<Poll<Result<usize, StreamWriteError>>, OutOfMemory>
         requires { IsTrue (can_send_now self.old.transport id) }
         ensures answer { IfOk result (λ a. a ≡ write_answer self.old.transport.is_open (sending_half_now self.old.transport id) bytes.now) }
         ensures now { OnOk result (self.new ≡ with_transport self.old (after_write self.old.transport id bytes.now)) }
@@ -41,7 +45,11 @@ impl Inbox {
 
     /// Writes as many of the bytes as credit is left for, and tells whether these were all, as
     /// `QuicSendStream::write_all` does.
-    pub fn write_all(&mut self, id: StreamId, bytes: &[u8]) -> Result<Result<WriteAll, StreamWriteError>, OutOfMemory>
+    pub fn write_all(
+        &mut self,
+        id: StreamId,
+        bytes: &[u8],
+    ) -> Result<Result<WriteAll, StreamWriteError>, OutOfMemory>
         requires { IsTrue (can_send_now self.old.transport id) }
         ensures answer { IfOk result (λ a. a ≡ write_all_answer self.old.transport.is_open (sending_half_now self.old.transport id) bytes.now) }
         ensures now { OnOk result (self.new ≡ with_transport self.old (after_write self.old.transport id bytes.now)) }
@@ -54,7 +62,10 @@ impl Inbox {
     }
 
     /// Ends the half, and is through once all of it is acknowledged, as `QuicSendStream::finish` does.
-    pub fn finish_half(&mut self, id: StreamId) -> Result<Poll<Result<(), StreamWriteError>>, OutOfMemory>
+    pub fn finish_half(
+        &mut self,
+        id: StreamId,
+    ) -> Result<Poll<Result<(), StreamWriteError>>, OutOfMemory>
         requires { IsTrue (can_send_now self.old.transport id) }
         ensures answer { IfOk result (λ a. a ≡ finish_answer self.old.transport.is_open (sending_half_now self.old.transport id)) }
         ensures now { OnOk result (self.new ≡ with_transport self.old (after_finishing self.old.transport id)) }
@@ -67,7 +78,11 @@ impl Inbox {
     }
 
     /// Resets the half, as `QuicSendStream::reset` does.
-    pub fn reset_half(&mut self, id: StreamId, code: VarInt) -> Result<Result<(), ClosedStream>, OutOfMemory>
+    pub fn reset_half(
+        &mut self,
+        id: StreamId,
+        code: VarInt,
+    ) -> Result<Result<(), ClosedStream>, OutOfMemory>
         requires { IsTrue (can_send_now self.old.transport id) }
         ensures answer { IfOk result (λ a. a ≡ reset_answer (sending_half_now self.old.transport id)) }
         ensures now { OnOk result (self.new ≡ with_transport self.old (after_reset_unless_closed self.old.transport id code)) }
@@ -123,7 +138,11 @@ impl Inbox {
     }
 
     /// Reads unread bytes into the buffer's front, as `QuicRecvStream::read` does.
-    pub fn read(&mut self, id: StreamId, buffer: &mut [u8]) -> Poll<Result<Option<usize>, StreamReadError>>
+    pub fn read(
+        &mut self,
+        id: StreamId,
+        buffer: &mut [u8],
+    ) -> Poll<Result<Option<usize>, StreamReadError>>
         requires { IsTrue (can_receive_now self.old.transport id) }
         ensures answer { result ≡ read_answer self.old.transport.is_open (receiving_half_now self.old.transport id) (length buffer.old) }
         ensures bytes { buffer.new ≡ take (read_count (receiving_half_now self.old.transport id) (length buffer.old)) (unread_now self.old.transport id) ++ drop (read_count (receiving_half_now self.old.transport id) (length buffer.old)) buffer.old }
@@ -139,7 +158,11 @@ impl Inbox {
     }
 
     /// Fills the buffer with unread bytes, as `QuicRecvStream::read_exact` does.
-    pub fn read_exact(&mut self, id: StreamId, buffer: &mut [u8]) -> Poll<Result<(), StreamReadExactError>>
+    pub fn read_exact(
+        &mut self,
+        id: StreamId,
+        buffer: &mut [u8],
+    ) -> Poll<Result<(), StreamReadExactError>>
         requires { IsTrue (can_receive_now self.old.transport id) }
         ensures answer { result ≡ read_exact_answer self.old.transport.is_open (receiving_half_now self.old.transport id) (length buffer.old) }
         ensures bytes { buffer.new ≡ take (read_exact_count (receiving_half_now self.old.transport id) (length buffer.old)) (unread_now self.old.transport id) ++ drop (read_exact_count (receiving_half_now self.old.transport id) (length buffer.old)) buffer.old }

@@ -162,7 +162,8 @@ impl Inbox {
     fn pull_uni(&mut self, id: StreamId) -> Result<bool, OutOfMemory>
         ensures { OnOk result (UniPulled self.old self.new id) }
     {
-        self.unis.pull(&mut self.transport, id, UniReader::new(self.alloc))
+        self.unis
+            .pull(&mut self.transport, id, UniReader::new(self.alloc))
     }
 
     fn is_uni_final(&self, id: StreamId) -> bool
@@ -184,7 +185,8 @@ impl Inbox {
     fn pull_bi(&mut self, id: StreamId) -> Result<bool, OutOfMemory>
         ensures { OnOk result (BiPulled self.old self.new id) }
     {
-        self.bis.pull(&mut self.transport, id, BiReader::new(self.alloc))
+        self.bis
+            .pull(&mut self.transport, id, BiReader::new(self.alloc))
     }
 
     fn is_bi_final(&self, id: StreamId) -> bool
@@ -206,7 +208,11 @@ impl Inbox {
     fn pull_response(&mut self, id: StreamId) -> Result<bool, OutOfMemory>
         ensures { OnOk result (ResponsePulled self.old self.new id) }
     {
-        self.responses.pull(&mut self.transport, id, FrameReader::for_response(self.alloc))
+        self.responses.pull(
+            &mut self.transport,
+            id,
+            FrameReader::for_response(self.alloc),
+        )
     }
 
     fn is_response_there(&self, id: StreamId) -> bool
@@ -222,13 +228,15 @@ impl Inbox {
         ensures outcome { result ≡ outcome_in response_unfinished (reading_of 0 self.old.responses id) }
         ensures taken { ResponseTaken self.old self.new id }
     {
-        self.responses.release(id, FrameReader::for_response(self.alloc))
+        self.responses
+            .release(id, FrameReader::for_response(self.alloc))
     }
 
     fn pull_control(&mut self, id: StreamId) -> Result<bool, OutOfMemory>
         ensures { OnOk result (ControlPulled self.old self.new id) }
     {
-        self.controls.pull(&mut self.transport, id, ControlReader::new(self.alloc))
+        self.controls
+            .pull(&mut self.transport, id, ControlReader::new(self.alloc))
     }
 
     fn control_outcome(&self, id: StreamId) -> ControlWalk
@@ -247,7 +255,11 @@ impl Inbox {
         ensures pulled { OnOk result (SessionPulled self.old self.new id) }
         ensures decided { IfOk result (λ decided. decided ≡ is_over_by_bytes self.old id) }
     {
-        self.sessions.pull(&mut self.transport, id, FrameReader::for_session(self.alloc))
+        self.sessions.pull(
+            &mut self.transport,
+            id,
+            FrameReader::for_session(self.alloc),
+        )
     }
 
     fn is_session_final(&self, id: StreamId) -> bool
@@ -263,7 +275,8 @@ impl Inbox {
         ensures outcome { result ≡ outcome_in session_unfinished (reading_of tt self.old.sessions id) }
         ensures taken { SessionTaken self.old self.new id }
     {
-        self.sessions.release(id, FrameReader::for_session(self.alloc))
+        self.sessions
+            .release(id, FrameReader::for_session(self.alloc))
     }
 }
 

@@ -1,6 +1,4 @@
-use Rattle.std.proofs.Common.{refl, sym, ap, ◌∙◌}
-use Rattle.wt_wire.specs.declared.side.StreamEnd.{StreamEnd}
-use Rattle.wt_proto.specs.Progress.{Progress, Reading}
+use Rattle.std.proofs.Common.{ap, ◌∙◌}
 use Rattle.wt_inbox.proofs.QuietLaws.{same_end}
 use Rattle.wt_inbox.proofs.ReadOn.{pulled-all, decided-all}
 use Rattle.wt_inbox.proofs.reading.read_all.Goals as goal

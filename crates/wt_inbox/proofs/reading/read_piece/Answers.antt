@@ -1,5 +1,4 @@
-use Rattle.std.proofs.Common.{arith, ◌≡◌, ◌<◌, ◌⊎◌, inl, inr, ℕ, length, true}
-use Rattle.std.proofs.lemmas.Bool.Decides.{nat_tests}
+use Rattle.std.proofs.Common.{arith, inl, inr, length}
 use Rattle.std.proofs.lemmas.Bool.{cases_lt}
 use Rattle.wt_inbox.proofs.ReadOn.{front-takes, front-less, front-none}
 use Rattle.wt_inbox.proofs.reading.read_piece.Goals as goal
@@ -15,6 +14,6 @@ returns-else-taken-gt0-clause-takes g c = (c.in_ok-taken.taken, front-takes g.W.
 
 pub returns-else-taken-gt0-clause-done : goal.returns-else-taken-gt0-clause-done
 returns-else-taken-gt0-clause-done g c = λ _. elim (cases_lt c.in_ok-taken.taken (length c.peek-piece.result.now)) [
-    | inl lt ↦ inl (c.in_ok-taken.ensures.stands lt)
-    | inr le ↦ inr (front-none c.args.transport.now c.consume.new.self c.args.id c.in_ok-taken.taken c.peek-piece.result.now c.peek-piece.ensures.now c.in_ok-taken.ensures.within c.consume.ensures.now c.peek-piece.ensures.some (omega arith))
-  ]
+  | inl lt ↦ inl (c.in_ok-taken.ensures.stands lt)
+  | inr le ↦ inr (front-none c.args.transport.now c.consume.new.self c.args.id c.in_ok-taken.taken c.peek-piece.result.now c.peek-piece.ensures.now c.in_ok-taken.ensures.within c.consume.ensures.now c.peek-piece.ensures.some (omega arith))
+]

@@ -1,11 +1,4 @@
-use Rattle.std.proofs.Common.{refl, sym, subst, ap, ◌∙◌}
-use Rattle.std.proofs.lemmas.Result.{on_ok_weaker}
-use Rattle.wt_turn.specs.declared.action.Action.TheVariants as actions
-use Rattle.wt_turn.specs.declared.turn.Turn.TheVariants as turns
-use Rattle.wt_turn.specs.Log.{PrioritySet}
-use Rattle.wt_seam_spec.specs.Outgoing.{may_send}
-use Rattle.wt_streams.specs.HalfRules.{is_closed}
-use Rattle.wt_seam.specs.Rules.{sending_half}
+use Rattle.std.proofs.Common.{sym, subst, ◌∙◌}
 use Rattle.wt_inbox.specs.State.{InboxState}
 use Rattle.wt_inbox.specs.Stage.{Refines}
 use Rattle.wt_seam.proofs.Refining.{refined_can_send}

@@ -1,4 +1,4 @@
-use Rattle.std.proofs.Common.{ap, ◌∙◌}
+use Rattle.std.proofs.Common.{◌∙◌}
 use Rattle.wt_inbox.proofs.Asked.{control-same, control-others, control-quiet, control-answered}
 use Rattle.wt_inbox.proofs.Staging.{control-says, control_read_refines}
 use Rattle.wt_inbox.proofs.inbox.Inbox.control_walk.Goals as goal

@@ -1,9 +1,8 @@
-use Rattle.std.proofs.Common.{refl, subst, ◌∙◌, ap}
+use Rattle.std.proofs.Common.{refl, subst}
 use Rattle.std.proofs.lemmas.Result.{on_ok_weaker}
 use Rattle.wt_proto.proofs.ControlReading.{control_lawful}
-use Rattle.wt_inbox.specs.State.{InboxState, is_over_by_bytes}
+use Rattle.wt_inbox.specs.State.{InboxState}
 use Rattle.wt_inbox.specs.Moves.{ControlPulled}
-use Rattle.wt_inbox.proofs.Shelves.{if_ok}
 use Rattle.wt_inbox.proofs.inbox.Inbox.pull_control.Goals as goal
 
 pub pull-requires-clause-steady : goal.pull-requires-clause-steady

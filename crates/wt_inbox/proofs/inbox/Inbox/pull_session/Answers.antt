@@ -1,4 +1,3 @@
-use Rattle.wt_inbox.proofs.Staging.{session_released_refines}
 use Rattle.std.proofs.Common.{refl, subst, ◌∙◌, ap}
 use Rattle.std.proofs.lemmas.Result.{on_ok_weaker}
 use Rattle.wt_proto.proofs.SessionReading.{session_lawful}

@@ -1,4 +1,4 @@
-use Rattle.std.proofs.Common.{ap, ◌∙◌}
+use Rattle.std.proofs.Common.{◌∙◌}
 use Rattle.wt_inbox.proofs.Asked.{response-answered, response-released-others, response-released-quiet}
 use Rattle.wt_inbox.proofs.Staging.{response-says, response_released_refines}
 use Rattle.wt_inbox.proofs.inbox.Inbox.release_response.Goals as goal

@@ -1,4 +1,4 @@
-use Rattle.std.proofs.Common.{ap, ◌∙◌}
+use Rattle.std.proofs.Common.{◌∙◌}
 use Rattle.wt_inbox.proofs.Asked.{uni-answered, uni-released-others, uni-released-quiet}
 use Rattle.wt_inbox.proofs.Staging.{uni-says, uni_released_refines}
 use Rattle.wt_inbox.proofs.inbox.Inbox.release_uni.Goals as goal

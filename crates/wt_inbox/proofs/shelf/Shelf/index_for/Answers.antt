@@ -1,4 +1,4 @@
-use Rattle.std.proofs.Common.{◌≡◌, ◌<◌, sym, subst, ap, ◌∙◌, length, List, ℕ}
+use Rattle.std.proofs.Common.{sym, subst, ◌∙◌, ℕ}
 use Rattle.wt_inbox.specs.Kept.{StandsAt}
 use Rattle.wt_inbox.proofs.Shelves.{found-at, pushed-at, pushed-same}
 use Rattle.wt_inbox.proofs.shelf.Shelf.index_for.Goals as goal

@@ -1,5 +1,4 @@
-use Rattle.std.proofs.Common.{◌≡◌, ◌<◌, ℕ, Bool, List, length, get_or, refl, sym, subst, ap, ◌∙◌}
-use Rattle.wt_proto.specs.Progress.{Reading}
+use Rattle.std.proofs.Common.{◌≡◌, ℕ, refl, sym, subst, ap, ◌∙◌}
 use Rattle.wt_wire.specs.declared.side.StreamEnd.TheVariants.{Running}
 use Rattle.wt_seam.specs.Step.{unread_now}
 use Rattle.wt_inbox.specs.Kept.{StandsAt, outcome_after, reading_of}
