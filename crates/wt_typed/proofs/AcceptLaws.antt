@@ -1,14 +1,14 @@
 -- A stream that is accepted is there.
-use Rattle.std.proofs.Common.{arith, ◌≡◌, ◌<◌, ◌+◌, ◌*◌, ◌/◌, ◌%◌, ◌^◌, ℕ, Bool, true, false, Option, Some, None, length, refl, ap, ◌∙◌}
+use Rattle.std.proofs.Common.{arith, ◌≡◌, ◌<◌, ◌+◌, ◌*◌, ◌/◌, ◌%◌, ◌^◌, ℕ, Bool, true, false, Some, None, refl}
 use Rattle.std.specs.Prelude.{IfSome, IsTrue, nat_lt, ◌==◌, ◌&&◌, not, if◌then◌else◌}
 use Rattle.wt_wire.specs.declared.side.Side.{Side}
 use Rattle.wt_wire.specs.declared.side.Side.TheVariants.{Client, Server}
 use Rattle.wt_seam_spec.specs.Streams.{local_uni, peer_bi, peer_uni}
-use Rattle.wt_streams.specs.StreamState.{has_stream, row_at}
+use Rattle.wt_streams.specs.StreamState.{has_stream}
 use Rattle.wt_seam.specs.State.{TransportState}
 use Rattle.wt_seam.specs.Step.{can_receive_now, can_send_now, count_now}
 use Rattle.wt_typed.specs.declared.accepted.Accepted.{Accepted}
-use Rattle.wt_typed.specs.Accepting.{next_bi, next_peer, next_uni}
+use Rattle.wt_typed.specs.Accepting.{next_bi, next_uni}
 
 both-hold : (a b : Bool) → (a && b) ≡ true → b ≡ true
 both-hold true b e = e
