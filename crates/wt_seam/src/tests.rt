@@ -336,17 +336,13 @@ fn a_read_of_too_few_bytes_takes_none(rt: HostRuntime) {
     let code = VarInt::from_u32(9);
     take(&rt, &mut transport, &Turn::Reset { id: first, code });
     let reset = StreamReadExactError::Read(StreamReadError::Reset(code));
-    assert!(rt;
-        read_exact(&rt, &mut transport, first, &mut buffer) == Poll::Ready(Err(reset))
-    );
+    assert!(rt; read_exact(&rt, &mut transport, first, &mut buffer) == Poll::Ready(Err(reset)));
     keeps(&rt, &transport, first, 2, 1);
     take_bytes(&rt, &mut transport, second, b"c");
     let reason = LossReason::TimedOut;
     take(&rt, &mut transport, &Turn::Loss { reason });
     let lost = StreamReadExactError::Read(StreamReadError::NotConnected);
-    assert!(rt;
-        read_exact(&rt, &mut transport, second, &mut buffer) == Poll::Ready(Err(lost))
-    );
+    assert!(rt; read_exact(&rt, &mut transport, second, &mut buffer) == Poll::Ready(Err(lost)));
     keeps(&rt, &transport, second, 1, 2);
     assert_eq!(rt; buffer.as_slice(), b"\0\0\0".as_slice());
 }

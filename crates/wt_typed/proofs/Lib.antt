@@ -5,3 +5,4 @@ pub mod NextFrameLaws
 pub mod ReadLaws
 pub mod SessionFrames
 pub mod WriteLaws
+pub mod AcceptLaws

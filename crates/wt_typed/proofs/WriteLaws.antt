@@ -1,16 +1,16 @@
 -- A write goes out in order, from its first byte to its last.
-use Rattle.std.proofs.Common.{arith, ◌≡◌, ◌<◌, ◌≤◌, ◌+◌, ◌-◌, ℕ, Bool, true, false, List, [], ◌∷◌, ◌++◌, length, take, drop, Option, Some, None, refl, sym, ap, ◌∙◌}
+use Rattle.std.proofs.Common.{arith, ◌≡◌, ◌<◌, ◌≤◌, ◌+◌, ℕ, Bool, true, false, List, [], ◌++◌, length, take, drop, Option, Some, None, refl, sym, ap, ◌∙◌}
 use Rattle.std.specs.Prelude.{is_some, nat_lt, not, if◌then◌else◌}
 use Rattle.std.proofs.Math.Seq.{take-add}
 use Rattle.std.proofs.lemmas.Bool.Decides.{nat_tests}
 use Rattle.std.proofs.lemmas.Grind.{common_steps}
-use Rattle.std.proofs.lemmas.List.{append-nil, length-append, length-drop, take_all, take-append-drop}
+use Rattle.std.proofs.lemmas.List.{append-nil, length-append, take_all, take-append-drop}
 use Rattle.wt_wire.specs.FrameBytes.{FrameParts, frame_bytes, frame_type, session_or_payload}
 use Rattle.wt_wire.specs.Varint.{varint_bytes}
 use Rattle.wt_message.specs.StreamTypes.{control_type, webtransport_type}
 use Rattle.wt_proto.specs.StreamHeader.{header_bytes}
 use Rattle.wt_streams.specs.HalfRules.{SendingHalf}
-use Rattle.wt_typed.specs.Writing.{Continues, Pending, WritesPrefix, after_pending, going_out, nothing_begun, rest, write_of}
+use Rattle.wt_typed.specs.Writing.{Continues, Pending, WritesPrefix, after_pending, nothing_begun, rest, write_of}
 
 continues-if : (open_ stopped short : Bool) (p : Pending) (n : ℕ) → Continues (if not open_ then p else (if stopped then p else (if short then record p { out = n } else nothing_begun))) p.bytes
 continues-if false stopped short p n some = refl
@@ -31,10 +31,12 @@ prefix-if : (open_ stopped short : Bool) (left : ℕ) (p : Pending) (bytes : Lis
 prefix-if false stopped short left p bytes e some = (λ _. nothing-out p.out bytes, λ f. absurd (omega (arith, ap length f)))
 prefix-if true true short left p bytes e some = (λ _. nothing-out p.out bytes, λ f. absurd (omega (arith, ap length f)))
 prefix-if true false true left p bytes e some = (λ _. take-add p.out left bytes, λ f. absurd (omega (arith, ap length f)))
-prefix-if true false false left p bytes e some =
-    (λ f. absurd (omega arith), λ _.
-    let le : length (drop p.out bytes) ≤ left = grind (arith, nat_tests) in
-    ap (λ (xs : List ℕ). take p.out bytes ++ xs) (take_all left (drop p.out bytes) le) ∙ take-append-drop p.out bytes)
+prefix-if true false false left p bytes e some = (
+  λ f. absurd (omega arith),
+  λ _.
+      let le : length (drop p.out bytes) ≤ left = grind (arith, nat_tests) in
+      ap (λ (xs : List ℕ). take p.out bytes ++ xs) (take_all left (drop p.out bytes) le) ∙ take-append-drop p.out bytes,
+)
 
 pub writes_prefix : (open_ : Bool) (half : SendingHalf) (p : Pending) (bytes : List ℕ) → 0 < length bytes → WritesPrefix open_ half p (after_pending open_ half (write_of p bytes)) bytes
 writes_prefix open_ half p bytes some =

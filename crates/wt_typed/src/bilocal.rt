@@ -91,7 +91,10 @@ impl Stream<Pair, BiLocalH3> {
             Poll::Ready(Ok(())) => {
                 self.stage.is_spent = true;
                 Ok(Poll::Ready(Ok(Stream {
-                    halves: (QuicSendStream::new(id), QuicRecvStream::new(self.halves.1.id)),
+                    halves: (
+                        QuicSendStream::new(id),
+                        QuicRecvStream::new(self.halves.1.id),
+                    ),
                     stage: BiLocalWT,
                 })))
             }

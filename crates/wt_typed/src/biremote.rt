@@ -29,8 +29,10 @@ use wt_wire::varint::VarInt;
 
 impl Stream<Pair, BiRemoteQuic> {
     /// The peer's next bidirectional stream that wasn't accepted; None where each was.
+    #[tactic(auto, using(crate::proofs::AcceptLaws::bi_there))]
     pub fn accept_bi(accepted: &mut Accepted, t: &mut Transport) -> Option<Self>
         ensures stream { result ≡ in_stage both (record {}) (next_bi t.old accepted.old) }
+        ensures exists { IfSome result (λ s. IsTrue (has_both t.new s.halves)) }
         ensures count { accepted.new ≡ accepted_bi t.old accepted.old }
         ensures unchanged { t.new ≡ t.old }
     {

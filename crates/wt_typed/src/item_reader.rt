@@ -178,11 +178,7 @@ impl<G: Grammar> ItemReader<G> {
     }
 
     /// What the reader has to give, and otherwise why it has nothing. What is given is handed out.
-    fn answer(
-        &mut self,
-        is_open: bool,
-        end: StreamEnd,
-    ) -> Poll<Result<G::Given, ProtoReadError>>
+    fn answer(&mut self, is_open: bool, end: StreamEnd) -> Poll<Result<G::Given, ProtoReadError>>
         ensures answer { result ≡ read_answer is_open end (reached self.old) }
         ensures left { self.new ≡ after_read self.old }
     {

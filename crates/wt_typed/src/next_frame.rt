@@ -80,11 +80,7 @@ pub struct NextFrame;
 
 /// What the frame at the front does.
 #[tactic(auto, unfolding(crate::specs::NextFrame::frame_decides))]
-fn frame_step(
-    alloc: Global,
-    source: FrameSource,
-    bytes: &[u8],
-) -> Result<FrameStep, OutOfMemory>
+fn frame_step(alloc: Global, source: FrameSource, bytes: &[u8]) -> Result<FrameStep, OutOfMemory>
     ensures { IfOk result (λ step. step ≡ frame_decides source bytes.now) }
 {
     match parse_frame(bytes) {
@@ -115,15 +111,11 @@ impl Grammar for NextFrame {
     type Given = Frame;
 
     ghost use Rattle.wt_proto.specs.Progress.{at_item};
-ghost use Rattle.wt_typed.specs.NextFrame.{frame_decides};
+    ghost use Rattle.wt_typed.specs.NextFrame.{frame_decides};
 
     ghost decides = { frame_decides };
 
-    fn step(
-        alloc: Global,
-        source: &FrameSource,
-        bytes: &[u8],
-    ) -> Result<FrameStep, OutOfMemory> {
+    fn step(alloc: Global, source: &FrameSource, bytes: &[u8]) -> Result<FrameStep, OutOfMemory> {
         frame_step(alloc, *source, bytes)
     }
 }

@@ -219,14 +219,18 @@ fn stop_request(
 ) -> bool {
     let can_receive = t.can_receive(stream.id());
     assert!(rt; can_receive);
-    let answer = stream.stop(t, VarInt::from_u32(code)).expect(rt, "no memory");
+    let answer = stream
+        .stop(t, VarInt::from_u32(code))
+        .expect(rt, "no memory");
     answer.is_ok()
 }
 
 fn stop_session(rt: &impl Abort, t: &mut Transport, stream: &mut StreamSession, code: u32) -> bool {
     let can_receive = t.can_receive(stream.id());
     assert!(rt; can_receive);
-    let answer = stream.stop(t, VarInt::from_u32(code)).expect(rt, "no memory");
+    let answer = stream
+        .stop(t, VarInt::from_u32(code))
+        .expect(rt, "no memory");
     answer.is_ok()
 }
 
@@ -319,7 +323,14 @@ fn a_frame_goes_out_as_credit_comes(rt: HostRuntime) {
     sent(&rt, &mut t, 3, &[0x69]);
     assert!(rt; stopped(&rt, &mut t, &mut http) == Poll::Pending);
     let code = VarInt::from_u32(7);
-    take(&rt, &mut t, &Turn::Stop { id: stream(3), code });
+    take(
+        &rt,
+        &mut t,
+        &Turn::Stop {
+            id: stream(3),
+            code,
+        },
+    );
     let error = Poll::Ready(Err(ProtoWriteError::Stopped));
     assert!(rt; write_frame(&rt, &mut t, &mut http, &frame) == error);
     assert!(rt; stopped(&rt, &mut t, &mut http) == Poll::Ready(StreamWriteError::Stopped(code)));

@@ -1,5 +1,5 @@
 //! Unidirectional streams that the peer opened.
-ghost use Rattle.std.specs.Prelude.{◌≡◌, ◌++◌, IfOk, IsTrue, List, OnOk, false, true, ℕ};
+ghost use Rattle.std.specs.Prelude.{◌≡◌, ◌++◌, IfOk, IfSome, IsTrue, List, OnOk, false, true, ℕ};
 ghost use Rattle.std.specs.Borrow.{sem};
 ghost use Rattle.wt_proto.specs.Progress.{at_item, fed, reached};
 ghost use Rattle.wt_proto.specs.Walk.{walked};
@@ -62,8 +62,10 @@ fn session_of(header: &UniHeader) -> SessionId
 
 impl Stream<QuicRecvStream, UniRemoteQuic> {
     /// The peer's next unidirectional stream that wasn't accepted; None where each was.
+    #[tactic(auto, using(crate::proofs::AcceptLaws::uni_there))]
     pub fn accept_uni(alloc: Global, accepted: &mut Accepted, t: &mut Transport) -> Option<Self>
         ensures stream { result ≡ in_stage (λ id. record { id = id }) (record { header = at_item tt; is_spent = false }) (next_uni t.old accepted.old) }
+        ensures exists { IfSome result (λ s. IsTrue (can_receive_now t.new s.halves.id)) }
         ensures count { accepted.new ≡ accepted_uni t.old accepted.old }
         ensures unchanged { t.new ≡ t.old }
     {
