@@ -1,5 +1,5 @@
 -- The parser leaves the port 443 out of an https URL.
-use Rattle.std.proofs.Common.{◌≡◌, ◌≢◌, ◌∙◌, List, Some, codes, refl, subst, ℕ}
+use Rattle.std.proofs.Common.{◌≡◌, ◌≢◌, List, Some, codes, refl, subst, ℕ}
 use Rattle.url.specs.Parts.{IsPortOf, IsValid, Parts}
 use Rattle.url.specs.Scheme as scheme
 

@@ -1,9 +1,9 @@
 -- The steps in which a list's fields are put into others.
-use Rattle.std.proofs.Common.{◌≡◌, ◌+◌, ◌∷◌, [], List, Some, Option, None, drop, refl, suc, sym, zero, ℕ, true, false, arith, ap, ◌∙◌}
+use Rattle.std.proofs.Common.{◌≡◌, ◌+◌, ◌∷◌, [], List, Some, drop, refl, suc, sym, zero, ℕ, true, false, arith, ap, ◌∙◌}
 use Rattle.std.specs.List.{slice_get}
-use Rattle.wt_spec.specs.Connect.{with_fields, reserved_name}
+use Rattle.wt_spec.specs.Connect.{reserved_name}
 use Rattle.wt_message.specs.Requests.{is_reserved}
-use Rattle.wt_wire.specs.HeaderList.{Fields, with_field}
+use Rattle.wt_wire.specs.HeaderList.{Fields}
 
 -- the fields from an index on are the one at it, and those from the next index on
 pub from_here : (fields : Fields) (i : ℕ) (f : List ℕ × List ℕ) → slice_get fields i ≡ Some f → drop i fields ≡ f ∷ drop (i + 1) fields

@@ -1,5 +1,5 @@
 -- The first reserved name of a list in its order is the least by bytes.
-use Rattle.std.proofs.Common.{◌≡◌, ◌∷◌, [], Bool, List, Option, None, Some, codes, bytes_eq, false, true, refl, suc, sym, ap, subst, zero, ◌∙◌, ℕ, ◌||◌, ◌⊎◌, inl, inr}
+use Rattle.std.proofs.Common.{◌≡◌, ◌∷◌, [], Bool, List, Some, codes, bytes_eq, false, true, refl, suc, sym, ap, subst, zero, ◌∙◌, ℕ, ◌||◌, inl, inr}
 use Rattle.std.proofs.lemmas.Bool.{false≢true}
 use Rattle.std.proofs.lemmas.Slice.Eq.{bytes_eq-Decides}
 use Rattle.std.specs.Cmp.Lexicographic.{nat_list_cmp_total, slice_cmp}

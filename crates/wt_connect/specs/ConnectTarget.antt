@@ -1,6 +1,6 @@
 -- Where a client connects to, and what its request says of it: the first steps of a connect as a
 -- function of the URL's text, the lookup of its host, and what the endpoint makes of it.
-use Rattle.std.specs.Prelude.{[], ◌∷◌, Err, List, None, Ok, Option, Result, Some, bytes_eq, codes, if◌then◌else◌, ℕ}
+use Rattle.std.specs.Prelude.{[], Err, List, None, Ok, Option, Result, Some, bytes_eq, codes, if◌then◌else◌, ℕ}
 use Rattle.url.specs.Parser.{Parsed, parse_url}
 use Rattle.url.specs.Parts.{Parts, host_or_empty}
 use Rattle.wt_connect.specs.declared.connect_target.ConnectTarget.{ConnectTarget}
