@@ -24,7 +24,7 @@ use wt_wire::varint::VarInt;
 // ---- writing
 
 /// So many bytes of the front.
-fn covered(bytes: &[u8], credit: u64) -> &[u8]
+pub(crate) fn covered(bytes: &[u8], credit: u64) -> &[u8]
     ensures { result.now ≡ take credit bytes.now }
 {
     if credit < bytes.len() as u64 {

@@ -1,6 +1,11 @@
 //! What each call of the application does, as data, by what is kept.
 #![tactic(auto)]
 
+pub mod connection_plans;
+pub mod ends;
 pub mod half_plans;
+pub mod handshake_plans;
+pub mod heads;
 pub mod plan;
+pub mod read_plans;
 pub mod record;

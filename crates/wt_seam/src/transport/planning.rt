@@ -1,5 +1,5 @@
 //! What calls would answer now, with nothing done.
-ghost use Rattle.std.specs.Prelude.{◌≡◌, ◌-◌, ◌<◌, ◌^◌, ◌≤◌, length, take, List, ℕ, IsTrue};
+ghost use Rattle.std.specs.Prelude.{◌≡◌, ◌-◌, ◌<◌, ◌^◌, ◌≤◌, length, nat_lt, take, List, ℕ, IsTrue};
 ghost use Rattle.wt_turn.specs.Log.{Log};
 ghost use Rattle.wt_turn.specs.declared.action.Action.{Action};
 ghost use Rattle.wt_wire.specs.declared.side.Side.{Side};
@@ -9,7 +9,7 @@ ghost use Rattle.wt_seam_spec.specs.Unread.{ReadPosition};
 ghost use Rattle.wt_streams.specs.HalfRules.{finish_answer, is_closed, priority_answer, read_answer, read_exact_answer, stopped_answer, write_all_answer, write_answer};
 ghost use Rattle.wt_seam.specs.Rules.{receiving_half_now, sending_half_now};
 ghost use Rattle.wt_seam.specs.State.{Refines};
-ghost use Rattle.wt_seam.specs.Step.{can_receive_now, can_send_now, credit_now, opened_id_now, sent_now, streams_allowed_now, unread_now};
+ghost use Rattle.wt_seam.specs.Step.{can_send_now, count_now, credit_now, opened_id_now, sent_now, streams_allowed_now, unread_now};
 
 use super::Transport;
 use super::sending::stream_id;
@@ -63,6 +63,13 @@ impl Transport {
             return Some(stream_id(kind, count));
         }
         None
+    }
+
+    /// Whether this end opened a bidirectional stream.
+    pub fn has_local_bi(&self) -> bool
+        ensures { result ≡ nat_lt 0 (count_now self.now (local_bi self.now.side)) }
+    {
+        self.count(self.local_bi()) > 0
     }
 
     // ---- sending
