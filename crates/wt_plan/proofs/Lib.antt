@@ -1,3 +1,4 @@
+pub mod Connects
 pub mod Halves
 pub mod Reading
 pub mod Responses

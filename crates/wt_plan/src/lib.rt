@@ -1,6 +1,7 @@
 //! What each call of the application does, as data, by what is kept.
 #![tactic(auto)]
 
+pub mod connect_plan;
 pub mod connection_plans;
 pub mod ends;
 pub mod half_plans;

@@ -1,2 +1,0 @@
-pub mod AuthorityLaws
-pub mod TargetLaws

@@ -1,2 +1,1 @@
 pub mod ConnectOptions
-pub mod ConnectTarget

@@ -1,5 +1,5 @@
--- Which of a URL, a lookup and QUIC's answer decides.
-use Rattle.std.proofs.Common.{◌≡◌, ◌≢◌, ◌↔◌, ℕ, Bool, true, false, List, None, Result, Ok, Err, IsErr, bytes_eq, if◌then◌else◌, refl}
+-- Which of a URL, a lookup and the endpoint's answer decides.
+use Rattle.std.proofs.Common.{◌≡◌, ◌≢◌, ◌↔◌, ℕ, Bool, true, false, [], List, Option, None, Some, Result, Ok, Err, IsErr, bytes_eq, codes, if◌then◌else◌, refl}
 use Rattle.std.proofs.lemmas.Bool.{false≢true}
 use Rattle.std.proofs.lemmas.Slice.Eq.{bytes_eq-Decides}
 use Rattle.url.specs.declared.host.Host.{Host}
@@ -12,7 +12,13 @@ use Rattle.wt_wire.specs.declared.lookup.ConnectOutcome.{ConnectOutcome}
 use Rattle.wt_wire.specs.declared.lookup.ConnectOutcome.TheVariants as outcomes
 use Rattle.wt_wire.specs.declared.lookup.Lookup.{Lookup}
 use Rattle.wt_wire.specs.declared.lookup.Lookup.TheVariants.{Found, NotFound, Fault}
-use Rattle.wt_session.specs.ConnectTarget.{IfParsed, address_of, and_then, admitted, dialled, https, looked_up, port_of, target_at, target_of, target_of_url, with_https}
+use Rattle.wt_connect.specs.ConnectTarget.{IfParsed, and_then, connect_at, dialled_address, target_at, target_of, target_of_url, unless_hindered, with_https}
+use Rattle.wt_spec.specs.Connect.{address_of, connect, connect_to, looked_up, outcome_error, port_of, unless_stopped, with_address}
+use Rattle.wt_spec.specs.Handshake.{fail_connect}
+use Rattle.wt_turn.specs.Log.{Log}
+use Rattle.wt_wire.specs.HeaderList.{Fields}
+use Rattle.wt_wire.specs.declared.side.Side.{Side}
+use Rattle.wt_turn.specs.declared.connecting_error.ConnectingError.{ConnectingError}
 use Rattle.wt_turn.specs.declared.connecting_error.ConnectingError.TheVariants as errors
 use Rattle.wt_turn.specs.declared.connecting_error.UrlRefusal.{UrlRefusal}
 use Rattle.wt_turn.specs.declared.connecting_error.UrlRefusal.TheVariants.{Parse, Scheme}
@@ -25,15 +31,15 @@ fails true never = absurd (never refl)
 fails false never = refl
 
 -- the test of the scheme
-is_other : (scheme : List ℕ) → scheme ≢ https → bytes_eq scheme https ≡ false
-is_other scheme other = fails (bytes_eq scheme https) (λ e. other ((bytes_eq-Decides scheme https).0 e))
+is_other : (scheme : List ℕ) → scheme ≢ codes "https" → bytes_eq scheme (codes "https") ≡ false
+is_other scheme other = fails (bytes_eq scheme (codes "https")) (λ e. other ((bytes_eq-Decides scheme (codes "https")).0 e))
 
-is_same : (scheme : List ℕ) → scheme ≡ https → bytes_eq scheme https ≡ true
-is_same scheme same = (bytes_eq-Decides scheme https).1 same
+is_same : (scheme : List ℕ) → scheme ≡ codes "https" → bytes_eq scheme (codes "https") ≡ true
+is_same scheme same = (bytes_eq-Decides scheme (codes "https")).1 same
 
 -- ---- what refuses a URL
 
--- neither the lookup nor QUIC does
+-- neither the lookup nor the endpoint does
 lookup_refuses_no_url : (lookup : Lookup) (refusal : UrlRefusal) → looked_up lookup ≢ Err (errors.InvalidUrl refusal)
 lookup_refuses_no_url (Found address) refusal = λ h. cc
 lookup_refuses_no_url NotFound refusal = λ h. cc
@@ -44,7 +50,7 @@ address_refuses_no_url (Domain name) port lookup refusal = lookup_refuses_no_url
 address_refuses_no_url (Ipv4 ip) port lookup refusal = λ h. cc
 address_refuses_no_url (Ipv6 ip) port lookup refusal = λ h. cc
 
-outcome_refuses_no_url : (outcome : ConnectOutcome) (address : Addr) (refusal : UrlRefusal) → admitted outcome address ≢ Err (errors.InvalidUrl refusal)
+outcome_refuses_no_url : (outcome : ConnectOutcome) (address : Addr) (refusal : UrlRefusal) → unless_hindered (outcome_error outcome) address ≢ Err (errors.InvalidUrl refusal)
 outcome_refuses_no_url outcomes.Proceed address refusal = λ h. cc
 outcome_refuses_no_url outcomes.EndpointStopping address refusal = λ h. cc
 outcome_refuses_no_url outcomes.CidsExhausted address refusal = λ h. cc
@@ -59,8 +65,8 @@ neither (Err given) next error one other = λ h. one (let same : given ≡ error
 
 url_is_not_refused : (url : Parts) (lookup : Lookup) (outcome : ConnectOutcome) (refusal : UrlRefusal) → target_of_url (Ok url) lookup outcome ≢ Err (errors.InvalidUrl refusal)
 url_is_not_refused url lookup outcome refusal =
-    neither (dialled url lookup outcome) (λ address. Ok (target_at url address)) (errors.InvalidUrl refusal)
-    (neither (address_of (host_or_empty url) (port_of url) lookup) (admitted outcome) (errors.InvalidUrl refusal)
+    neither (dialled_address url lookup outcome) (λ address. Ok (target_at url address)) (errors.InvalidUrl refusal)
+    (neither (address_of (host_or_empty url) (port_of url) lookup) (unless_hindered (outcome_error outcome)) (errors.InvalidUrl refusal)
     (address_refuses_no_url (host_or_empty url) (port_of url) lookup refusal)
     (λ address. outcome_refuses_no_url outcome address refusal))
     (λ address h. cc)
@@ -73,11 +79,11 @@ tested url false lookup outcome = λ h. cc
 
 parse_decides : (parsed : Parsed Parts) (lookup : Lookup) (outcome : ConnectOutcome) →
     (target_of_url (with_https parsed) lookup outcome ≡ Err (errors.InvalidUrl Parse)) ↔ IsErr parsed
-parse_decides (Ok url) lookup outcome = (λ h. absurd (tested url (bytes_eq url.scheme https) lookup outcome h), λ h. absurd (false≢true h))
+parse_decides (Ok url) lookup outcome = (λ h. absurd (tested url (bytes_eq url.scheme (codes "https")) lookup outcome h), λ h. absurd (false≢true h))
 parse_decides (Err error) lookup outcome = (λ h. refl, λ h. refl)
 
 scheme_decides : (parsed : Parsed Parts) (lookup : Lookup) (outcome : ConnectOutcome) →
-    (target_of_url (with_https parsed) lookup outcome ≡ Err (errors.InvalidUrl Scheme)) ↔ IfParsed parsed (λ url. url.scheme ≢ https)
+    (target_of_url (with_https parsed) lookup outcome ≡ Err (errors.InvalidUrl Scheme)) ↔ IfParsed parsed (λ url. url.scheme ≢ codes "https")
 scheme_decides (Ok url) lookup outcome = (
   λ h same. url_is_not_refused url lookup outcome Scheme (let passed = rw (is_same url.scheme same) at h in passed),
   λ other. rw (is_other url.scheme other) refl,
@@ -89,7 +95,7 @@ pub parse_exactly : (text : List ℕ) (lookup : Lookup) (outcome : ConnectOutcom
 parse_exactly text lookup outcome = parse_decides (parse_url None text) lookup outcome
 
 pub scheme_exactly : (text : List ℕ) (lookup : Lookup) (outcome : ConnectOutcome) →
-    (target_of text lookup outcome ≡ Err (errors.InvalidUrl Scheme)) ↔ IfParsed (parse_url None text) (λ url. url.scheme ≢ https)
+    (target_of text lookup outcome ≡ Err (errors.InvalidUrl Scheme)) ↔ IfParsed (parse_url None text) (λ url. url.scheme ≢ codes "https")
 scheme_exactly text lookup outcome = scheme_decides (parse_url None text) lookup outcome
 
 -- ---- the lookup
@@ -101,6 +107,40 @@ same_address (Ipv4 ip) port first second h = refl
 same_address (Ipv6 ip) port first second h = refl
 
 pub same_without_lookup : (url : Parts) (first second : Lookup) (outcome : ConnectOutcome) → IsIpHost (host_or_empty url) →
-    dialled url first outcome ≡ dialled url second outcome
+    dialled_address url first outcome ≡ dialled_address url second outcome
 same_without_lookup url first second outcome h =
     rw (same_address (host_or_empty url) (port_of url) first second h) refl
+
+-- ---- what a connect does with the target
+
+hindered : (side : Side) (log : Log) (url : Parts) (headers : Fields) (hindrance : Option ConnectingError) (address : Addr) →
+    unless_stopped side log url headers hindrance address
+    ≡ connect_at side log (and_then (unless_hindered hindrance address) (λ found. Ok (target_at url found))) headers
+hindered side log url headers None address = refl
+hindered side log url headers (Some error) address = refl
+
+addressed : (side : Side) (log : Log) (url : Parts) (headers : Fields) (outcome : ConnectOutcome) (found : Result Addr ConnectingError) →
+    with_address side log url headers outcome found
+    ≡ connect_at side log (and_then (and_then found (unless_hindered (outcome_error outcome))) (λ address. Ok (target_at url address))) headers
+addressed side log url headers outcome (Ok address) = hindered side log url headers (outcome_error outcome) address
+addressed side log url headers outcome (Err error) = refl
+
+secured : (side : Side) (log : Log) (url : Parts) (headers : Fields) (lookup : Lookup) (outcome : ConnectOutcome) (passes : Bool) →
+    (if passes
+    then with_address side log url headers outcome (address_of (host_or_empty url) (port_of url) lookup)
+    else fail_connect side log [] (errors.InvalidUrl Scheme))
+    ≡ connect_at side log (target_of_url (if passes then Ok url else Err Scheme) lookup outcome) headers
+secured side log url headers lookup outcome true =
+    addressed side log url headers outcome (address_of (host_or_empty url) (port_of url) lookup)
+secured side log url headers lookup outcome false = refl
+
+parsed_connect : (side : Side) (log : Log) (parsed : Parsed Parts) (headers : Fields) (lookup : Lookup) (outcome : ConnectOutcome) →
+    connect_to side log parsed headers lookup outcome
+    ≡ connect_at side log (target_of_url (with_https parsed) lookup outcome) headers
+parsed_connect side log (Ok url) headers lookup outcome =
+    secured side log url headers lookup outcome (bytes_eq url.scheme (codes "https"))
+parsed_connect side log (Err error) headers lookup outcome = refl
+
+pub connect_by_target : (side : Side) (log : Log) (text : List ℕ) (headers : Fields) (lookup : Lookup) (outcome : ConnectOutcome) →
+    connect side log text headers lookup outcome ≡ connect_at side log (target_of text lookup outcome) headers
+connect_by_target side log text headers lookup outcome = parsed_connect side log (parse_url None text) headers lookup outcome

@@ -1,9 +1,10 @@
 //! Where a client connects to, and what its request says of it.
-ghost use Rattle.std.specs.Prelude.{◌≡◌, ◌≢◌, ◌↔◌, Err, IfOk, IsErr, None};
+ghost use Rattle.std.specs.Prelude.{◌≡◌, ◌≢◌, ◌↔◌, Err, IfOk, IsErr, None, codes};
 ghost use Rattle.url.specs.Host.{host_text};
 ghost use Rattle.url.specs.Parser.{parse_url};
 ghost use Rattle.url.specs.Parts.{host_or_empty};
-ghost use Rattle.wt_session.specs.ConnectTarget.{IfParsed, address_of, admitted, authority_of, dialled, https, https_url, looked_up, path_of, port_of, server_name, target_of};
+ghost use Rattle.wt_connect.specs.ConnectTarget.{IfParsed, dialled_address, https_url, target_of, unless_hindered};
+ghost use Rattle.wt_spec.specs.Connect.{address_of, authority_of, looked_up, outcome_error, path_of, port_of, server_name};
 
 use std::alloc::Global;
 use url::{Host, ParseError, Position, Url};
@@ -33,7 +34,7 @@ pub struct ConnectTarget {
 }
 
 /// Where a client connects to that is asked for this URL, when the lookup of the host answers this,
-/// and QUIC this of the address: the first steps of a connect, in this order.
+/// and the endpoint this of the address: the first steps of a connect, in this order.
 ///
 /// 1. `InvalidUrl(Parse)` exactly where the URL Standard's parser refuses the text, and
 ///    `InvalidUrl(Scheme)` exactly where the scheme isn't `https`.
@@ -54,13 +55,13 @@ pub fn connect_target(
     ensures target { IfOk result (λ target. target ≡ target_of url.now lookup outcome) }
     ensures parse { IfOk result (λ target. (target ≡ Err (ConnectingError.InvalidUrl UrlRefusal.Parse)) ↔ IsErr (parse_url None url.now)) }
     ensures scheme { IfOk result (λ target. (target ≡ Err (ConnectingError.InvalidUrl UrlRefusal.Scheme))
-        ↔ IfParsed (parse_url None url.now) (λ parts. parts.scheme ≢ https)) }
+        ↔ IfParsed (parse_url None url.now) (λ parts. parts.scheme ≢ codes "https")) }
 {
     let url = match parse_https(alloc, url)? {
         Ok(url) => url,
         Err(refusal) => return Ok(Err(ConnectingError::InvalidUrl(refusal))),
     };
-    let address = match dialled(&url, lookup, outcome) {
+    let address = match dialled_address(&url, lookup, outcome) {
         Ok(address) => address,
         Err(error) => return Ok(Err(error)),
     };
@@ -83,10 +84,14 @@ fn parse_https(alloc: Global, text: &str) -> Result<Result<Url, UrlRefusal>, Out
     }
 }
 
-fn dialled(url: &Url, lookup: Lookup, outcome: ConnectOutcome) -> Result<Addr, ConnectingError>
-    ensures { result ≡ dialled url.now lookup outcome }
+fn dialled_address(
+    url: &Url,
+    lookup: Lookup,
+    outcome: ConnectOutcome,
+) -> Result<Addr, ConnectingError>
+    ensures { result ≡ dialled_address url.now lookup outcome }
 {
-    admitted(outcome, address(url, lookup)?)
+    unless_hindered(outcome, address(url, lookup)?)
 }
 
 fn address(url: &Url, lookup: Lookup) -> Result<Addr, ConnectingError>
@@ -116,8 +121,8 @@ fn looked_up(lookup: Lookup) -> Result<Addr, ConnectingError>
     }
 }
 
-fn admitted(outcome: ConnectOutcome, address: Addr) -> Result<Addr, ConnectingError>
-    ensures { result ≡ admitted outcome address }
+fn unless_hindered(outcome: ConnectOutcome, address: Addr) -> Result<Addr, ConnectingError>
+    ensures { result ≡ unless_hindered (outcome_error outcome) address }
 {
     match outcome {
         ConnectOutcome::Proceed => Ok(address),
@@ -150,9 +155,7 @@ fn server_name(alloc: Global, url: &Url) -> Result<Text, OutOfMemory>
 }
 
 /// The parser leaves a port out that is the scheme's default.
-#[tactic(auto, using(crate::proofs::AuthorityLaws::authority_with_port))]
 fn authority(alloc: Global, url: &Url) -> Result<Text, OutOfMemory>
-    requires { url.now.scheme ≡ https }
     ensures { IfOk result (λ authority. authority ≡ authority_of url.now) }
 {
     let host = host_text(url);

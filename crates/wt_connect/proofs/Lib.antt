@@ -1,0 +1,4 @@
+pub mod AuthorityLaws
+pub mod RequestLaws
+pub mod ReservedLaws
+pub mod TargetLaws

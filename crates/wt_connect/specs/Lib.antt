@@ -1,0 +1,2 @@
+pub mod ConnectTarget
+pub mod Reserved
