@@ -1,5 +1,5 @@
 -- The half of a stream that is there.
-use Rattle.std.specs.Prelude.{◌%◌, ◌&&◌, ◌-◌, ◌==◌, ◌≡◌, Bool, IsTrue, false, not, true, ℕ}
+use Rattle.std.specs.Prelude.{◌%◌, ◌-◌, ◌==◌, ◌≡◌, Bool, IsTrue, false, not, true, ℕ}
 use Rattle.std.proofs.Common.{refl}
 use Rattle.std.proofs.lemmas.Bool.{and_parts}
 use Rattle.wt_seam.specs.Rules.{sending_half_now}

@@ -1,10 +1,8 @@
 -- A read gives no more than is unread.
-use Rattle.std.specs.Prelude.{◌==◌, ◌≡◌, ◌≤◌, Bool, Err, None, Ok, Option, Result, Some, false, if◌then◌else◌, length, min, true, ℕ}
-use Rattle.std.proofs.Common.{arith, refl}
+use Rattle.std.specs.Prelude.{◌==◌, ◌≡◌, ◌≤◌, Bool, Ok, Some, false, if◌then◌else◌, min, true, ℕ}
+use Rattle.std.proofs.Common.{arith}
 use Rattle.wt_streams.specs.HalfRules.{ReceivingHalf, nothing_unread, read_answer, read_count}
-use Rattle.wt_turn.specs.declared.poll.Poll.{Poll}
-use Rattle.wt_turn.specs.declared.poll.Poll.TheVariants.{Pending, Ready}
-use Rattle.wt_turn.specs.declared.stream_error.StreamReadError.{StreamReadError}
+use Rattle.wt_turn.specs.declared.poll.Poll.TheVariants.{Ready}
 use Rattle.wt_wire.specs.declared.side.StreamEnd.{StreamEnd}
 use Rattle.wt_wire.specs.declared.side.StreamEnd.TheVariants as ends
 

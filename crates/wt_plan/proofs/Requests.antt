@@ -1,5 +1,5 @@
 -- What a client's request leads to, by whether its stream is open.
-use Rattle.std.specs.Prelude.{[], ◌∷◌, ◌≡◌, Bool, List, None, Option, Some, false, if◌then◌else◌, nat_lt, true, ℕ}
+use Rattle.std.specs.Prelude.{[], ◌∷◌, ◌≡◌, Bool, List, None, Option, Some, false, nat_lt, true, ℕ}
 use Rattle.std.proofs.Common.{refl}
 use Rattle.std.proofs.lemmas.Bool.{and_parts}
 use Rattle.wt_seam.specs.State.{TransportState}

@@ -1,5 +1,5 @@
 -- What a response's status says of its success.
-use Rattle.std.specs.Prelude.{◌≡◌, Option, Some, ℕ}
+use Rattle.std.specs.Prelude.{◌≡◌, Some, ℕ}
 use Rattle.std.proofs.Common.{refl}
 use Rattle.wt_message.specs.Responses.{status_of}
 use Rattle.wt_spec.specs.Handshake.{has_success}

@@ -77,11 +77,7 @@ fn opened_reply(id: StreamId) -> Reply
 }
 
 /// What stands in front of a stream that this end opens.
-fn stream_header(
-    alloc: Global,
-    id: StreamId,
-    session: SessionId,
-) -> Result<Vec<u8>, OutOfMemory>
+fn stream_header(alloc: Global, id: StreamId, session: SessionId) -> Result<Vec<u8>, OutOfMemory>
     ensures { IfOk result (λ bytes. bytes.items ≡ stream_header id session) }
 {
     let kind = if id.is_bidirectional() { 0x41 } else { 0x54 };
@@ -116,12 +112,7 @@ fn header_sent(alloc: Global, progress: HeadProgress, id: StreamId, own: Vec<Act
 }
 
 /// What is left of a stream's header goes out.
-fn header_left(
-    alloc: Global,
-    t: &Transport,
-    id: StreamId,
-    left: &[u8],
-) -> Result<Plan, OutOfMemory>
+fn header_left(alloc: Global, t: &Transport, id: StreamId, left: &[u8]) -> Result<Plan, OutOfMemory>
     ensures { (d : DriverFacts) → IfOk result (λ p. planned p ≡ header_left (facts_now t.now d) id left.now) }
 {
     let progress = head_progress(t, id, left);
@@ -145,11 +136,7 @@ pub fn poll_opening(
 // ---- datagrams
 
 /// The bytes of a datagram of the session.
-fn datagram_bytes(
-    alloc: Global,
-    payload: &[u8],
-    session: SessionId,
-) -> Result<Piece, OutOfMemory>
+fn datagram_bytes(alloc: Global, payload: &[u8], session: SessionId) -> Result<Piece, OutOfMemory>
     ensures { IfOk result (λ p. p ≡ datagram_bytes (session / 4) payload.now) }
 {
     let mut bytes = Vec::new(alloc);

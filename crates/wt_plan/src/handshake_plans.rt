@@ -74,7 +74,9 @@ fn acceptance(
             Ok(Plan::fail_with(Vec::new(alloc), Reply::Failed(error)))
         }
         HeadProgress::Refused => {
-            let error = ConnectionError::LocalH3Error(H3Error::new(ErrorCode::ClosedCriticalStream));
+            let error = ConnectionError::LocalH3Error(H3Error::new(
+                ErrorCode::ClosedCriticalStream,
+            ));
             let code = ErrorCode::ClosedCriticalStream.to_code();
             let own = with_close(alloc, Vec::new(alloc), t.is_open(), code)?;
             Ok(Plan::fail_with(own, Reply::Failed(error)))

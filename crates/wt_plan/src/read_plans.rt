@@ -108,9 +108,5 @@ pub fn read_exact(
     }
     let count = size as usize;
     let piece = front(alloc, t, id, count)?;
-    Ok(Plan::only_record(
-        alloc,
-        Record::BytesRead(id, count),
-        Reply::Exact(piece),
-    ))
+    Ok(Plan::only_record(alloc, Record::BytesRead(id, count), Reply::Exact(piece)))
 }

@@ -82,11 +82,7 @@ impl Transport {
     }
 
     /// What a write of these bytes would answer.
-    pub fn write_answer(
-        &self,
-        id: StreamId,
-        bytes: &[u8],
-    ) -> Poll<Result<usize, StreamWriteError>>
+    pub fn write_answer(&self, id: StreamId, bytes: &[u8]) -> Poll<Result<usize, StreamWriteError>>
         requires { IsTrue (can_send_now self.now id) }
         ensures { result ≡ write_answer self.now.is_open (sending_half_now self.now id) bytes.now }
     {
@@ -94,11 +90,7 @@ impl Transport {
     }
 
     /// What a write of all of these bytes would answer.
-    pub fn write_all_answer(
-        &self,
-        id: StreamId,
-        bytes: &[u8],
-    ) -> Result<WriteAll, StreamWriteError>
+    pub fn write_all_answer(&self, id: StreamId, bytes: &[u8]) -> Result<WriteAll, StreamWriteError>
         requires { IsTrue (can_send_now self.now id) }
         ensures { result ≡ write_all_answer self.now.is_open (sending_half_now self.now id) bytes.now }
     {
@@ -147,12 +139,7 @@ impl Transport {
     ) -> Poll<Result<Option<usize>, StreamReadError>>
         ensures { result ≡ read_answer self.now.is_open (receiving_half_now self.now id) size }
     {
-        half_answers::read_answer(
-            self.is_open,
-            self.unread_count(id),
-            &self.end_now(id),
-            size,
-        )
+        half_answers::read_answer(self.is_open, self.unread_count(id), &self.end_now(id), size)
     }
 
     /// What a read of exactly so many bytes would answer.

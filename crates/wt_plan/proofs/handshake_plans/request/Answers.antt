@@ -12,7 +12,7 @@ use Rattle.wt_plan.proofs.handshake_plans.request.Goals as goal
 pub returns-then-has_local_bi : goal.returns-then-has_local_bi
 returns-then-has_local_bi c = λ d e f.
     let l : c.left_of-left.result.now ≡ drop (sent_now c.args.t.now (local_bi c.args.t.now.side)) c.args.head.now =
-        c.left_of-left.ensures ∙ ap (λ (k : ℕ). drop (sent_now c.args.t.now k) c.args.head.now) (c.session_stream.ensures.stream ∙ c.requires) in
+    c.left_of-left.ensures ∙ ap (λ (k : ℕ). drop (sent_now c.args.t.now k) c.args.head.now) (c.session_stream.ensures.stream ∙ c.requires) in
     let h : nat_lt 0 (count_now c.args.t.now (local_bi c.args.t.now.side)) ≡ true = sym c.has_local_bi.ensures ∙ c.if-has_local_bi.true in
     subst (λ (y : Plan). IfOk c.request_left.result (λ p. planned p ≡ y))
     (same-left c.args.t.now d c.args.id (local_bi c.args.t.now.side) _ _ _ _ c.requires c.new.ensures.items l ∙ when-there c.args.t.now d c.args.head.now h) (c.request_left.ensures d e f)
@@ -27,7 +27,7 @@ returns-then-not-is_open c = λ d e f.
 pub returns-in_ok-own-in-Some : goal.returns-in_ok-own-in-Some
 returns-in_ok-own-in-Some c = λ d e f.
     let l : c.left_of-left.result.now ≡ drop (sent_now c.args.t.now (local_bi c.args.t.now.side)) c.args.head.now =
-        c.left_of-left.ensures ∙ ap (λ (k : ℕ). drop (sent_now c.args.t.now k) c.args.head.now) (c.session_stream.ensures.stream ∙ c.requires) in
+    c.left_of-left.ensures ∙ ap (λ (k : ℕ). drop (sent_now c.args.t.now k) c.args.head.now) (c.session_stream.ensures.stream ∙ c.requires) in
     let h : nat_lt 0 (count_now c.args.t.now (local_bi c.args.t.now.side)) ≡ false = sym c.has_local_bi.ensures ∙ c.if-has_local_bi.false in
     let o : c.args.t.now.is_open ≡ true = sym c.is_open.ensures.now ∙ c.if-not-is_open.false in
     let s : opened_id_now c.args.t.now (local_bi c.args.t.now.side) ≡ Some c.in-Some.stream = sym c.next_bi.ensures.now ∙ c.in-Some.is in

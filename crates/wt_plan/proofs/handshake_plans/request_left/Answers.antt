@@ -24,6 +24,6 @@ pub returns : goal.returns
 returns c = λ d e f.
     let b : is_empty c.args.left.now ≡ false = sym c.is_empty.ensures ∙ c.if-is_empty.false in
     let q : progress_as c.head_progress-progress.result ≡ head_progress c.args.t.now.is_open (sending_now c.args.t.now c.args.id) c.args.left.now =
-        c.head_progress-progress.ensures ∙ ap (λ (k : ℕ). head_progress c.args.t.now.is_open (sending_now c.args.t.now k) c.args.left.now) c.session_stream-stream.ensures.stream in
+    c.head_progress-progress.ensures ∙ ap (λ (k : ℕ). head_progress c.args.t.now.is_open (sending_now c.args.t.now k) c.args.left.now) c.session_stream-stream.ensures.stream in
     let x = subst (λ (z : HeadProgress). IfOk c.request_sent.result (λ p. planned p ≡ request_sent z (facts_now c.args.t.now d) c.args.id c.args.own.items (head_actions z c.args.id (sending_now c.args.t.now c.args.id) c.args.left.now))) q (c.request_sent.ensures d e f) in
     subst (λ (z : Bool). IfOk c.request_sent.result (λ p. planned p ≡ (if z then response_read (facts_now c.args.t.now d) c.args.id c.args.own.items d.response else request_left_by c.args.t.now d c.args.id c.args.own.items c.args.left.now))) (sym b) x

@@ -18,7 +18,7 @@ returns-in-Refused c = λ d e f. rw c.in-Refused.is (c.abandoned.ensures d)
 pub returns-in_ok-own-in-AllOut : goal.returns-in_ok-own-in-AllOut
 returns-in_ok-own-in-AllOut c = λ d e f.
     let a : c.in_ok-own-in-AllOut.own.items ≡ c.args.own.items ++ send_of c.args.id c.args.left.now =
-        c.in_ok-own-in-AllOut.ensures
-        ∙ ap (λ (k : ℕ). c.args.own.items ++ head_actions (progress_as c.args.progress) k (sending_now c.args.t.now k) c.args.left.now) c.session_stream-stream.ensures.stream
-        ∙ ap (λ (q : HeadProgress). c.args.own.items ++ head_actions (progress_as q) c.args.id (sending_now c.args.t.now c.args.id) c.args.left.now) c.in-AllOut.is in
+    c.in_ok-own-in-AllOut.ensures
+    ∙ ap (λ (k : ℕ). c.args.own.items ++ head_actions (progress_as c.args.progress) k (sending_now c.args.t.now k) c.args.left.now) c.session_stream-stream.ensures.stream
+    ∙ ap (λ (q : HeadProgress). c.args.own.items ++ head_actions (progress_as q) c.args.id (sending_now c.args.t.now c.args.id) c.args.left.now) c.in-AllOut.is in
     rw (c.in-AllOut.is, f) (subst (λ (own : List Action). IfOk c.response_read.result (λ p. planned p ≡ response_read (facts_now c.args.t.now d) c.args.id own c.args.walk)) a (c.response_read.ensures d e))

@@ -1,7 +1,6 @@
 -- What each outcome of the walk leads to.
-use Rattle.std.proofs.Common.{◌≡◌, ◌∙◌, IfOk, false, not, subst, sym, true}
-use Rattle.std.proofs.lemmas.Bool.{not-true}
-use Rattle.wt_session_spec.specs.HandshakePlans.{abandoned, failed_connect}
+use Rattle.std.proofs.Common.{◌≡◌, ◌∙◌, IfOk, false, subst, sym}
+use Rattle.wt_session_spec.specs.HandshakePlans.{abandoned}
 use Rattle.wt_spec.specs.Handshake.{has_success}
 use Rattle.wt_turn.specs.declared.connecting_error.ConnectingError.{ConnectingError}
 use Rattle.wt_plan.proofs.Responses.{success_by}
