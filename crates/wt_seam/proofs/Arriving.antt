@@ -1,5 +1,5 @@
 -- A turn that fits leads from what is kept of a log to what is kept of the longer one.
-use Rattle.std.proofs.Common.{arith, ◌≡◌, ◌≤◌, ◌+◌, ◌%◌, ◌^◌, ℕ, Bool, true, false, List, [], ◌∷◌, ◌++◌, refl, sym, subst, ap, ◌∙◌, append_assoc, append-nil, length, length-append}
+use Rattle.std.proofs.Common.{arith, ◌≡◌, ◌≤◌, ◌+◌, ◌%◌, ◌^◌, ℕ, Bool, true, false, List, [], ◌∷◌, ◌++◌, refl, sym, subst, ap, ◌∙◌, append_assoc, append-nil, length, drop, length-append}
 use Rattle.std.specs.Prelude.{nat_lt, is_some, ◌==◌, ◌&&◌, not, if◌then◌else◌}
 use Rattle.std.specs.List.{concat}
 use Rattle.std.proofs.lemmas.Bool.Decides.{nat_tests}
@@ -15,14 +15,14 @@ use Rattle.wt_seam_spec.specs.Reports.{is_connected, is_running, loss_of, end_of
 use Rattle.wt_seam_spec.specs.Sent.{sent_on, is_finished, is_reset, has_dialled, priority_of}
 use Rattle.wt_seam_spec.specs.Arrivals.{may_begin, may_receive, may_come, fits, event_entry, log_bytes, log_bytes_if, log_turn}
 use Rattle.wt_seam_spec.specs.Joined.{joined}
-use Rattle.wt_seam_spec.specs.Unread.{ReadPosition, AtOffset, GivenUp, is_given_up, from_position}
-use Rattle.wt_streams.specs.Pieces.{AreFilled}
+use Rattle.wt_seam_spec.specs.Unread.{ReadPosition, AtOffset, GivenUp, is_given_up, from_position, unread}
+use Rattle.wt_streams.specs.Pieces.{AreFilled, with_piece}
 use Rattle.wt_streams.specs.StreamState.{changed, receive}
 use Rattle.wt_streams.specs.StreamState.{rows}
 use Rattle.wt_seam.specs.State.{TransportState, signals_of, stream_of, state_of, Facts, IsWithin, Holds}
 use Rattle.wt_seam.specs.Step.{if_so, after_turn}
 use Rattle.wt_streams.proofs.PieceLaws.{concat_more, filled_more}
-use Rattle.wt_seam.proofs.StreamChanges.{received_unless, received, receive-changes}
+use Rattle.wt_seam.proofs.StreamChanges.{Changes, received_unless, received, receive-changes}
 use Rattle.wt_seam.proofs.Events.{with-streams, end-then, reset-then, stop-then, ack-then, credit-then, uni-then, bi-then, connected-then, datagram-then, unis-then, bis-then, limit-then, loss-then}
 use Rattle.wt_seam.proofs.KeptFacts.{facts-changed, end-facts, reset-facts, stop-facts, ack-facts, credit-facts, uni-facts, bi-facts, connected-facts, datagram-facts, unis-facts, bis-facts, limit-facts, loss-facts, received-stream}
 use Rattle.wt_seam.proofs.Fitting.{finished-exists}

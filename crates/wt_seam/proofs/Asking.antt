@@ -1,9 +1,9 @@
 -- What a transport that refines a log tells of what was told and of what went out.
-use Rattle.std.proofs.Common.{◌≡◌, ◌<◌, ℕ, Bool, true, false, List, length, refl, sym, ap, ◌∙◌}
-use Rattle.std.specs.Prelude.{◌&&◌, if◌then◌else◌}
+use Rattle.std.proofs.Common.{arith, ◌≡◌, ◌<◌, ◌/◌, ◌%◌, ℕ, Bool, true, false, List, length, refl, sym, ap, ◌∙◌}
+use Rattle.std.specs.Prelude.{Option, None, nat_lt, ◌==◌, ◌&&◌, if◌then◌else◌}
 use Rattle.wt_wire.specs.declared.side.Side.{Side}
 use Rattle.wt_turn.specs.declared.action.Action.{Action}
-use Rattle.wt_turn.specs.Log.{Log, events_of, all_events_of, actions_of, is_open}
+use Rattle.wt_turn.specs.Log.{Event, Log, events_of, all_events_of, actions_of, is_open}
 use Rattle.wt_streams.specs.declared.stream.Stream.{Stream}
 use Rattle.wt_seam_spec.specs.Streams.{peer_uni, peer_bi, stream_count, exists}
 use Rattle.wt_seam_spec.specs.Reports.{bis_allowed, credit, initial_credit, is_acknowledged, is_connected, stop_of, unis_allowed}

@@ -1,5 +1,5 @@
 -- A call on one half answers by its rule over what is kept as over the log that it refines.
-use Rattle.std.proofs.Common.{arith, ◌≡◌, ◌≤◌, ℕ, ℤ, Bool, true, false, List, [], ◌∷◌, ◌++◌, length, take, drop, refl, subst, ap, ◌∙◌}
+use Rattle.std.proofs.Common.{arith, ◌≡◌, ◌≤◌, ℕ, ℤ, Bool, true, false, List, [], ◌∷◌, ◌++◌, length, take, drop, refl, sym, subst, ap, ◌∙◌}
 use Rattle.std.specs.Prelude.{IsTrue, nat_lt, if◌then◌else◌}
 use Rattle.std.proofs.lemmas.Bool.Decides.{nat_tests}
 use Rattle.wt_wire.specs.declared.side.StreamEnd.{StreamEnd}
@@ -8,8 +8,9 @@ use Rattle.wt_wire.specs.declared.side.Side.{Side}
 use Rattle.wt_turn.specs.declared.action.Action.{Action}
 use Rattle.wt_turn.specs.declared.action.Action.TheVariants as actions
 use Rattle.wt_turn.specs.Log.{Log, Called, PrioritySet, is_open, with_actions}
+use Rattle.wt_streams.specs.declared.stream.Stream.{Stream}
 use Rattle.wt_seam_spec.specs.Joined.{newest_first}
-use Rattle.wt_seam_spec.specs.Outgoing.{sending, if_open, reset_entry}
+use Rattle.wt_seam_spec.specs.Outgoing.{may_send, sending, if_open, reset_entry}
 use Rattle.wt_seam_spec.specs.Unread.{ReadPosition, unread, given_up}
 use Rattle.wt_streams.specs.StreamState.{stream_at}
 use Rattle.wt_seam.specs.State.{TransportState, Refines}

@@ -1,7 +1,8 @@
 -- A transport that refines a log tells what the log says, and after each call refines the longer one.
-use Rattle.std.proofs.Common.{arith, ◌≡◌, ◌<◌, ◌≤◌, ◌%◌, ℕ, ℤ, Bool, true, false, List, [], ◌∷◌, ◌++◌, length, take, min, refl, sym, subst, ap, ◌∙◌, length-take}
-use Rattle.std.specs.Prelude.{IsTrue, is_some, ◌==◌, ◌&&◌, not, if◌then◌else◌}
+use Rattle.std.proofs.Common.{arith, ◌≡◌, ◌<◌, ◌≤◌, ◌+◌, ◌*◌, ◌%◌, ℕ, ℤ, Bool, true, false, List, [], ◌∷◌, ◌++◌, length, take, min, refl, sym, subst, ap, ◌∙◌, length-take}
+use Rattle.std.specs.Prelude.{Option, IsTrue, nat_lt, is_some, ◌==◌, ◌&&◌, not, if◌then◌else◌}
 use Rattle.std.specs.List.{concat}
+use Rattle.std.proofs.lemmas.Bool.Decides.{nat_tests}
 use Rattle.wt_wire.specs.declared.side.Side.{Side}
 use Rattle.wt_wire.specs.declared.side.Side.TheVariants.{Client, Server}
 use Rattle.wt_wire.specs.declared.side.StreamEnd.TheVariants as ends
@@ -10,13 +11,13 @@ use Rattle.wt_turn.specs.declared.action.Action.{Action}
 use Rattle.wt_turn.specs.declared.action.Action.TheVariants as actions
 use Rattle.wt_turn.specs.declared.turn.Turn.{Turn}
 use Rattle.wt_turn.specs.declared.turn.Turn.TheVariants as turns
-use Rattle.wt_turn.specs.Log.{Log, Sent, Called, ResetUnsent, PrioritySet, events_of, is_open, with_actions}
+use Rattle.wt_turn.specs.Log.{Log, Sent, Called, ResetUnsent, PrioritySet, events_of, all_events_of, actions_of, is_open, with_actions}
 use Rattle.wt_streams.specs.declared.stream.Stream.{Stream}
 use Rattle.wt_seam_spec.specs.Streams.{local_bi, local_uni, peer_uni, exists, contents, can_send, can_receive}
 use Rattle.wt_seam_spec.specs.Reports.{end_of, datagram_fact, loss_of}
 use Rattle.wt_seam_spec.specs.Arrivals.{fits, log_turn}
 use Rattle.wt_seam_spec.specs.Joined.{joined, newest_first}
-use Rattle.wt_seam_spec.specs.Outgoing.{may_send, opening, opened_id, credit_left, covered, sending, if_open, reset_entry}
+use Rattle.wt_seam_spec.specs.Outgoing.{may_open, may_send, opening, opened_id, credit_left, covered, sending, if_open, reset_entry}
 use Rattle.wt_seam_spec.specs.Unread.{ReadPosition, unread, at_start, consumed, given_up, IsFront}
 use Rattle.wt_streams.specs.Pieces.{AreFilled, first_piece}
 use Rattle.wt_streams.specs.StreamState.{stream_at}

@@ -1,5 +1,5 @@
 -- What calls on one half of a stream find and do, over a log and over what is kept.
-use Rattle.std.specs.Prelude.{ℕ, ℤ, List, [], ◌∷◌, length, if◌then◌else◌}
+use Rattle.std.specs.Prelude.{ℕ, ℤ, List, [], ◌∷◌, length, Bool, if◌then◌else◌}
 use Rattle.wt_wire.specs.declared.side.Side.{Side}
 use Rattle.wt_turn.specs.declared.action.Action.{Action}
 use Rattle.wt_turn.specs.declared.action.Action.TheVariants as actions

@@ -1,5 +1,5 @@
 -- One call on what a transport keeps.
-use Rattle.std.specs.Prelude.{ℕ, ℤ, ◌+◌, ◌*◌, ◌%◌, ◌^◌, List, [], ◌∷◌, length, take, Option, Some, None, Bool, true, false, nat_lt, is_some, ◌==◌, ◌&&◌, not, if◌then◌else◌}
+use Rattle.std.specs.Prelude.{ℕ, ℤ, ◌+◌, ◌*◌, ◌/◌, ◌%◌, ◌^◌, List, [], ◌∷◌, length, take, Option, Some, None, Bool, true, false, nat_lt, is_some, ◌==◌, ◌&&◌, not, if◌then◌else◌}
 use Rattle.std.specs.List.{concat}
 use Rattle.wt_wire.specs.declared.side.Side.{Side}
 use Rattle.wt_wire.specs.declared.side.Side.TheVariants.{Client, Server}
@@ -15,6 +15,7 @@ use Rattle.wt_streams.specs.declared.stream.Stream.{Stream}
 use Rattle.wt_seam_spec.specs.Streams.{local_uni, peer_uni, peer_bi}
 use Rattle.wt_seam_spec.specs.Reports.{is_running}
 use Rattle.wt_seam_spec.specs.Joined.{join_one}
+use Rattle.wt_streams.specs.Pieces.{first_piece}
 use Rattle.wt_streams.specs.StreamState as stream
 use Rattle.wt_seam.specs.State.{TransportState}
 

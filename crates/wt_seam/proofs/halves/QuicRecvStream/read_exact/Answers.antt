@@ -1,9 +1,9 @@
-use Rattle.std.proofs.Common.{◌≤◌, length, sym, subst, ◌∙◌}
+use Rattle.std.proofs.Common.{◌≡◌, ◌≤◌, length, sym, subst, ap, ◌∙◌}
 use Rattle.wt_seam_spec.specs.Unread.{consumed}
 use Rattle.wt_seam.specs.State.{TransportState, Refines}
-use Rattle.wt_seam.specs.Step.{unread_now}
+use Rattle.wt_seam.specs.Step.{after_consume, unread_now}
 use Rattle.wt_streams.specs.HalfRules.{ReceivingHalf, read_exact_answer, read_exact_count}
-use Rattle.wt_seam.specs.Rules.{receiving_half_now}
+use Rattle.wt_seam.specs.Rules.{receiving_half, receiving_half_now}
 use Rattle.wt_seam.proofs.Refining.{consume_refines}
 use Rattle.wt_seam.proofs.HalfLaws.{receiving_answer, receiving_kept, front_kept, read_exact_within}
 use Rattle.wt_seam.proofs.halves.QuicRecvStream.read_exact.Goals as goal

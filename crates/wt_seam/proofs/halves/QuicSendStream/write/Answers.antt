@@ -1,6 +1,7 @@
-use Rattle.std.proofs.Common.{sym, subst, ◌∙◌}
+use Rattle.std.proofs.Common.{sym, subst, ap, ◌∙◌}
 use Rattle.std.proofs.lemmas.Result.{on_ok_weaker}
 use Rattle.wt_turn.specs.Log.{with_actions}
+use Rattle.wt_turn.specs.declared.action.Action.TheVariants as actions
 use Rattle.wt_seam_spec.specs.Joined.{newest_first}
 use Rattle.wt_seam.specs.State.{TransportState, Refines}
 use Rattle.wt_seam.proofs.Results.{if_ok}
