@@ -2,3 +2,4 @@ pub mod Records
 pub mod Planned
 pub mod FactsNow
 pub mod Heads
+pub mod Table

@@ -10,3 +10,4 @@ pub mod heads;
 pub mod plan;
 pub mod read_plans;
 pub mod record;
+pub mod session_table;
