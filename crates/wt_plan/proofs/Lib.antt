@@ -3,3 +3,4 @@ pub mod Halves
 pub mod Reading
 pub mod Responses
 pub mod Requests
+pub mod Uses

@@ -1,9 +1,10 @@
 //! What a session keeps: how far the handshake is, and what the application has of each stream.
-ghost use Rattle.std.specs.Prelude.{◌≡◌, OnOk, ℕ};
-ghost use Rattle.wt_plan.specs.Table.{IsSet, use_as, use_in};
+ghost use Rattle.std.specs.Prelude.{◌≡◌, ◌<◌, ◌+◌, [], OnOk, length, ℕ};
+ghost use Rattle.wt_plan.specs.Table.{IsSet, untouched, use_as, use_in};
 ghost use Rattle.wt_session_spec.specs.SessionState.{begun, failed, is_in_opening, was_given};
 
 use std::alloc::Global;
+use std::marker::Model;
 use wt_turn::piece::Piece;
 use wt_wire::error::OutOfMemory;
 use wt_wire::ids::StreamId;
@@ -93,16 +94,77 @@ impl StreamUse {
     }
 }
 
-/// The streams of one kind, by the number of the stream: what the application has of each.
-fn use_in(row: &[StreamUse], index: usize) -> StreamUse
-    ensures { result ≡ use_in row.now index }
+/// What the application has of the streams of one kind, by their numbers. Contracts see the list.
+#[derive(Debug, Drop)]
+pub struct UseRow {
+    uses: Vec<StreamUse>,
+}
+
+impl Model for UseRow {
+    ghost use Rattle.std.specs.Prelude.{List};
+    ghost use Rattle.wt_plan.specs.declared.session_table.StreamUse.{StreamUse};
+
+    ghost Value = { List StreamUse };
+
+    ghost view = { λ r. r.uses.items };
+}
+
+/// Nothing was done with a stream.
+fn untouched() -> StreamUse
+    ensures { result ≡ untouched }
 {
-    if index < row.len() {
-        row[index]
-    } else {
-        StreamUse {
-            giving: Giving::NotGiven,
-            is_given_up: false,
+    StreamUse {
+        giving: Giving::NotGiven,
+        is_given_up: false,
+    }
+}
+
+impl UseRow {
+    /// No stream.
+    pub fn new(alloc: Global) -> UseRow
+        ensures { result ≡ [] }
+    {
+        UseRow {
+            uses: Vec::new(alloc),
         }
+    }
+
+    /// What the application has of a stream.
+    pub fn at(&self, index: usize) -> StreamUse
+        ensures { result ≡ use_in self.now index }
+    {
+        if index < self.uses.len() {
+            self.uses[index]
+        } else {
+            untouched()
+        }
+    }
+
+    #[tactic(auto, using(crate::proofs::Uses::push_same))]
+    fn push(&mut self) -> Result<(), OutOfMemory>
+        ensures same { OnOk result ((k : ℕ) → use_in self.new k ≡ use_in self.old k) }
+        ensures longer { OnOk result (length self.new ≡ length self.old + 1) }
+    {
+        self.uses.push(untouched())?;
+        Ok(())
+    }
+
+    fn grow(&mut self, index: usize) -> Result<(), OutOfMemory>
+        ensures same { OnOk result ((k : ℕ) → use_in self.new k ≡ use_in self.old k) }
+        ensures long { OnOk result (index < length self.new) }
+    {
+        while self.uses.len() <= index {
+            self.push()?;
+        }
+        Ok(())
+    }
+
+    /// Sets what the application has of a stream.
+    pub fn set(&mut self, index: usize, to: StreamUse) -> Result<(), OutOfMemory>
+        ensures { OnOk result (IsSet self.old self.new index to) }
+    {
+        self.grow(index)?;
+        self.uses[index] = to;
+        Ok(())
     }
 }
