@@ -41,3 +41,31 @@ use_in row index = slice_index_or row index untouched
 pub record IsSet (old new : List StreamUse) (index : ℕ) (to : StreamUse) : Type 0 where
   pub there : use_in new index ≡ to
   pub others : (k : ℕ) → (index == k) ≡ false → use_in new k ≡ use_in old k
+
+-- what a table keeps
+pub record TableValue : Type 0 where
+  pub handshake : handshake.HandshakeState
+  pub requested : ℕ  -- the stream of the request that was delivered
+  pub request_end : ℕ  -- the offset after it
+  pub rows : List (List StreamUse)  -- by the low two bits of the ids, and then by their other bits
+
+-- the streams of a kind
+abbrev pub row_of : List (List StreamUse) → ℕ → List StreamUse
+row_of rows kind = slice_index_or rows kind []
+
+-- what the application has of a stream
+abbrev pub use_now : TableValue → ℕ → StreamUse
+use_now t k = use_in (row_of t.rows (k % 4)) (k / 4)
+
+-- the table keeps what these calls did
+pub record KeepsCalls (t : TableValue) (calls : List CallRecord) : Type 0 where
+  pub handshake_is : t.handshake ≡ handshake.handshake_state calls
+  pub requested_is : t.requested ≡ handshake.requested calls
+  pub uses : (k : ℕ) → use_as (use_now t k) ≡ session.stream_use k calls
+
+-- the table with another use of one stream
+pub record HasSet (old new : TableValue) (id : ℕ) (to : StreamUse) : Type 0 where
+  pub handshake_same : new.handshake ≡ old.handshake
+  pub requested_same : new.requested ≡ old.requested
+  pub end_same : new.request_end ≡ old.request_end
+  pub uses : (k : ℕ) → use_now new k ≡ (if id == k then to else use_now old k)

@@ -1,6 +1,6 @@
 //! What a session keeps: how far the handshake is, and what the application has of each stream.
 ghost use Rattle.std.specs.Prelude.{◌≡◌, ◌<◌, ◌+◌, [], OnOk, length, ℕ};
-ghost use Rattle.wt_plan.specs.Table.{IsSet, untouched, use_as, use_in};
+ghost use Rattle.wt_plan.specs.Table.{HasSet, IsSet, KeepsCalls, handshake_as, untouched, use_as, use_in, use_now};
 ghost use Rattle.wt_session_spec.specs.SessionState.{begun, failed, is_in_opening, was_given};
 
 use std::alloc::Global;
@@ -9,6 +9,7 @@ use wt_turn::piece::Piece;
 use wt_wire::error::OutOfMemory;
 use wt_wire::ids::StreamId;
 use wt_wire::text::Text;
+use wt_wire::varint::VarInt;
 
 /// How far the handshake is.
 #[derive(Debug, Drop)]
@@ -166,5 +167,75 @@ impl UseRow {
         self.grow(index)?;
         self.uses[index] = to;
         Ok(())
+    }
+}
+
+/// What a session keeps of the calls. Contracts see the handshake, the request and the rows.
+#[derive(Debug, Drop)]
+pub struct SessionTable {
+    handshake: Handshake,
+    requested: StreamId,
+    request_end: usize,
+    rows: [UseRow; 4],
+}
+
+impl Model for SessionTable {
+    ghost use Rattle.wt_plan.specs.Table.{TableValue};
+
+    ghost Value = { TableValue };
+
+    ghost use Rattle.wt_plan.specs.Table.{handshake_as};
+
+    ghost view = { λ s. record { handshake = handshake_as s.handshake; requested = s.requested; request_end = s.request_end; rows = s.rows } };
+}
+
+impl SessionTable {
+    /// No call came.
+    #[tactic(auto, using(crate::proofs::Uses::no_calls))]
+    pub fn new(alloc: Global) -> SessionTable
+        ensures log { KeepsCalls result [] }
+    {
+        SessionTable {
+            handshake: Handshake::AwaitingRequest,
+            requested: StreamId::new(VarInt::from_u32(0)),
+            request_end: 0,
+            rows: [
+                UseRow::new(alloc),
+                UseRow::new(alloc),
+                UseRow::new(alloc),
+                UseRow::new(alloc),
+            ],
+        }
+    }
+
+    /// How far the handshake is.
+    pub fn handshake(&self) -> &Handshake
+        ensures { handshake_as result.now ≡ self.now.handshake }
+    {
+        &self.handshake
+    }
+
+    /// The stream of the request that was delivered, and the offset after it.
+    pub fn requested(&self) -> (StreamId, usize)
+        ensures { result ≡ (self.now.requested, self.now.request_end) }
+    {
+        (self.requested, self.request_end)
+    }
+
+    /// What the application has of a stream.
+    pub fn stream_use(&self, id: StreamId) -> StreamUse
+        ensures { result ≡ use_now self.now id }
+    {
+        let id = id.into_u64();
+        self.rows[(id % 4) as usize].at((id / 4) as usize)
+    }
+
+    #[tactic(auto, using(crate::proofs::Uses::set_same))]
+    fn set_use(&mut self, id: StreamId, to: StreamUse) -> Result<(), OutOfMemory>
+        ensures { OnOk result (HasSet self.old self.new id to) }
+    {
+        let id = id.into_u64();
+        let row = &mut self.rows[(id % 4) as usize];
+        row.set((id / 4) as usize, to)
     }
 }
