@@ -1,3 +1,5 @@
 pub mod Records
 pub mod Planned
 pub mod FactsNow
+pub mod Heads
+pub mod Table

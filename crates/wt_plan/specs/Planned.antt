@@ -1,5 +1,4 @@
 -- How a plan of the code stands for one of the definitions.
-use Rattle.std.specs.Prelude.{ℕ}
 use Rattle.wt_plan.specs.Records.{record_of}
 use Rattle.wt_plan.specs.declared.plan.Plan.{Plan}
 use Rattle.wt_plan.specs.declared.plan.Plan.TheVariants as plans

@@ -24,7 +24,7 @@ use wt_wire::varint::VarInt;
 // ---- writing
 
 /// So many bytes of the front.
-fn covered(bytes: &[u8], credit: u64) -> &[u8]
+pub(crate) fn covered(bytes: &[u8], credit: u64) -> &[u8]
     ensures { result.now ≡ take credit bytes.now }
 {
     if credit < bytes.len() as u64 {
@@ -173,12 +173,7 @@ pub fn finish(alloc: Global, t: &Transport, id: StreamId) -> Result<Plan, OutOfM
 
 /// A reset counts also where it can't go out.
 #[tactic(auto, using(crate::proofs::Halves::sending_there))]
-pub fn reset(
-    alloc: Global,
-    t: &Transport,
-    id: StreamId,
-    code: VarInt,
-) -> Result<Plan, OutOfMemory>
+pub fn reset(alloc: Global, t: &Transport, id: StreamId, code: VarInt) -> Result<Plan, OutOfMemory>
     requires { IsTrue (can_send_now t.now id) }
     ensures { (d : DriverFacts) → IfOk result (λ p. planned p ≡ reset_plan (facts_now t.now d) id code) }
 {

@@ -2,6 +2,12 @@
 #![tactic(auto)]
 
 pub mod connect_plan;
+pub mod connection_plans;
+pub mod ends;
 pub mod half_plans;
+pub mod handshake_plans;
+pub mod heads;
 pub mod plan;
+pub mod read_plans;
 pub mod record;
+pub mod session_table;

@@ -1,5 +1,5 @@
 //! What calls would answer now, with nothing done.
-ghost use Rattle.std.specs.Prelude.{◌≡◌, ◌-◌, ◌<◌, ◌^◌, ◌≤◌, length, take, List, ℕ, IsTrue};
+ghost use Rattle.std.specs.Prelude.{◌≡◌, ◌-◌, ◌<◌, ◌^◌, ◌≤◌, length, nat_lt, take, List, ℕ, IsTrue};
 ghost use Rattle.wt_turn.specs.Log.{Log};
 ghost use Rattle.wt_turn.specs.declared.action.Action.{Action};
 ghost use Rattle.wt_wire.specs.declared.side.Side.{Side};
@@ -9,7 +9,7 @@ ghost use Rattle.wt_seam_spec.specs.Unread.{ReadPosition};
 ghost use Rattle.wt_streams.specs.HalfRules.{finish_answer, is_closed, priority_answer, read_answer, read_exact_answer, stopped_answer, write_all_answer, write_answer};
 ghost use Rattle.wt_seam.specs.Rules.{receiving_half_now, sending_half_now};
 ghost use Rattle.wt_seam.specs.State.{Refines};
-ghost use Rattle.wt_seam.specs.Step.{can_receive_now, can_send_now, credit_now, opened_id_now, sent_now, streams_allowed_now, unread_now};
+ghost use Rattle.wt_seam.specs.Step.{can_send_now, count_now, credit_now, opened_id_now, sent_now, streams_allowed_now, unread_now};
 
 use super::Transport;
 use super::sending::stream_id;
@@ -65,6 +65,13 @@ impl Transport {
         None
     }
 
+    /// Whether this end opened a bidirectional stream.
+    pub fn has_local_bi(&self) -> bool
+        ensures { result ≡ nat_lt 0 (count_now self.now (local_bi self.now.side)) }
+    {
+        self.count(self.local_bi()) > 0
+    }
+
     // ---- sending
 
     /// How many more bytes credit covers on a stream.
@@ -75,11 +82,7 @@ impl Transport {
     }
 
     /// What a write of these bytes would answer.
-    pub fn write_answer(
-        &self,
-        id: StreamId,
-        bytes: &[u8],
-    ) -> Poll<Result<usize, StreamWriteError>>
+    pub fn write_answer(&self, id: StreamId, bytes: &[u8]) -> Poll<Result<usize, StreamWriteError>>
         requires { IsTrue (can_send_now self.now id) }
         ensures { result ≡ write_answer self.now.is_open (sending_half_now self.now id) bytes.now }
     {
@@ -87,11 +90,7 @@ impl Transport {
     }
 
     /// What a write of all of these bytes would answer.
-    pub fn write_all_answer(
-        &self,
-        id: StreamId,
-        bytes: &[u8],
-    ) -> Result<WriteAll, StreamWriteError>
+    pub fn write_all_answer(&self, id: StreamId, bytes: &[u8]) -> Result<WriteAll, StreamWriteError>
         requires { IsTrue (can_send_now self.now id) }
         ensures { result ≡ write_all_answer self.now.is_open (sending_half_now self.now id) bytes.now }
     {
@@ -140,12 +139,7 @@ impl Transport {
     ) -> Poll<Result<Option<usize>, StreamReadError>>
         ensures { result ≡ read_answer self.now.is_open (receiving_half_now self.now id) size }
     {
-        half_answers::read_answer(
-            self.is_open,
-            self.unread_count(id),
-            &self.end_now(id),
-            size,
-        )
+        half_answers::read_answer(self.is_open, self.unread_count(id), &self.end_now(id), size)
     }
 
     /// What a read of exactly so many bytes would answer.

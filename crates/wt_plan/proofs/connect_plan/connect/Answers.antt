@@ -1,4 +1,4 @@
-use Rattle.std.proofs.Common.{◌≡◌, Err, IfOk, Ok, ap, subst, sym, ◌∙◌}
+use Rattle.std.proofs.Common.{◌≡◌, IfOk, ap, subst, sym, ◌∙◌}
 use Rattle.wt_connect.specs.ConnectTarget.{target_of}
 use Rattle.wt_plan.specs.Planned.{planned}
 use Rattle.wt_session_spec.specs.HandshakePlans.{failed_connect}
