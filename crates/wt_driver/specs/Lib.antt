@@ -1,3 +1,5 @@
 pub mod BiChannel
 pub mod Poll
 pub mod SharedResult
+pub mod Places
+pub mod Found
