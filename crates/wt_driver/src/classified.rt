@@ -129,3 +129,8 @@ pub fn session_number(session: SessionId) -> u64
 {
     session.session_stream().into_u64()
 }
+
+/// Whether nothing of a stream with this verdict is read any more.
+pub fn is_given_up(verdict: &Verdict) -> bool {
+    matches!(verdict, Verdict::Dropped | Verdict::Refused(_))
+}

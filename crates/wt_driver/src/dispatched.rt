@@ -1,12 +1,14 @@
 //! The classified streams by their use.
-ghost use Rattle.std.specs.Prelude.{◌≡◌, ◌++◌, ◌∷◌, [], Some, OnOk, not};
+ghost use Rattle.std.specs.Prelude.{◌≡◌, ◌++◌, ◌∷◌, [], None, Some, OnOk, not};
 ghost use Rattle.wt_driver.specs.Found.{due_as};
+ghost use Rattle.wt_driver.specs.Rules.{consequence_of};
 ghost use Rattle.wt_driver_spec.specs.Due.{due_stream};
 ghost use Rattle.wt_driver_spec.specs.Step.{dispatch, is_other};
 ghost use Rattle.wt_spec.specs.Connection.{first_of, is_due};
 ghost use Rattle.wt_spec.specs.StreamTable.{bi_consequence, kept_if, only, only_once, or_later, queued_behind, uni_consequence};
 
 use crate::classified::{Classified, Consequence, is_for_session};
+use crate::slot::Half;
 use std::alloc::Global;
 use std::marker::Model;
 use wt_proto::verdict::Verdict;
@@ -85,7 +87,9 @@ fn remove(classified: &mut Vec<Classified>, id: StreamId)
 
 impl DispatchedStreams {
     /// No stream is classified.
-    pub fn new(alloc: Global) -> DispatchedStreams {
+    pub fn new(alloc: Global) -> DispatchedStreams
+        ensures { result ≡ record { control = None; encoder = None; decoder = None; requests = []; waiting = [] } }
+    {
         DispatchedStreams {
             control: None,
             encoder: None,
@@ -145,6 +149,16 @@ impl DispatchedStreams {
             Verdict::Refused(code) => Consequence::stopped(false, id, *code),
             Verdict::Request(_, _) => queued_behind(self.requests.as_slice(), id),
             _ => Consequence::none(),
+        }
+    }
+
+    /// What follows from the verdict of a stream of this kind.
+    pub fn consequence(&self, half: Half, id: StreamId, verdict: &Verdict) -> Consequence
+        ensures { result ≡ consequence_of half self.now id verdict.now }
+    {
+        match half {
+            Half::Uni => self.uni_consequence(id, verdict),
+            Half::Bi => self.bi_consequence(id, verdict),
         }
     }
 

@@ -6,9 +6,12 @@
 pub mod bichannel;
 pub mod classified;
 pub mod dispatched;
+pub mod driver;
 pub mod ending;
 pub mod laws;
 pub mod progress;
+pub mod record;
+pub mod scan;
 pub mod shared_result;
 pub mod slot;
 #[cfg(test)]

@@ -1,11 +1,13 @@
 //! What is kept of a peer's stream that isn't released.
-ghost use Rattle.std.specs.Prelude.{◌≡◌};
+ghost use Rattle.std.specs.Prelude.{◌≡◌, ◌<◌};
 ghost use Rattle.wt_driver.specs.Places.{place_of};
+ghost use Rattle.wt_seam_spec.specs.Streams.{peer_bi, peer_uni};
 ghost use Rattle.wt_driver_spec.specs.DriverState.{Dequeued, Held};
 ghost use Rattle.wt_driver_spec.specs.Step.{new_slot};
 
 use std::marker::Model;
 use wt_wire::ids::StreamId;
+use wt_wire::side::Side;
 
 /// How far a stream in a slot is.
 #[derive(Clone, Copy, PartialEq, Eq, Debug)]
@@ -86,5 +88,27 @@ impl Slot {
         ensures { place_of result ≡ self.now.place }
     {
         self.place
+    }
+}
+
+/// The low two bits of the ids of the peer's unidirectional streams (RFC 9000, section 2.1).
+pub fn peer_uni(side: Side) -> u64
+    ensures kind { result ≡ peer_uni side }
+    ensures small { result < 4 }
+{
+    match side {
+        Side::Client => 3,
+        Side::Server => 2,
+    }
+}
+
+/// The low two bits of the ids of the peer's bidirectional streams (RFC 9000, section 2.1).
+pub fn peer_bi(side: Side) -> u64
+    ensures kind { result ≡ peer_bi side }
+    ensures small { result < 4 }
+{
+    match side {
+        Side::Client => 1,
+        Side::Server => 0,
     }
 }
