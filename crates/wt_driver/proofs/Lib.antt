@@ -1,2 +1,3 @@
+pub mod Restaged
 pub mod BiChannelLaws
 pub mod SharedResultLaws

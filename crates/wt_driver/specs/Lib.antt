@@ -5,3 +5,4 @@ pub mod Places
 pub mod Found
 pub mod Rules
 pub mod Records
+pub mod Scanning

@@ -118,8 +118,10 @@ impl Driver {
         self.check_session()?;
         self.check_local_control();
         self.check_control()?;
-        self.check_qpack(self.dispatched.encoder());
-        self.check_qpack(self.dispatched.decoder());
+        let encoder = self.dispatched.encoder();
+        self.check_qpack(encoder);
+        let decoder = self.dispatched.decoder();
+        self.check_qpack(decoder);
         Ok(())
     }
 
