@@ -1,4 +1,4 @@
--- Scanning the slots of a kind is visiting at all of its streams, any number of them.
+-- Scanning the slots of a kind is visiting all of its streams, any number of them.
 use Rattle.std.proofs.Common.{◌≡◌, ℕ, suc, Bool, true, false, cond, List, [], ◌∷◌, ◌++◌, refl, sym, ap, ◌∙◌, append_assoc}
 use Rattle.std.specs.Prelude.{not, Option, Some, None, ◌==◌, ◌||◌, ◌&&◌, nat_lt}
 use Rattle.std.proofs.lemmas.Bool.{eq-eqb, eqb-true, or_parts, or_right, true≢false}
@@ -276,7 +276,7 @@ module _ (ready : Bool) (d : CallView) (rule : SlotRule) where
       by (Some e) rest = later-same p.table
       by None rest = later-again p.table q.table (scan ready d rule ks q).table (visit-later (verdict_of k p.table.classified) k p) rest
 
-  -- ---- one slot is scanned as its stream is visited at
+  -- ---- one slot is visited as its stream is
 
   module _ (k : ℕ) (ls : List Slot) (p : Scan) (runs : p.table.progress.ending ≡ None) (local : ℕ → Bool) (peers : local k ≡ false) (un : Untouched local d p.table) where
     -- what is left behind the stream, and its slot before it

@@ -1,20 +1,26 @@
 -- A call that gives the next stream or datagram of its session and passes those of others: one form, over a log and over
 -- what is kept, with what goes out. (The order and the passing are this repository's rule.)
-use Rattle.std.specs.Prelude.{[], ◌++◌, ◌*◌, ◌==◌, ◌∷◌, Bool, List, None, Option, Some, false, if◌then◌else◌, length, nat_lt, suc, true, zero, ℕ}
+use Rattle.std.specs.Prelude.{[], ◌++◌, ◌*◌, ◌==◌, ◌∷◌, ◌≡◌, Bool, List, None, Option, Some, false, if◌then◌else◌, length, nat_lt, suc, true, zero, ℕ}
+use Rattle.wt_seam_spec.specs.Joined.{newest_first}
 use Rattle.wt_seam_spec.specs.Reports.{datagrams_of}
 use Rattle.wt_seam_spec.specs.Streams.{peer_count}
 use Rattle.wt_spec.specs.Connection.{first_of, is_due, is_for_session, next_datagram, next_due, pass_stream, read_datagram}
-use Rattle.wt_spec.specs.Effect.{Effect, log_call, pending_or_failed, poll_only}
-use Rattle.wt_spec.specs.StreamTable.{Classified, TransportView}
-use Rattle.wt_turn.specs.Log.{Called, DatagramPassed, DatagramReceived, Entry, Log, Sent, StreamAccepted, StreamPassed, events_of}
+use Rattle.wt_spec.specs.Effect.{Effect, log_call, pending_or_failed, poll_only, transport_error}
+use Rattle.wt_spec.specs.Driver.{transport_view}
+use Rattle.wt_spec.specs.StreamTable.{ByFault, BySession, Classified, Ending, TransportView}
+use Rattle.wt_turn.specs.Log.{Called, DatagramPassed, DatagramReceived, Entry, Log, Sent, StreamAccepted, StreamPassed, actions_of, events_of}
 use Rattle.wt_turn.specs.declared.action.Action.{Action}
+use Rattle.wt_turn.specs.declared.connection_error.ConnectionError.{ConnectionError}
 use Rattle.wt_turn.specs.declared.reply.Reply.{Reply}
 use Rattle.wt_wire.specs.Codes.{code_of}
 use Rattle.wt_wire.specs.declared.side.Side.{Side}
-use Rattle.wt_driver_spec.specs.DriverState.{DriverState}
-use Rattle.wt_driver_spec.specs.Moment.{moment_actions, moment_state}
+use Rattle.wt_driver_spec.specs.DriverState.{DriverState, state_of}
+use Rattle.wt_driver_spec.specs.Moment.{Fits, moment_actions, moment_state}
+use Rattle.wt_driver_spec.specs.Rest.{RestsWhileOpen, rested}
 use Rattle.wt_driver_spec.specs.Step.{after_entry}
 use Rattle.wt_turn.specs.declared.action.Action.TheVariants as actions
+use Rattle.wt_turn.specs.declared.connection_error.ConnectionError.TheVariants as errors
+use Rattle.wt_turn.specs.declared.reply.Reply.TheVariants as replies
 use Rattle.wt_wire.specs.declared.error.ErrorCode.TheVariants as h3
 
 -- ---- the form
@@ -88,13 +94,30 @@ accepted side kind log session = take_due (log_streams side kind session) (suc (
 abbrev pub received : Side → Log → ℕ → Outcome Log (List ℕ)
 received side log session = take_due (log_datagrams side session) (suc (length (datagrams_of (events_of log)))) log
 
+-- the reply to what was given, or else this one
+abbrev pub reply_or : {T : Type 0} → (T → Reply) → Reply → Option T → Reply
+reply_or reply other None = other
+reply_or reply other (Some item) = reply item
+
 -- the reply to what was given; without it the call waits or fails
 abbrev pub given_reply : {T : Type 0} → Side → (T → Reply) → Outcome Log T → Reply
-given_reply side reply x = elim x.given [ Some item ↦ reply item | None ↦ pending_or_failed side x.state ]
+given_reply side reply x = reply_or reply (pending_or_failed side x.state) x.given
 
 -- the effect of a call that gives
 abbrev pub outcome_effect : {T : Type 0} → Side → (T → Reply) → Outcome Log T → Effect
 outcome_effect side reply x = poll_only side x.state (given_reply side reply x)
+
+-- ---- what is told where nothing is given
+
+-- how the driver's ending is told, and without one this error of the transport
+abbrev pub ending_error : ConnectionError → Option Ending → ConnectionError
+ending_error error None = error
+ending_error error (Some (ByFault code)) = errors.LocalH3Error code
+ending_error error (Some (BySession code reason by_capsule)) = errors.ApplicationClosed (record { code = code; reason = reason })
+
+-- nothing is left for the call, by what is kept and how the transport tells its end
+abbrev pub state_pending_or_failed : ConnectionError → DriverState → Reply
+state_pending_or_failed error s = if s.is_open then replies.Pending else replies.Failed (ending_error error s.progress.ending)
 
 -- ---- over what is kept
 
@@ -150,3 +173,18 @@ state_accepted t kind count s session = take_due (state_streams t kind session) 
 -- the payload that a receive gives, by what is kept and how many datagrams came
 abbrev pub state_received : TransportView → ℕ → DriverState → ℕ → Outcome DriverRun (List ℕ)
 state_received t count s session = take_due (state_datagrams t session) (suc count) (run_from s)
+
+-- the reply to what was given, by what is kept; without it the call waits or fails
+abbrev pub state_reply : {T : Type 0} → (T → Reply) → ConnectionError → Outcome DriverRun T → Reply
+state_reply reply error x = reply_or reply (state_pending_or_failed error x.state.state) x.given
+
+-- ---- a call on what is kept follows the call on the log
+
+-- after a log: what is kept of the later log, what went out since, and the reply
+pub record CallFollowed {T : Type 0} (side : Side) (log : Log) (effect : Effect) (reply : T → Reply) (x : Outcome DriverRun T) : Type 0 where
+  pub state : state_of side effect.log ≡ rested x.state.state
+  pub actions : actions_of effect.log ≡ newest_first x.state.actions (actions_of log)
+  pub reply_is : effect.reply ≡ state_reply reply (transport_error log) x
+  pub view : transport_view side effect.log ≡ transport_view side log
+  pub fits : Fits side effect.log
+  pub rests : RestsWhileOpen side effect.log

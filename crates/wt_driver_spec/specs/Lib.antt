@@ -4,3 +4,5 @@ pub mod Moment
 pub mod Due
 pub mod Bounds
 pub mod AtOnce
+pub mod Rest
+pub mod Claims

@@ -4,7 +4,7 @@ use Rattle.wt_proto.specs.declared.verdict.Verdict.{Verdict}
 use Rattle.wt_seam_spec.specs.Streams.{local_bi, local_uni}
 use Rattle.wt_spec.specs.Driver.{apply_if, is_moment, stream_table}
 use Rattle.wt_spec.specs.StreamTable.{Classified, TransportView, is_webtransport, verdict_of}
-use Rattle.wt_turn.specs.Log.{CallRecord, Called, Entry, Log, RequestDelivered, Sent, StreamAccepted, StreamPassed}
+use Rattle.wt_turn.specs.Log.{CallRecord, Called, Entry, Log, OpeningStarted, RequestDelivered, Sent, StreamAccepted, StreamPassed}
 use Rattle.wt_turn.specs.declared.action.Action.{Action}
 use Rattle.wt_wire.specs.declared.side.Side.{Side}
 use Rattle.wt_driver_spec.specs.DriverState.{DriverState}
@@ -25,11 +25,12 @@ names_session (Some v) = is_webtransport v
 abbrev pub may_release : Side → List Classified → ℕ → Bool
 may_release side cs k = is_local side k || names_session (verdict_of k cs)
 
--- a stream of a session is released once it is classified, and so is a request that is delivered
+-- a stream of a session is released once it is classified, a request is delivered once it is, and this end opens its own streams
 abbrev pub MayCall : Side → Log → CallRecord → Type 0
 MayCall side log (StreamAccepted id) = may_release side (stream_table side log).classified id ≡ true
 MayCall side log (StreamPassed id) = may_release side (stream_table side log).classified id ≡ true
 MayCall side log (RequestDelivered id) = is_some (verdict_of id (stream_table side log).classified) ≡ true
+MayCall side log (OpeningStarted id session) = is_local side id ≡ true
 MayCall side log _ = Unit {0}
 
 -- the entry may follow the log, as far as a driver is concerned
