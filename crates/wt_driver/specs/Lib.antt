@@ -6,3 +6,5 @@ pub mod Found
 pub mod Rules
 pub mod Records
 pub mod Scanning
+pub mod DriverValue
+pub mod Results

@@ -175,7 +175,7 @@ fn visit(
 }
 
 /// Removes a slot.
-fn remove_at(slots: &mut VecDeque<Slot>, at: usize)
+pub(crate) fn remove_at(slots: &mut VecDeque<Slot>, at: usize)
     requires { at < length slots.old.items }
     ensures { slots.new.items ≡ remove slots.old.items at }
 {

@@ -41,20 +41,25 @@ impl Driver {
 
     // ---- the checks behind the slots
 
-    fn dequeue_datagram(&mut self) {
+    fn dequeue_datagram(&mut self) -> Result<(), OutOfMemory> {
+        if self.progress.datagrams() >= 1 << 62 {
+            return Err(OutOfMemory);
+        }
         if let Some(piece) = self.queue.front() {
             self.progress.dequeue_datagram(piece.as_slice());
         }
+        Ok(())
     }
 
     /// One datagram is dequeued at a time.
-    fn check_datagram(&mut self) {
+    fn check_datagram(&mut self) -> Result<(), OutOfMemory> {
         if self.progress.goes_on()
             && self.inbox.is_ready()
             && self.settled == self.progress.datagrams()
         {
-            self.dequeue_datagram();
+            self.dequeue_datagram()?;
         }
+        Ok(())
     }
 
     fn read_session(&mut self, id: StreamId) -> Result<(), OutOfMemory> {
@@ -114,7 +119,7 @@ impl Driver {
 
     /// The checks in their order, up to the first that ends the connection.
     fn run_checks(&mut self) -> Result<(), OutOfMemory> {
-        self.check_datagram();
+        self.check_datagram()?;
         self.check_session()?;
         self.check_local_control();
         self.check_control()?;
