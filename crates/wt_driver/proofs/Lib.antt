@@ -1,5 +1,7 @@
 pub mod Restaged
 pub mod ScanSteps
 pub mod Visits
+pub mod Removing
+pub mod Moved
 pub mod BiChannelLaws
 pub mod SharedResultLaws

@@ -6,5 +6,7 @@ pub mod Found
 pub mod Rules
 pub mod Records
 pub mod Scanning
+pub mod Stages
+pub mod Moving
 pub mod DriverValue
 pub mod Results

@@ -1,4 +1,19 @@
 //! The work of a moment.
+ghost use Rattle.std.specs.Prelude.{◌≡◌, ◌==◌, ◌&&◌, List, ℕ, Some, IfOk, OnOk, true, not};
+ghost use Rattle.wt_driver.specs.DriverValue.{DriverValue, with_state};
+ghost use Rattle.wt_driver.specs.Moving.{HasDatagram, Moves, WalkFrom, front_of};
+ghost use Rattle.wt_driver.specs.Scanning.{AllAwait};
+ghost use Rattle.wt_driver.specs.Stages.{bi_stages, control_stages, datagram_checked, session_stages, uni_stages, unless_ended_stage};
+ghost use Rattle.wt_driver.specs.declared.slot.Half.TheVariants as halves;
+ghost use Rattle.wt_driver_spec.specs.Bounds.{AreDistinct, IsBounded};
+ghost use Rattle.wt_driver_spec.specs.Step.{begin_scan, scan_bi_slots, scan_uni_slots};
+ghost use Rattle.wt_inbox.specs.Stage.{Refines, Stage, control_offset, session_offset};
+ghost use Rattle.wt_seam_spec.specs.Reports.{is_running};
+ghost use Rattle.wt_spec.specs.Driver.{transport_view};
+ghost use Rattle.wt_spec.specs.Scan.{check_control, check_qpack, check_session, critical_if, unless_ended};
+ghost use Rattle.wt_turn.specs.Log.{Log, is_open};
+ghost use Rattle.wt_turn.specs.declared.action.Action.{Action};
+ghost use Rattle.wt_wire.specs.declared.side.Side.{Side};
 
 use super::Driver;
 use crate::scan::scan;
@@ -9,7 +24,9 @@ use wt_wire::ids::StreamId;
 use wt_wire::side::StreamEnd;
 
 /// Whether the peer's half goes on.
-fn is_running(end: StreamEnd) -> bool {
+fn is_running(end: StreamEnd) -> bool
+    ensures { result ≡ is_running end }
+{
     match end {
         StreamEnd::Running => true,
         StreamEnd::Fin | StreamEnd::Reset(_) => false,
@@ -19,7 +36,11 @@ fn is_running(end: StreamEnd) -> bool {
 impl Driver {
     // ---- the scan of the slots
 
-    fn scan_unis(&mut self) -> Result<(), OutOfMemory> {
+    fn scan_unis(&mut self) -> Result<(), OutOfMemory>
+        ensures log { (side : Side) (log : Log) (stage : ℕ → Stage) (untaken : List Action) → Refines side self.old.inbox log stage untaken → is_open log ≡ true
+            → AllAwait halves.Uni stage self.old.state.unis → AreDistinct self.old.state.unis → IsBounded 4 0 self.old.state.unis
+            → OnOk result (Moves side log untaken self.old self.new (uni_stages (transport_view side log) self.old.state stage) (scan_uni_slots (transport_view side log) self.old.state)) }
+    {
         scan(
             &mut self.inbox,
             Half::Uni,
@@ -29,7 +50,11 @@ impl Driver {
         )
     }
 
-    fn scan_bis(&mut self) -> Result<(), OutOfMemory> {
+    fn scan_bis(&mut self) -> Result<(), OutOfMemory>
+        ensures log { (side : Side) (log : Log) (stage : ℕ → Stage) (untaken : List Action) → Refines side self.old.inbox log stage untaken → is_open log ≡ true
+            → AllAwait halves.Bi stage self.old.state.bis → AreDistinct self.old.state.bis → IsBounded 1 0 self.old.state.bis
+            → OnOk result (Moves side log untaken self.old self.new (bi_stages (transport_view side log) self.old.state stage) (scan_bi_slots (transport_view side log) self.old.state)) }
+    {
         scan(
             &mut self.inbox,
             Half::Bi,
@@ -62,7 +87,9 @@ impl Driver {
         Ok(())
     }
 
-    fn read_session(&mut self, id: StreamId) -> Result<(), OutOfMemory> {
+    fn read_session(&mut self, id: StreamId) -> Result<(), OutOfMemory>
+        ensures queue { OnOk result (self.new.queue ≡ self.old.queue) }
+    {
         if self.inbox.has_session_end(id)? {
             let (walk, by_capsule) = self.inbox.release_session(id)?;
             self.progress.note_session(walk, by_capsule);
@@ -82,7 +109,10 @@ impl Driver {
     }
 
     /// This end's control stream must not be stopped.
-    fn check_local_control(&mut self) {
+    fn check_local_control(&mut self)
+        ensures log { (side : Side) (log : Log) (stage : ℕ → Stage) (untaken : List Action) → Refines side self.old.inbox log stage untaken
+            → self.new ≡ with_state self.old (record self.old.state { progress = unless_ended self.old.state.progress.ending (critical_if (transport_view side log).control_stopped) self.old.state.progress }) }
+    {
         if self.progress.goes_on() {
             self.progress.fault_if(self.inbox.control_stopped());
         }
@@ -108,7 +138,10 @@ impl Driver {
     }
 
     /// A QPACK stream of the peer's must not end.
-    fn check_qpack(&mut self, stream: Option<(StreamId, usize)>) {
+    fn check_qpack(&mut self, stream: Option<(StreamId, usize)>)
+        ensures log { (side : Side) (log : Log) (stage : ℕ → Stage) (untaken : List Action) → Refines side self.old.inbox log stage untaken
+            → self.new ≡ with_state self.old (record self.old.state { progress = unless_ended self.old.state.progress.ending (check_qpack (transport_view side log) stream) self.old.state.progress }) }
+    {
         if !self.progress.goes_on() {
             return;
         }
