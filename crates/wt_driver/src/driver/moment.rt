@@ -1,17 +1,20 @@
 //! The work of a moment.
-ghost use Rattle.std.specs.Prelude.{◌≡◌, ◌==◌, ◌&&◌, List, ℕ, Some, IfOk, OnOk, true, not};
-ghost use Rattle.wt_driver.specs.DriverValue.{DriverValue, with_state};
+ghost use Rattle.std.specs.Prelude.{◌≡◌, ◌==◌, ◌&&◌, List, ℕ, Some, IfOk, OnOk, drop, true, not};
+ghost use Rattle.wt_driver.specs.DriverValue.{with_state};
 ghost use Rattle.wt_driver.specs.Moving.{HasDatagram, Moves, WalkFrom, front_of};
 ghost use Rattle.wt_driver.specs.Scanning.{AllAwait};
-ghost use Rattle.wt_driver.specs.Stages.{bi_stages, control_stages, datagram_checked, session_stages, uni_stages, unless_ended_stage};
+ghost use Rattle.wt_driver.specs.Stages.{bi_stages, control_stages, datagram_checked, session_stage, session_stages, uni_stages};
 ghost use Rattle.wt_driver.specs.declared.slot.Half.TheVariants as halves;
 ghost use Rattle.wt_driver_spec.specs.Bounds.{AreDistinct, IsBounded};
-ghost use Rattle.wt_driver_spec.specs.Step.{begin_scan, scan_bi_slots, scan_uni_slots};
-ghost use Rattle.wt_inbox.specs.Stage.{Refines, Stage, control_offset, session_offset};
-ghost use Rattle.wt_seam_spec.specs.Reports.{is_running};
+ghost use Rattle.wt_driver_spec.specs.Step.{scan_bi_slots, scan_uni_slots};
+ghost use Rattle.wt_inbox.specs.Stage.{Anywhere, ControlBody, Refines, SessionBody, Stage, control_offset, session_offset, with_stage};
+ghost use Rattle.wt_seam_spec.specs.Reports.{end_of, is_running};
+ghost use Rattle.wt_seam_spec.specs.Streams.{contents};
+ghost use Rattle.wt_proto.specs.ControlWalk.{control_walk_of};
+ghost use Rattle.wt_proto.specs.SessionWalk.{is_over, session_walk_of};
 ghost use Rattle.wt_spec.specs.Driver.{transport_view};
-ghost use Rattle.wt_spec.specs.Scan.{check_control, check_qpack, check_session, critical_if, unless_ended};
-ghost use Rattle.wt_turn.specs.Log.{Log, is_open};
+ghost use Rattle.wt_spec.specs.Scan.{check_control, check_session, control_read, critical_if, dequeued_datagram, session_ends, session_read, unless_ended};
+ghost use Rattle.wt_turn.specs.Log.{Log, events_of, is_open};
 ghost use Rattle.wt_turn.specs.declared.action.Action.{Action};
 ghost use Rattle.wt_wire.specs.declared.side.Side.{Side};
 
@@ -19,6 +22,7 @@ use super::Driver;
 use crate::scan::scan;
 use crate::slot::Half;
 use wt_proto::control_walk::ControlWalk;
+use wt_proto::session_walk::SessionWalk;
 use wt_wire::error::OutOfMemory;
 use wt_wire::ids::StreamId;
 use wt_wire::side::StreamEnd;
@@ -66,7 +70,9 @@ impl Driver {
 
     // ---- the checks behind the slots
 
-    fn dequeue_datagram(&mut self) -> Result<(), OutOfMemory> {
+    fn dequeue_datagram(&mut self) -> Result<(), OutOfMemory>
+        ensures { OnOk result (self.new ≡ with_state self.old (record self.old.state { progress = dequeued_datagram (front_of self.old.queue) self.old.state.progress })) }
+    {
         if self.progress.datagrams() >= 1 << 62 {
             return Err(OutOfMemory);
         }
@@ -76,36 +82,85 @@ impl Driver {
         Ok(())
     }
 
+    /// Whether a datagram may be dequeued.
+    fn may_dequeue_datagram(&self) -> bool
+        ensures { (side : Side) (log : Log) (stage : ℕ → Stage) (untaken : List Action) → Refines side self.now.inbox log stage untaken → is_open log ≡ true
+            → result ≡ ((transport_view side log).ready && self.now.state.datagrams == self.now.state.progress.datagrams) }
+    {
+        let is_ready = self.inbox.is_ready();
+        let is_settled = self.settled == self.progress.datagrams();
+        is_ready && is_settled
+    }
+
     /// One datagram is dequeued at a time.
-    fn check_datagram(&mut self) -> Result<(), OutOfMemory> {
-        if self.progress.goes_on()
-            && self.inbox.is_ready()
-            && self.settled == self.progress.datagrams()
-        {
-            self.dequeue_datagram()?;
+    fn check_datagram(&mut self) -> Result<(), OutOfMemory>
+        ensures log { (side : Side) (log : Log) (stage : ℕ → Stage) (untaken : List Action) → Refines side self.old.inbox log stage untaken → is_open log ≡ true → HasDatagram side log self.old
+            → OnOk result (self.new ≡ with_state self.old (record self.old.state { progress = datagram_checked (transport_view side log) self.old.state.datagrams self.old.state.progress })) }
+    {
+        if self.progress.goes_on() {
+            let may_dequeue = self.may_dequeue_datagram();
+            if may_dequeue {
+                self.dequeue_datagram()?;
+            }
         }
         Ok(())
     }
 
-    fn read_session(&mut self, id: StreamId) -> Result<(), OutOfMemory>
-        ensures queue { OnOk result (self.new.queue ≡ self.old.queue) }
+    fn note_session(&mut self, walk: SessionWalk, by_capsule: bool)
+        ensures { self.new ≡ with_state self.old (record self.old.state { progress = session_ends walk by_capsule self.old.state.progress }) }
     {
-        if self.inbox.has_session_end(id)? {
-            let (walk, by_capsule) = self.inbox.release_session(id)?;
-            self.progress.note_session(walk, by_capsule);
+        self.progress.note_session(walk, by_capsule);
+    }
+
+    fn end_session(&mut self, id: StreamId) -> Result<(), OutOfMemory>
+        ensures log { (side : Side) (log : Log) (stage : ℕ → Stage) (untaken : List Action) (at : ℕ) → Refines side self.old.inbox log stage untaken → session_offset (stage id) ≡ Some at
+            → OnOk result (Moves side log untaken self.old self.new (with_stage stage id Anywhere)
+                (record self.old.state { progress = session_read (drop at (contents log id)) (end_of (events_of log) id) self.old.state.progress })) }
+    {
+        let (walk, by_capsule) = self.inbox.release_session(id)?;
+        self.note_session(walk, by_capsule);
+        Ok(())
+    }
+
+    fn has_session_end(&mut self, id: StreamId) -> Result<bool, OutOfMemory>
+        ensures answer { (side : Side) (log : Log) (stage : ℕ → Stage) (untaken : List Action) (at : ℕ) → Refines side self.old.inbox log stage untaken → session_offset (stage id) ≡ Some at
+            → IfOk result (λ so. so ≡ is_over (session_walk_of (drop at (contents log id)) (end_of (events_of log) id))) }
+        ensures log { (side : Side) (log : Log) (stage : ℕ → Stage) (untaken : List Action) (at : ℕ) → Refines side self.old.inbox log stage untaken → session_offset (stage id) ≡ Some at
+            → OnOk result (Moves side log untaken self.old self.new (with_stage stage id (SessionBody at)) self.old.state) }
+    {
+        self.inbox.has_session_end(id)
+    }
+
+    fn read_session(&mut self, id: StreamId) -> Result<(), OutOfMemory>
+        ensures log { (side : Side) (log : Log) (stage : ℕ → Stage) (untaken : List Action) (at : ℕ) → Refines side self.old.inbox log stage untaken → session_offset (stage id) ≡ Some at
+            → OnOk result (Moves side log untaken self.old self.new (with_stage stage id (session_stage (is_over (session_walk_of (drop at (contents log id)) (end_of (events_of log) id))) at))
+                (record self.old.state { progress = session_read (drop at (contents log id)) (end_of (events_of log) id) self.old.state.progress })) }
+    {
+        let is_over = self.has_session_end(id)?;
+        if is_over {
+            self.end_session(id)?;
         }
         Ok(())
+    }
+
+    fn walk_session(&mut self, session: Option<(StreamId, usize)>) -> Result<(), OutOfMemory>
+        ensures log { (side : Side) (log : Log) (stage : ℕ → Stage) (untaken : List Action) → Refines side self.old.inbox log stage untaken → WalkFrom session_offset stage session
+            → OnOk result (Moves side log untaken self.old self.new (session_stages (transport_view side log) session stage)
+                (record self.old.state { progress = check_session (transport_view side log) session self.old.state.progress })) }
+    {
+        match session {
+            None => Ok(()),
+            Some((id, _)) => self.read_session(id),
+        }
     }
 
     /// The peer's end of the session ends the connection.
     fn check_session(&mut self) -> Result<(), OutOfMemory> {
-        if !self.progress.goes_on() {
-            return Ok(());
+        let session = self.session;
+        if self.progress.goes_on() {
+            self.walk_session(session)?;
         }
-        match self.session {
-            None => Ok(()),
-            Some((id, _)) => self.read_session(id),
-        }
+        Ok(())
     }
 
     /// This end's control stream must not be stopped.
@@ -113,40 +168,68 @@ impl Driver {
         ensures log { (side : Side) (log : Log) (stage : ℕ → Stage) (untaken : List Action) → Refines side self.old.inbox log stage untaken
             → self.new ≡ with_state self.old (record self.old.state { progress = unless_ended self.old.state.progress.ending (critical_if (transport_view side log).control_stopped) self.old.state.progress }) }
     {
-        if self.progress.goes_on() {
-            self.progress.fault_if(self.inbox.control_stopped());
-        }
+        let is_stopped = self.inbox.control_stopped();
+        self.progress.fault_unless_ended(is_stopped);
     }
 
-    fn note_control(&mut self, walk: ControlWalk) {
+    fn note_control(&mut self, walk: ControlWalk)
+        ensures inbox { self.new.inbox ≡ self.old.inbox }
+        ensures state { self.new.state ≡ record self.old.state { progress = control_read walk self.old.state.progress } }
+        ensures queue { self.new.queue ≡ self.old.queue }
+    {
         if walk.settings.is_some() {
             self.settings = walk.settings;
         }
         self.progress.note_control(walk);
     }
 
+    fn read_control(&mut self, id: StreamId) -> Result<(), OutOfMemory>
+        ensures log { (side : Side) (log : Log) (stage : ℕ → Stage) (untaken : List Action) (at : ℕ) → Refines side self.old.inbox log stage untaken → control_offset (stage id) ≡ Some at
+            → OnOk result (Moves side log untaken self.old self.new (with_stage stage id (ControlBody at))
+                (record self.old.state { progress = control_read (control_walk_of (drop at (contents log id)) (end_of (events_of log) id)) self.old.state.progress })) }
+    {
+        match self.inbox.control_walk(id) {
+            Ok(walk) => {
+                self.note_control(walk);
+                Ok(())
+            }
+            Err(error) => Err(error),
+        }
+    }
+
+    fn walk_control(&mut self, control: Option<(StreamId, usize)>) -> Result<(), OutOfMemory>
+        ensures log { (side : Side) (log : Log) (stage : ℕ → Stage) (untaken : List Action) → Refines side self.old.inbox log stage untaken → WalkFrom control_offset stage control
+            → OnOk result (Moves side log untaken self.old self.new (control_stages control stage)
+                (record self.old.state { progress = check_control (transport_view side log) control self.old.state.progress })) }
+    {
+        match control {
+            None => Ok(()),
+            Some((id, _)) => self.read_control(id),
+        }
+    }
+
     /// The peer's control stream behind its type.
     fn check_control(&mut self) -> Result<(), OutOfMemory> {
-        if !self.progress.goes_on() {
-            return Ok(());
-        }
-        if let Some((id, _)) = self.dispatched.control() {
-            let walk = self.inbox.control_walk(id)?;
-            self.note_control(walk);
+        let control = self.dispatched.control();
+        if self.progress.goes_on() {
+            self.walk_control(control)?;
         }
         Ok(())
     }
 
-    /// A QPACK stream of the peer's must not end.
-    fn check_qpack(&mut self, stream: Option<(StreamId, usize)>)
+    fn check_end(&mut self, id: StreamId)
         ensures log { (side : Side) (log : Log) (stage : ℕ → Stage) (untaken : List Action) → Refines side self.old.inbox log stage untaken
-            → self.new ≡ with_state self.old (record self.old.state { progress = unless_ended self.old.state.progress.ending (check_qpack (transport_view side log) stream) self.old.state.progress }) }
+            → self.new ≡ with_state self.old (record self.old.state { progress = unless_ended self.old.state.progress.ending (critical_if (not (is_running ((transport_view side log).end id)))) self.old.state.progress }) }
     {
-        if !self.progress.goes_on() {
-            return;
-        }
-        if let Some((id, _)) = stream {
-            self.progress.fault_if(!is_running(self.inbox.end(id)));
+        let is_ended = !is_running(self.inbox.end(id));
+        self.progress.fault_unless_ended(is_ended);
+    }
+
+    /// A QPACK stream of the peer's must not end.
+    fn check_qpack(&mut self, stream: Option<(StreamId, usize)>) {
+        match stream {
+            None => {}
+            Some((id, _)) => self.check_end(id),
         }
     }
 
