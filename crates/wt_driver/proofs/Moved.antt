@@ -4,7 +4,7 @@ use Rattle.std.specs.Prelude.{◌==◌, ◌&&◌, Option, Some, None, Result, Ok
 use Rattle.wt_driver.specs.DriverValue.{DriverValue, with_state}
 use Rattle.wt_driver.specs.Moving.{Moves}
 use Rattle.wt_driver.specs.Scanning.{Scans, known_by, rule_of}
-use Rattle.wt_driver.specs.Stages.{bi_stages, datagram_checked, uni_stages}
+use Rattle.wt_driver.specs.Stages.{bi_stages, datagram_checked, uni_stages, unless_ended_stage}
 use Rattle.wt_driver.specs.declared.slot.Half.TheVariants.{Bi, Uni}
 use Rattle.wt_driver_spec.specs.DriverState.{DriverState, Slot}
 use Rattle.wt_driver_spec.specs.Step.{Known, Scanned, scan_bi_slots, scan_uni_slots, with_scanned_bis, with_scanned_unis}
@@ -94,6 +94,23 @@ module _ (side : Side) (log : Log) (untaken : List Action) where
   pub moves-on : (d m new : DriverValue) (first later : ℕ → Stage) (s : DriverState) (f : DriverState → DriverState) → Moves side log untaken d m first s → Moves side log untaken m new later (f m.state)
       → Moves side log untaken d new later (f s)
   moves-on d m new first later s f a b = record { inbox = b.inbox; state_is = b.state_is ∙ ap f a.state_is; queue = b.queue ∙ a.queue }
+
+module _ (side : Side) (log : Log) (untaken : List Action) where
+  -- a check is made where no ending came before
+  pub open-moves : (e : Option Ending) (d new : DriverValue) (stage to : ℕ → Stage) (f : Progress → Progress) → e ≡ None → Moves side log untaken d new to (record d.state { progress = f d.state.progress })
+      → Moves side log untaken d new (unless_ended_stage e to stage) (record d.state { progress = unless_ended e f d.state.progress })
+  open-moves None d new stage to f g m = m
+  open-moves (Some x) d new stage to f g m = absurd cc
+
+  pub ended-moves : (e : Option Ending) (d : DriverValue) (stage to : ℕ → Stage) (f : Progress → Progress) → (e ≡ None → ⊥) → Refines side d.inbox log stage untaken
+      → Moves side log untaken d d (unless_ended_stage e to stage) (record d.state { progress = unless_ended e f d.state.progress })
+  ended-moves None d stage to f g r = absurd (g refl)
+  ended-moves (Some x) d stage to f g r = record { inbox = r; state_is = refl; queue = refl }
+
+-- nothing is checked
+pub unless-same : (e : Option Ending) (p : Progress) → unless_ended e (λ q. q) p ≡ p
+unless-same None p = refl
+unless-same (Some x) p = refl
 
 -- a walk that isn't over says nothing
 pub not-over : (w : SessionWalk) (by : Bool) (p : Progress) → is_over w ≡ false → session_ends w by p ≡ p

@@ -1,9 +1,9 @@
 //! The work of a moment.
-ghost use Rattle.std.specs.Prelude.{◌≡◌, ◌==◌, ◌&&◌, List, ℕ, Some, IfOk, OnOk, drop, true, not};
+ghost use Rattle.std.specs.Prelude.{◌≡◌, ◌↔◌, None, IsTrue, ◌==◌, ◌&&◌, List, ℕ, Some, IfOk, OnOk, drop, true, not};
 ghost use Rattle.wt_driver.specs.DriverValue.{with_state};
 ghost use Rattle.wt_driver.specs.Moving.{HasDatagram, Moves, WalkFrom, front_of};
 ghost use Rattle.wt_driver.specs.Scanning.{AllAwait};
-ghost use Rattle.wt_driver.specs.Stages.{bi_stages, control_stages, datagram_checked, session_stage, session_stages, uni_stages};
+ghost use Rattle.wt_driver.specs.Stages.{bi_stages, control_stages, datagram_checked, session_stage, session_stages, uni_stages, unless_ended_stage};
 ghost use Rattle.wt_driver.specs.declared.slot.Half.TheVariants as halves;
 ghost use Rattle.wt_driver_spec.specs.Bounds.{AreDistinct, IsBounded};
 ghost use Rattle.wt_driver_spec.specs.Step.{scan_bi_slots, scan_uni_slots};
@@ -13,7 +13,7 @@ ghost use Rattle.wt_seam_spec.specs.Streams.{contents};
 ghost use Rattle.wt_proto.specs.ControlWalk.{control_walk_of};
 ghost use Rattle.wt_proto.specs.SessionWalk.{is_over, session_walk_of};
 ghost use Rattle.wt_spec.specs.Driver.{transport_view};
-ghost use Rattle.wt_spec.specs.Scan.{check_control, check_session, control_read, critical_if, dequeued_datagram, session_ends, session_read, unless_ended};
+ghost use Rattle.wt_spec.specs.Scan.{check_control, check_qpack, check_session, control_read, critical_if, dequeued_datagram, session_ends, session_read, unless_ended};
 ghost use Rattle.wt_turn.specs.Log.{Log, events_of, is_open};
 ghost use Rattle.wt_turn.specs.declared.action.Action.{Action};
 ghost use Rattle.wt_wire.specs.declared.side.Side.{Side};
@@ -154,10 +154,46 @@ impl Driver {
         }
     }
 
+    fn goes_on(&self) -> bool
+        ensures { IsTrue result ↔ (self.now.state.progress.ending ≡ None) }
+    {
+        self.progress.goes_on()
+    }
+
+    /// The session that is established, and where its part of the stream begins.
+    pub fn session(&self) -> Option<(StreamId, usize)>
+        ensures { result ≡ self.now.state.session }
+    {
+        self.session
+    }
+
+    fn control(&self) -> Option<(StreamId, usize)>
+        ensures { result ≡ self.now.state.dispatched.control }
+    {
+        self.dispatched.control()
+    }
+
+    fn encoder(&self) -> Option<(StreamId, usize)>
+        ensures { result ≡ self.now.state.dispatched.encoder }
+    {
+        self.dispatched.encoder()
+    }
+
+    fn decoder(&self) -> Option<(StreamId, usize)>
+        ensures { result ≡ self.now.state.dispatched.decoder }
+    {
+        self.dispatched.decoder()
+    }
+
     /// The peer's end of the session ends the connection.
-    fn check_session(&mut self) -> Result<(), OutOfMemory> {
-        let session = self.session;
-        if self.progress.goes_on() {
+    fn check_session(&mut self) -> Result<(), OutOfMemory>
+        ensures log { (side : Side) (log : Log) (stage : ℕ → Stage) (untaken : List Action) → Refines side self.old.inbox log stage untaken → WalkFrom session_offset stage self.old.state.session
+            → OnOk result (Moves side log untaken self.old self.new (unless_ended_stage self.old.state.progress.ending (session_stages (transport_view side log) self.old.state.session stage) stage)
+                (record self.old.state { progress = unless_ended self.old.state.progress.ending (check_session (transport_view side log) self.old.state.session) self.old.state.progress })) }
+    {
+        let session = self.session();
+        let goes_on = self.goes_on();
+        if goes_on {
             self.walk_session(session)?;
         }
         Ok(())
@@ -209,9 +245,14 @@ impl Driver {
     }
 
     /// The peer's control stream behind its type.
-    fn check_control(&mut self) -> Result<(), OutOfMemory> {
-        let control = self.dispatched.control();
-        if self.progress.goes_on() {
+    fn check_control(&mut self) -> Result<(), OutOfMemory>
+        ensures log { (side : Side) (log : Log) (stage : ℕ → Stage) (untaken : List Action) → Refines side self.old.inbox log stage untaken → WalkFrom control_offset stage self.old.state.dispatched.control
+            → OnOk result (Moves side log untaken self.old self.new (unless_ended_stage self.old.state.progress.ending (control_stages self.old.state.dispatched.control stage) stage)
+                (record self.old.state { progress = unless_ended self.old.state.progress.ending (check_control (transport_view side log) self.old.state.dispatched.control) self.old.state.progress })) }
+    {
+        let control = self.control();
+        let goes_on = self.goes_on();
+        if goes_on {
             self.walk_control(control)?;
         }
         Ok(())
@@ -226,11 +267,30 @@ impl Driver {
     }
 
     /// A QPACK stream of the peer's must not end.
-    fn check_qpack(&mut self, stream: Option<(StreamId, usize)>) {
+    fn check_qpack(&mut self, stream: Option<(StreamId, usize)>)
+        ensures log { (side : Side) (log : Log) (stage : ℕ → Stage) (untaken : List Action) → Refines side self.old.inbox log stage untaken
+            → self.new ≡ with_state self.old (record self.old.state { progress = unless_ended self.old.state.progress.ending (check_qpack (transport_view side log) stream) self.old.state.progress }) }
+    {
         match stream {
             None => {}
             Some((id, _)) => self.check_end(id),
         }
+    }
+
+    fn check_encoder(&mut self)
+        ensures log { (side : Side) (log : Log) (stage : ℕ → Stage) (untaken : List Action) → Refines side self.old.inbox log stage untaken
+            → self.new ≡ with_state self.old (record self.old.state { progress = unless_ended self.old.state.progress.ending (check_qpack (transport_view side log) self.old.state.dispatched.encoder) self.old.state.progress }) }
+    {
+        let encoder = self.encoder();
+        self.check_qpack(encoder);
+    }
+
+    fn check_decoder(&mut self)
+        ensures log { (side : Side) (log : Log) (stage : ℕ → Stage) (untaken : List Action) → Refines side self.old.inbox log stage untaken
+            → self.new ≡ with_state self.old (record self.old.state { progress = unless_ended self.old.state.progress.ending (check_qpack (transport_view side log) self.old.state.dispatched.decoder) self.old.state.progress }) }
+    {
+        let decoder = self.decoder();
+        self.check_qpack(decoder);
     }
 
     /// The checks in their order, up to the first that ends the connection.
@@ -239,10 +299,8 @@ impl Driver {
         self.check_session()?;
         self.check_local_control();
         self.check_control()?;
-        let encoder = self.dispatched.encoder();
-        self.check_qpack(encoder);
-        let decoder = self.dispatched.decoder();
-        self.check_qpack(decoder);
+        self.check_encoder();
+        self.check_decoder();
         Ok(())
     }
 
