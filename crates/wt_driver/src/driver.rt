@@ -1,5 +1,5 @@
 //! The driver of one connection.
-ghost use Rattle.std.specs.Prelude.{◌≡◌, [], false, None, true};
+ghost use Rattle.std.specs.Prelude.{◌≡◌, ◌^◌, ◌-◌, [], false, min, None, true};
 ghost use Rattle.wt_inbox.specs.State.{nothing_read, readers_now};
 ghost use Rattle.wt_driver.specs.DriverValue.{first_state};
 
@@ -103,7 +103,7 @@ impl Driver {
 
     /// How many readers are kept.
     pub fn readers(&self) -> usize
-        ensures { result ≡ readers_now self.now.inbox }
+        ensures { result ≡ min (readers_now self.now.inbox) (2 ^ 64 - 1) }
     {
         self.inbox.readers()
     }

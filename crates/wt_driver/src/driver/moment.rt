@@ -37,6 +37,13 @@ fn is_running(end: StreamEnd) -> bool
     }
 }
 
+/// The stream of a pair with an offset.
+fn stream_of(place: (StreamId, usize)) -> StreamId
+    ensures { result ≡ place.0 }
+{
+    place.0
+}
+
 impl Driver {
     // ---- the scan of the slots
 
@@ -150,7 +157,10 @@ impl Driver {
     {
         match session {
             None => Ok(()),
-            Some((id, _)) => self.read_session(id),
+            Some(place) => {
+                let id = stream_of(place);
+                self.read_session(id)
+            }
         }
     }
 
@@ -240,7 +250,10 @@ impl Driver {
     {
         match control {
             None => Ok(()),
-            Some((id, _)) => self.read_control(id),
+            Some(place) => {
+                let id = stream_of(place);
+                self.read_control(id)
+            }
         }
     }
 
@@ -273,7 +286,10 @@ impl Driver {
     {
         match stream {
             None => {}
-            Some((id, _)) => self.check_end(id),
+            Some(place) => {
+                let id = stream_of(place);
+                self.check_end(id);
+            }
         }
     }
 
