@@ -6,3 +6,4 @@ pub mod Found
 pub mod Rules
 pub mod Records
 pub mod Scanning
+pub mod Stages
