@@ -6,3 +6,5 @@ pub mod StageEntries
 pub mod StageMoments
 pub mod StageScans
 pub mod StageTables
+pub mod StageAnswers
+pub mod StageAsks

@@ -23,7 +23,7 @@ use Rattle.wt_wire.specs.declared.side.Side.TheVariants.{Client, Server}
 
 -- ---- the dispatched control stream is classified so
 
-control-found : (k at : ℕ) (cs : List Classified) → IsOnce cs → first_at control_offset cs ≡ Some (k, at) → verdict_of k cs ≡ Some (verdicts.Control at)
+pub control-found : (k at : ℕ) (cs : List Classified) → IsOnce cs → first_at control_offset cs ≡ Some (k, at) → verdict_of k cs ≡ Some (verdicts.Control at)
 control-found k at [] once e = absurd cc
 control-found k at (c ∷ cs) once e = by c.verdict refl e (control-found k at cs once.1)
   where
@@ -42,7 +42,7 @@ control-found k at (c ∷ cs) once e = by c.verdict refl e (control-found k at c
     by _ f g again = later (again g) (c.id == k) refl
 
 -- a client's session is on no stream that is classified
-own-none : (side : Side) (cs : List Classified) (id at : ℕ) → IsOwn side cs → session_at side (role_of side id) (classified_of id cs) at ≡ Some at → side ≡ Client → classified_of id cs ≡ None
+pub own-none : (side : Side) (cs : List Classified) (id at : ℕ) → IsOwn side cs → session_at side (role_of side id) (classified_of id cs) at ≡ Some at → side ≡ Client → classified_of id cs ≡ None
 own-none Client cs id at own e is = ap (λ i. classified_of i cs) (client-id id at (classified_of id cs) e) ∙ own
 own-none Server cs id at own e is = absurd cc
 
@@ -71,7 +71,7 @@ control-says role (Some c) done ending at e = let same : c.verdict ≡ verdicts.
 -- ---- each check
 
 -- what goes on after a check went on before it
-went-on : (f : Progress → Progress) (p : Progress) → (unless_ended p.ending f p).ending ≡ None → p.ending ≡ None
+pub went-on : (f : Progress → Progress) (p : Progress) → (unless_ended p.ending f p).ending ≡ None → p.ending ≡ None
 went-on f p e = by p.ending refl e
   where
     by : (o : Option Ending) → p.ending ≡ o → (unless_ended o f p).ending ≡ None → p.ending ≡ None
@@ -123,11 +123,11 @@ module _ (side : Side) (calls : List CallRecord) (cs : List Classified) (t : Tra
 
       module _ (d : CallView) (sent : ControlSent) (open_ : Bool) (here : d.session ≡ session) (p : Progress) (stage : ℕ → Stage) (f : FitAt p.ending stage) where
         -- what is known after the check of the datagrams
-        abbrev first : Progress
+        abbrev pub first : Progress
         first = datagram_checked t d.datagrams p
 
         -- what is known after the check of the session
-        abbrev second : Progress
+        abbrev pub second : Progress
         second = unless_ended first.ending (check_session t session) first
 
         -- what is known after the check of this end's control stream
@@ -143,10 +143,10 @@ module _ (side : Side) (calls : List CallRecord) (cs : List Classified) (t : Tra
         fifth = unless_ended fourth.ending (check_qpack t (first_at encoder_offset cs)) fourth
 
         -- the stages once the session was checked
-        abbrev session_checked_stages : ℕ → Stage
+        abbrev pub session_checked_stages : ℕ → Stage
         session_checked_stages = unless_ended_stage first.ending (session_stages t session stage) stage
 
-        second-fits : FitAt second.ending session_checked_stages
+        pub second-fits : FitAt second.ending session_checked_stages
         second-fits = by first.ending refl (weaker p.ending first.ending stage (went-on (λ q. check_datagram (t.ready && d.datagrams == q.datagrams) t q) p) f)
           where
             by : (e : Option Ending) → first.ending ≡ e → FitAt first.ending stage → FitAt (unless_ended e (check_session t session) first).ending (unless_ended_stage e (session_stages t session stage) stage)

@@ -34,11 +34,11 @@ pub bi-role : (side : Side) (k : ℕ) → k % 4 ≡ peer_bi side → role_of sid
 bi-role Client k e = rw e refl
 bi-role Server k e = rw e refl
 
-unis-of : (side : Side) (n count : ℕ) → AreOf side Uni (stream_ids (peer_uni side) n count)
+pub unis-of : (side : Side) (n count : ℕ) → AreOf side Uni (stream_ids (peer_uni side) n count)
 unis-of side n zero = tt
 unis-of side n (suc count) = (uni-role side (4 * n + peer_uni side) (let low = uni-low side in omega arith), unis-of side (suc n) count)
 
-bis-of : (side : Side) (n count : ℕ) → AreOf side Bi (stream_ids (peer_bi side) n count)
+pub bis-of : (side : Side) (n count : ℕ) → AreOf side Bi (stream_ids (peer_bi side) n count)
 bis-of side n zero = tt
 bis-of side n (suc count) = (bi-role side (4 * n + peer_bi side) (let low = bi-low side in omega arith), bis-of side (suc n) count)
 
@@ -46,35 +46,35 @@ bis-of side n (suc count) = (bi-role side (4 * n + peer_bi side) (let low = bi-l
 
 module _ (t : TransportView) (d : CallView) (sent : ControlSent) (open_ : Bool) (calls : List CallRecord) (s : StreamTable) (un : Untouched (is_local t.side) d s) where
   -- the tables after each part of the scan
-  abbrev begun : StreamTable
+  abbrev pub begun : StreamTable
   begun = without_stops s
 
   -- behind the unidirectional streams
-  abbrev unis : StreamTable
+  abbrev pub unis : StreamTable
   unis = scan_unis t d begun
 
   -- behind the bidirectional ones
-  abbrev bis : StreamTable
+  abbrev pub bis : StreamTable
   bis = scan_bis t d unis
 
   -- what is kept, by the table
-  abbrev kept : StreamTable → DriverState
+  abbrev pub kept : StreamTable → DriverState
   kept table = state_by t d sent open_ table
 
-  untouched-begun : Untouched (is_local t.side) d begun
+  pub untouched-begun : Untouched (is_local t.side) d begun
   untouched-begun = record { released = un.released; delivered = un.delivered }
 
-  untouched-unis : Untouched (is_local t.side) d unis
+  pub untouched-unis : Untouched (is_local t.side) d unis
   untouched-unis = untouched-later (is_local t.side) d begun unis (scan-later t.ready d (uni_rule t) (uni_ids t) (record { occupied = 0; table = begun })) untouched-begun
 
-  after-unis : scan_uni_slots t (kept begun) ≡ kept unis
+  pub after-unis : scan_uni_slots t (kept begun) ≡ kept unis
   after-unis =
       let gone = scan-slots t.ready d (uni_rule t) (is_local t.side) (uni_ids t) (record { occupied = 0; table = begun }) (apart-ids t).unis (apart-ids t).uni_peers untouched-begun in
       let others : slots d unis (bi_ids t) ≡ slots d begun (bi_ids t) =
       slots-same d begun unis (bi_ids t) (λ j e. scan-same t.ready d (uni_rule t) j (uni_ids t) (record { occupied = 0; table = begun }) ((apart-ids t).uni_misses j e)) in
       ap (with_scanned_unis (kept begun)) gone ∙ ap (λ (ls : List Slot). record (kept unis) { bis = ls }) (sym others)
 
-  after-bis : scan_bi_slots t (kept unis) ≡ kept bis
+  pub after-bis : scan_bi_slots t (kept unis) ≡ kept bis
   after-bis =
       let gone = scan-slots t.ready d (bi_rule t) (is_local t.side) (bi_ids t) (record { occupied = 0; table = unis }) (apart-ids t).bis (apart-ids t).bi_peers untouched-unis in
       let others : slots d bis (uni_ids t) ≡ slots d unis (uni_ids t) =
@@ -82,10 +82,10 @@ module _ (t : TransportView) (d : CallView) (sent : ControlSent) (open_ : Bool) 
       ap (with_scanned_bis (kept unis)) gone ∙ ap (λ (ls : List Slot). record (kept bis) { unis = ls }) (sym others)
 
   module _ (stage : ℕ → Stage) (f : TableFits t.side calls s stage) where
-    unis-fit : TableFits t.side calls unis (uni_stages t (kept begun) stage)
+    pub unis-fit : TableFits t.side calls unis (uni_stages t (kept begun) stage)
     unis-fit = scan-fits t.side calls t.ready Uni t d (is_local t.side) (uni_ids t) (record { occupied = 0; table = begun }) stage (apart-ids t).unis (apart-ids t).uni_peers (unis-of t.side 0 t.unis) untouched-begun f
 
-    bis-fit : TableFits t.side calls bis (bi_stages t (kept unis) (uni_stages t (kept begun) stage))
+    pub bis-fit : TableFits t.side calls bis (bi_stages t (kept unis) (uni_stages t (kept begun) stage))
     bis-fit = scan-fits t.side calls t.ready Bi t d (is_local t.side) (bi_ids t) (record { occupied = 0; table = unis }) (uni_stages t (kept begun) stage) (apart-ids t).bis (apart-ids t).bi_peers (bis-of t.side 0 t.bis) untouched-unis unis-fit
 
     pub scanned-fits : IsOwn t.side bis.classified → IsOnce bis.classified → ((k : ℕ) → (use_of k calls).session ≡ d.session)
@@ -101,7 +101,7 @@ module _ (t : TransportView) (d : CallView) (sent : ControlSent) (open_ : Bool) 
 -- ---- each entry
 
 -- an entry leaves what is known of the calls to a stream, and its stages fit the table before its scan
-entry-fits : (side : Side) (log : Log) (stage : ℕ → Stage) (m : Entry) → IsOwn side (stream_table side log).classified → MayUseBy side log m → ResponseReadBy side m stage → StagesFit side log stage
+pub entry-fits : (side : Side) (log : Log) (stage : ℕ → Stage) (m : Entry) → IsOwn side (stream_table side log).classified → MayUseBy side log m → ResponseReadBy side m stage → StagesFit side log stage
     → TableFits side (calls_of (m ∷ log)) (stream_table side log) (entry_stages m stage)
 entry-fits side log stage (Called r) own may read f = called-fits side log stage r own may read f
 entry-fits side log stage _ own may read f = f
@@ -120,7 +120,7 @@ scanned-where true side log m stage un own once placed f =
     scanned-fits (transport_view side (m ∷ log)) (call_view (m ∷ log)) (control_sent side (m ∷ log)) (is_open (m ∷ log)) (calls_of (m ∷ log)) (stream_table side log) un stage f own once (λ k. use-session k (calls_of (m ∷ log))) placed
 
 -- the state as the scan begins, by the entry before it
-same-stages : (side : Side) (log : Log) (m : Entry) (stage : ℕ → Stage) → MayFollow side log m → Sound side log
+pub same-stages : (side : Side) (log : Log) (m : Entry) (stage : ℕ → Stage) → MayFollow side log m → Sound side log
     → apply_if (is_moment m && is_open (m ∷ log)) (scanned_stages (transport_view side (m ∷ log)) (before_scan side log m)) stage
     ≡ apply_if (scans m (after_entry (transport_view side log) m (state_of side log))) (scanned_stages (transport_view side (m ∷ log)) (after_entry (transport_view side log) m (state_of side log))) stage
 unfolding state_of

@@ -11,11 +11,11 @@ use Rattle.wt_inbox.specs.Stage.{Anywhere, ControlBody, SessionBody, Stage, awai
 use Rattle.wt_proto.specs.SessionWalk.{is_over, session_walk_of}
 use Rattle.wt_proto.specs.declared.verdict.Verdict.{Verdict}
 use Rattle.wt_seam_spec.specs.Streams.{local_bi, peer_bi, peer_uni}
-use Rattle.wt_spec.specs.Driver.{apply_if, stream_table}
+use Rattle.wt_spec.specs.Driver.{apply_if, established, stream_table}
 use Rattle.wt_spec.specs.Halves.{is_accepted}
 use Rattle.wt_spec.specs.Scan.{bi_rule, check_datagram, check_session, critical_if, uni_rule, unless_ended}
 use Rattle.wt_spec.specs.StreamTable.{Classified, Ending, Progress, StreamTable, TransportView, is_webtransport}
-use Rattle.wt_turn.specs.Log.{BytesRead, CallRecord, Called, Entry, HandshakeOver, Log, SessionEstablished, StreamAccepted, StreamGivenUp, StreamPassed, calls_of}
+use Rattle.wt_turn.specs.Log.{BytesRead, CallRecord, Called, ConnectStarted, Entry, HandshakeOver, Log, SessionEstablished, StreamAccepted, StreamGivenUp, StreamPassed, calls_of}
 use Rattle.wt_wire.specs.declared.side.Side.{Side}
 use Rattle.wt_wire.specs.declared.side.Side.TheVariants.{Client, Server}
 use Rattle.wt_proto.specs.declared.verdict.Verdict.TheVariants as verdicts
@@ -170,13 +170,15 @@ abbrev pub session_at : Side → StreamRole → Option Classified → ℕ → Op
 session_at Client role o at = response_at role at
 session_at Server role o at = queued_at o
 
--- the application's calls are on streams that it may have, a passed one isn't given, and the session is on its stream
+-- the application's calls are on streams that it may have, a passed one isn't given, the session is on its stream,
+-- and a client connects first
 abbrev pub MayUse : Side → Log → CallRecord → Type 0
 MayUse side log (StreamAccepted id) = (may_give (role_of side id) (classified_of id (stream_table side log).classified) ≡ true) × (list_any (passes id) (calls_of log) ≡ false)
 MayUse side log (StreamPassed id) = (is_for_application (role_of side id) (classified_of id (stream_table side log).classified) ≡ true) × (is_accepted log id ≡ false)
 MayUse side log (BytesRead id count) = is_for_application (role_of side id) (classified_of id (stream_table side log).classified) ≡ true
 MayUse side log (StreamGivenUp id) = is_for_application (role_of side id) (classified_of id (stream_table side log).classified) ≡ true
 MayUse side log (SessionEstablished id at) = session_at side (role_of side id) (classified_of id (stream_table side log).classified) at ≡ Some at
+MayUse side log (ConnectStarted reserved head) = (established (calls_of log) ≡ None) × ((use_of 0 (calls_of log)).is_over ≡ false)
 MayUse side log _ = Unit {0}
 
 -- an entry may follow
