@@ -8,3 +8,4 @@ pub mod StageScans
 pub mod StageTables
 pub mod StageAnswers
 pub mod StageAsks
+pub mod StageUses

@@ -7,7 +7,7 @@ use Rattle.wt_driver.proofs.StageScans.{AreOf, none-found, verdict-found}
 use Rattle.std.proofs.lemmas.Bool.Decides.{nat_tests}
 use Rattle.wt_driver.proofs.StageTables.{entry-found, is-own, use-session}
 use Rattle.wt_driver.specs.Scanning.{AllAwait}
-use Rattle.wt_driver.specs.Stages.{ClassifiedSays, FirstSays, OfLocalBi, OfLocalUni, StageSays, StagesFit, StreamRole, TableFits, Uses, classified_of, may_give, passes, peer_role, role_by, role_of, use_of}
+use Rattle.wt_driver.specs.Stages.{ClassifiedSays, FirstSays, OfLocalBi, OfLocalUni, StageSays, StagesFit, StreamRole, TableFits, Uses, classified_of, is_sessions, may_give, passes, peer_role, role_by, role_of, use_of}
 use Rattle.wt_driver.specs.declared.slot.Half.{Half}
 use Rattle.wt_driver.specs.declared.slot.Half.TheVariants.{Bi, Uni}
 use Rattle.wt_driver_spec.proofs.Following.{sound}
@@ -69,11 +69,6 @@ use-kept k (StreamPassed id ∷ calls) e f = let parts = or_parts (id == k) (lis
 use-kept k (_ ∷ calls) e f = use-kept k calls e f
 
 -- ---- streams that the application was given
-
--- it is classified as a session's
-abbrev pub is_sessions : Option Classified → Bool
-is_sessions None = false
-is_sessions (Some c) = is_webtransport c.verdict
 
 -- it is this end's own, or classified as a session's, and wasn't passed
 pub record IsGiven (side : Side) (log : Log) (k : ℕ) : Type 0 where
@@ -147,7 +142,7 @@ local-bi false false false true e f = refl
 local-bi false false false false e f = absurd (f refl)
 
 -- this end's stream on which both ends send, where it isn't a client's request
-local-bi-role : (side : Side) (k : ℕ) → may_give (role_of side k) None ≡ true → (k % 4 == local_uni side) ≡ false → role_of side k ≡ OfLocalBi
+pub local-bi-role : (side : Side) (k : ℕ) → may_give (role_of side k) None ≡ true → (k % 4 == local_uni side) ≡ false → role_of side k ≡ OfLocalBi
 local-bi-role Client k e other =
     let kinds = local-kind (k % 4 == 3) (k % 4 == 1) _ _ e in
     local-bi (k % 4 == 3) (k % 4 == 1) (k == 0) (k % 4 == 0) e (λ f. four (k % 4) (omega arith) kinds.0 kinds.1 f other)
@@ -201,7 +196,7 @@ read-staged side log stage k fits uses f half =
 -- a client that connects can read the response
 connecting : (log : Log) (reserved : Option (List ℕ)) (head : List ℕ) → Uses Client log → handshake_state (calls_of log) ≡ Connecting reserved head → (established (calls_of log) ≡ None) × ((use_of 0 (calls_of log)).is_over ≡ false)
 connecting [] reserved head uses e = absurd cc
-connecting (Called (ConnectStarted r h) ∷ log) reserved head uses e = uses.0
+connecting (Called (ConnectStarted r h) ∷ log) reserved head uses e = (uses.0.1, uses.0.2)
 connecting (Called (RequestDelivered id) ∷ log) reserved head uses e = absurd cc
 connecting (Called (ResponseStarted accepts h) ∷ log) reserved head uses e = absurd cc
 connecting (Called (SessionEstablished id at) ∷ log) reserved head uses e = absurd cc

@@ -3,7 +3,7 @@ use Rattle.std.proofs.Common.{arith, ◌%◌, ◌≡◌, ℕ, ◌+◌, Bool, tru
 use Rattle.std.specs.Prelude.{Option, Some, None, ◌==◌, ◌||◌, if◌then◌else◌}
 use Rattle.std.proofs.lemmas.Bool.{eq-eqb, eqb-true}
 use Rattle.wt_driver_spec.proofs.ClassifiedOnce.{turned-round}
-use Rattle.wt_driver.specs.Stages.{BodySays, CallUse, ClassifiedSays, ForRequest, MayUse, ResponseRead, OfLocalBi, ResponseSays, StageFits, StreamRole, StageSays, StagesFit, TableFits, called_stages, classified_of, is_for_application, read_on, response_at, role_by, role_of, session_at, use_of}
+use Rattle.wt_driver.specs.Stages.{BodySays, CallUse, ClassifiedSays, ForRequest, MayUse, ResponseRead, OfLocalBi, ResponseSays, StageFits, StreamRole, StageSays, StagesFit, TableFits, called_stages, classified_of, is_for_application, is_sessions, read_on, response_at, role_by, role_of, session_at, use_of}
 use Rattle.wt_inbox.specs.Stage.{Anywhere, Stage, body_offset, session_offset, stage_from, with_stage}
 use Rattle.wt_proto.specs.declared.verdict.Verdict.{Verdict}
 use Rattle.wt_proto.specs.declared.verdict.Verdict.TheVariants as verdicts
@@ -165,12 +165,16 @@ established-fits Client calls table stage id at own may read f =
     client-established calls table stage id at zero-id (λ k e. f k) read (ap (λ i. classified_of i table.classified) zero-id ∙ own)
 established-fits Server calls table stage id at own may read f = server-established calls table stage id at f
 
+pub named-for : (role : StreamRole) (o : Option Classified) → is_sessions o ≡ true → is_for_application role o ≡ true
+named-for role None e = absurd cc
+named-for role (Some c) e = e
+
 -- each call leaves each stream at a stage that fits
 pub called-fits : (side : Side) (log : Log) (stage : ℕ → Stage) (r : CallRecord) → IsOwn side (stream_table side log).classified → MayUse side log r → ResponseRead side r stage → StagesFit side log stage
     → TableFits side (r ∷ calls_of log) (stream_table side log) (called_stages r stage)
-called-fits side log stage (BytesRead id count) own may read f = read-fits side log (stream_table side log) stage id count may f
+called-fits side log stage (BytesRead id count) own may read f = read-fits side log (stream_table side log) stage id count may.0 f
 called-fits side log stage (StreamGivenUp id) own may read f = drop-fits side log (stream_table side log) stage id (StreamGivenUp id) may (λ k. refl) f
-called-fits side log stage (StreamPassed id) own may read f = drop-fits side log (stream_table side log) stage id (StreamPassed id) may.0 (λ k. refl) f
-called-fits side log stage (SessionEstablished id at) own may read f = established-fits side (calls_of log) (stream_table side log) stage id at own may read f
+called-fits side log stage (StreamPassed id) own may read f = drop-fits side log (stream_table side log) stage id (StreamPassed id) (named-for (role_of side id) (classified_of id (stream_table side log).classified) may.0) (λ k. refl) f
+called-fits side log stage (SessionEstablished id at) own may read f = established-fits side (calls_of log) (stream_table side log) stage id at own may.0 read f
 called-fits side log stage HandshakeOver own may read f = λ k. over-says (role_of side k) (use_of k (calls_of log)) (stream_table side log).progress.ending (classified_of k (stream_table side log).classified) (stage k) (f k)
 called-fits side log stage _ own may read f = f

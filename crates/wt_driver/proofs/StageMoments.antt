@@ -5,7 +5,7 @@ use Rattle.wt_driver.proofs.StageChecks.{checks-fit}
 use Rattle.wt_driver.proofs.StageEntries.{IsOwn, called-fits, client-established, client-over}
 use Rattle.wt_driver.proofs.StageScans.{AreOf, scan-fits}
 use Rattle.wt_driver.proofs.StageTables.{is-own, session-is, use-session}
-use Rattle.wt_driver.specs.Stages.{ForRequest, MayUseBy, OfLocalBi, OfLocalUni, OfPeerBi, OfPeerUni, StageSays, StreamRole, no_use, ResponseReadBy, StagesFit, StagesFitBut, TableFits, Uses, bi_stages, check_stages, entry_stages, moment_stages, role_of, scanned_stages, session_at, uni_stages, classified_of, use_of}
+use Rattle.wt_driver.specs.Stages.{ForRequest, MayUseBy, OfLocalBi, OfLocalUni, OfPeerBi, OfPeerUni, RequestOpened, StageSays, StreamRole, no_use, ResponseReadBy, StagesFit, StagesFitBut, TableFits, Uses, bi_stages, check_stages, entry_stages, moment_stages, role_of, scanned_stages, session_at, uni_stages, classified_of, use_of}
 use Rattle.wt_driver.specs.declared.slot.Half.TheVariants.{Bi, Uni}
 use Rattle.wt_driver_spec.proofs.Following.{Sound, before_scan, open-more, sound, taken-in, untouched-entry}
 use Rattle.wt_driver_spec.proofs.ScanSlots.{Untouched, scan-later, scan-same, scan-slots, slots-same, untouched-later}
@@ -217,11 +217,11 @@ actions-but side [] log stage id f = f
 actions-but side (a ∷ later) log stage id f = actions-but side later (Sent a ∷ log) stage id (out-but side log a stage id f)
 
 -- its session is established: the stream is read behind the response
-pub established-staged : (log : Log) (stage : ℕ → Stage) (at : ℕ) → Fits Client log → Uses Client log → StagesFitBut 0 Client log stage → session_offset (stage 0) ≡ Some at
+pub established-staged : (log : Log) (stage : ℕ → Stage) (at : ℕ) → Fits Client log → Uses Client log → RequestOpened Client log → StagesFitBut 0 Client log stage → session_offset (stage 0) ≡ Some at
     → StagesFit Client (log_and_flush Client log (Called (SessionEstablished 0 at))) (moment_stages (transport_view Client log) (transport_view Client (Called (SessionEstablished 0 at) ∷ log)) (Called (SessionEstablished 0 at)) (state_of Client log) stage)
-established-staged log stage at fits uses f read =
+established-staged log stage at fits uses opened f read =
     flush-staged Client log (Called (SessionEstablished 0 at)) _
-    (scan-staged Client log (Called (SessionEstablished 0 at)) stage tt refl fits uses (client-established (calls_of log) (stream_table Client log) stage 0 at refl f read (is-own Client log fits)))
+    (scan-staged Client log (Called (SessionEstablished 0 at)) stage tt (refl, opened) fits uses (client-established (calls_of log) (stream_table Client log) stage 0 at refl f read (is-own Client log fits)))
 
 -- its handshake failed: nothing is asked of the stream any more
 pub over-staged : (log : Log) (stage : ℕ → Stage) → Fits Client log → Uses Client log → StagesFitBut 0 Client log stage → established (calls_of log) ≡ None

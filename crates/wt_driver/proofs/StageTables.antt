@@ -72,7 +72,7 @@ session-is side [] s uses e = absurd cc
 session-is side (Called (SessionEstablished id at) ∷ log) s uses e =
     let same : (id, at) ≡ s = cc in
     subst (λ (x : ℕ × ℕ). session_at side (role_of side x.0) (classified_of x.0 (stream_table side (Called (SessionEstablished id at) ∷ log)).classified) x.1 ≡ Some x.1) same
-    (session-stays side log (Called (SessionEstablished id at)) id at uses.0)
+    (session-stays side log (Called (SessionEstablished id at)) id at uses.0.0)
 session-is side (Called r ∷ log) s uses e = session-stays side log (Called r) s.0 s.1 (session-is side log s uses.1 e)
 session-is side (m ∷ log) s uses e = session-stays side log m s.0 s.1 (session-is side log s uses.1 e)
 
