@@ -9,3 +9,4 @@ pub mod StageTables
 pub mod StageAnswers
 pub mod StageAsks
 pub mod StageUses
+pub mod StageTurns

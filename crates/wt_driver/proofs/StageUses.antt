@@ -31,7 +31,7 @@ use Rattle.wt_wire.specs.declared.side.Side.TheVariants.{Client, Server}
 pub table-with : (side : Side) (acts : List Action) (log : Log) → stream_table side (with_actions acts log) ≡ stream_table side log
 unfolding stream_table
 table-with side [] log = refl
-table-with side (a ∷ later) log = table-with side later (Sent a ∷ log) 
+table-with side (a ∷ later) log = table-with side later (Sent a ∷ log)
 
 pub calls-with : (acts : List Action) (log : Log) → calls_of (with_actions acts log) ≡ calls_of log
 calls-with [] log = refl
