@@ -1,4 +1,8 @@
 pub mod Restaged
+pub mod ScanSteps
+pub mod Visits
+pub mod Removing
+pub mod Moved
 pub mod BiChannelLaws
 pub mod SharedResultLaws
 pub mod StageChecks

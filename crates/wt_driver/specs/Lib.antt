@@ -7,3 +7,6 @@ pub mod Rules
 pub mod Records
 pub mod Scanning
 pub mod Stages
+pub mod Moving
+pub mod DriverValue
+pub mod Results

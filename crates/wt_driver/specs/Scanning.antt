@@ -9,7 +9,7 @@ use Rattle.wt_inbox.specs.Stage.{Anywhere, BiHeader, Refines, Stage, UniHeader, 
 use Rattle.wt_inbox.specs.State.{InboxState}
 use Rattle.wt_proto.specs.Uni.{is_final}
 use Rattle.wt_proto.specs.declared.verdict.Verdict.{Verdict}
-use Rattle.wt_spec.specs.Scan.{SlotRule, bi_rule, has, uni_rule}
+use Rattle.wt_spec.specs.Scan.{SlotRule, bi_rule, uni_rule}
 use Rattle.wt_spec.specs.StreamTable.{Dispatched, Ending, Progress, TransportView}
 use Rattle.wt_turn.specs.Log.{Log}
 use Rattle.wt_turn.specs.declared.action.Action.{Action}
@@ -68,10 +68,10 @@ abbrev pub known_by : Dispatched → Progress → Known
 known_by d p = record { dispatched = d; progress = p }
 
 -- A visit of stream `id` leaves it at this stage, and this of its slot.
-pub record Leaves (side : Side) (log : Log) (stage : ℕ → Stage) (untaken : List Action) (id : ℕ) (to : Stage) (visited : Visited) (n : ℕ)
+pub record Leaves (side : Side) (log : Log) (stage : ℕ → Stage) (untaken : List Action) (id : ℕ) (to : Stage) (visit : Visited) (n : ℕ)
     (left : Option Slot) (x : InboxState) (known : Known) : Type 0 where
   pub inbox : Refines side x log (with_stage stage id to) untaken
-  pub visited : visited ≡ visited_as left n known
+  pub visited : visit ≡ visited_as left n known
 
 -- ---- all slots of a kind
 
@@ -84,16 +84,6 @@ AwaitsAt half place stage = awaits half stage ≡ true
 abbrev pub AllAwait : Half → (ℕ → Stage) → List Slot → Type 0
 AllAwait half stage [] = Unit {0}
 AllAwait half stage (slot ∷ slots) = AwaitsAt half slot.place (stage slot.id) × AllAwait half stage slots
-
--- the streams of these slots
-abbrev pub slot_ids : List Slot → List ℕ
-slot_ids [] = []
-slot_ids (slot ∷ slots) = slot.id ∷ slot_ids slots
-
--- no stream has two slots
-abbrev pub AreDistinct : List Slot → Type 0
-AreDistinct [] = Unit {0}
-AreDistinct (slot ∷ slots) = (has slot.id (slot_ids slots) ≡ false) × AreDistinct slots
 
 -- the stages once the scan behind the ending is left out
 abbrev pub unless_ended_stages : Option Ending → (Known → ℕ → Stage) → (ℕ → Stage) → Known → ℕ → Stage

@@ -1,4 +1,7 @@
 //! The driver of one connection.
+ghost use Rattle.std.specs.Prelude.{◌≡◌, [], false, None, true};
+ghost use Rattle.wt_inbox.specs.State.{nothing_read, readers_now};
+ghost use Rattle.wt_driver.specs.DriverValue.{first_state};
 
 mod accepts;
 mod arrivals;
@@ -11,6 +14,7 @@ use crate::progress::Progress;
 use crate::slot::Slot;
 use std::alloc::Global;
 use std::collections::VecDeque;
+use std::marker::Model;
 use wt_inbox::Inbox;
 use wt_proto::settings::Settings;
 use wt_turn::piece::Piece;
@@ -41,9 +45,38 @@ pub struct Driver {
     has_given_settings: bool,
 }
 
+impl Model for Driver {
+    ghost use Rattle.wt_driver.specs.DriverValue.{DriverValue};
+
+    ghost Value = { DriverValue };
+
+    ghost view = { λ d. record {
+      inbox = d.inbox;
+      state = record {
+        unis = d.unis.items;
+        bis = d.bis.items;
+        dispatched = d.dispatched;
+        progress = d.progress;
+        control_sent = record { opened = d.control_opened; sent = d.control_sent };
+        datagrams = d.settled;
+        session = d.session;
+        is_open = d.inbox.transport.is_open;
+      };
+      queue = d.queue.items;
+      settings = d.settings;
+      has_given_settings = d.has_given_settings;
+    } };
+}
+
 impl Driver {
     /// The driver of a connection of which nothing was told yet.
-    pub fn init(alloc: Global, side: Side) -> Driver {
+    pub fn init(alloc: Global, side: Side) -> Driver
+        ensures inbox { result.inbox ≡ nothing_read side }
+        ensures state { result.state ≡ first_state true }
+        ensures queue { result.queue ≡ [] }
+        ensures settings { result.settings ≡ None }
+        ensures given { result.has_given_settings ≡ false }
+    {
         Driver {
             alloc,
             inbox: Inbox::new(alloc, side),
@@ -62,12 +95,16 @@ impl Driver {
     }
 
     /// The transport and its readers, to be asked.
-    pub fn inbox(&self) -> &Inbox {
+    pub fn inbox(&self) -> &Inbox
+        ensures { result.now ≡ self.now.inbox }
+    {
         &self.inbox
     }
 
     /// How many readers are kept.
-    pub fn readers(&self) -> usize {
+    pub fn readers(&self) -> usize
+        ensures { result ≡ readers_now self.now.inbox }
+    {
         self.inbox.readers()
     }
 }

@@ -1,12 +1,14 @@
 //! The scan of the slots of a kind.
-ghost use Rattle.std.specs.Prelude.{◌≡◌, ◌&&◌, ◌||◌, ◌==◌, ◌<◌, ◌≤◌, List, ℕ, true, false, IfOk, OnOk, nat_lt};
-ghost use Rattle.wt_driver.specs.Places.{place_of};
-ghost use Rattle.wt_driver.specs.Rules.{consequence_of, slots_of};
-ghost use Rattle.wt_driver.specs.Scanning.{AllAwait, AreDistinct, AwaitsAt, Leaves, Scans, awaits, classified_stage, header_stage, is_given_up, known_by, dequeue_stage, rule_of, unless_given_up, visit_stage};
-ghost use Rattle.wt_driver_spec.specs.Bounds.{IsBounded};
-ghost use Rattle.wt_driver_spec.specs.Step.{classify_as, classify_slot, visit_slot};
+ghost use Rattle.std.specs.Prelude.{◌≡◌, ◌<◌, ◌&&◌, ◌||◌, [], length, ◌∷◌, if◌then◌else◌, List, ℕ, true, IfOk, OnOk, nat_lt};
+ghost use Rattle.std.specs.List.{remove};
+ghost use Rattle.wt_driver.specs.Rules.{slots_of};
+ghost use Rattle.wt_driver.specs.Scanning.{AllAwait, AwaitsAt, Leaves, Scans, awaits, dequeue_stage, header_stage, is_given_up, known_by, look_stage, rule_of, unless_given_up, visit_stage};
+ghost use Rattle.wt_driver_spec.specs.Bounds.{AreDistinct, IsBounded};
+ghost use Rattle.wt_driver_spec.specs.DriverState.{Held};
+ghost use Rattle.wt_driver_spec.specs.Step.{Known, classify_slot, visit_slot, visited_as};
 ghost use Rattle.wt_inbox.specs.Stage.{Refines, Stage, stage_from, verdict_offset, with_stage};
 ghost use Rattle.wt_proto.specs.Uni.{is_final};
+ghost use Rattle.wt_spec.specs.Scan.{occupied};
 ghost use Rattle.wt_spec.specs.Driver.{is_ready, transport_view};
 ghost use Rattle.wt_turn.specs.Log.{Log, is_open};
 ghost use Rattle.wt_turn.specs.declared.action.Action.{Action};
@@ -64,6 +66,24 @@ fn give_up_if(inbox: &mut Inbox, id: StreamId, test: bool)
     }
 }
 
+/// Whether nothing of a stream with this verdict is read any more, or not of a surplus one.
+fn gives_up(surplus: bool, verdict: &Verdict) -> bool
+    ensures { result ≡ (surplus || is_given_up verdict.now) }
+{
+    surplus || is_given_up(verdict)
+}
+
+/// The slot of a classified stream, unless it is released.
+fn held_unless(is_released: bool, id: StreamId) -> Option<Slot>
+    ensures { (n : ℕ) (known : Known) → record { slots = if is_released then [] else record { id = id; place = Held } ∷ []; occupied = occupied is_released n; known = known } ≡ visited_as result n known }
+{
+    if is_released {
+        None
+    } else {
+        Some(Slot::held(id))
+    }
+}
+
 /// Classifies a stream: what is left of its slot.
 fn classify(
     inbox: &mut Inbox,
@@ -74,15 +94,15 @@ fn classify(
 ) -> Result<Option<Slot>, OutOfMemory>
     ensures log { (side : Side) (log : Log) (stage : ℕ → Stage) (untaken : List Action) (n : ℕ) → Refines side inbox.old log stage untaken → awaits half (stage id) ≡ true
         → IfOk result (λ left. Leaves side log stage untaken id
-            (classified_stage (consequence_of half dispatched.old id ((rule_of half (transport_view side log)).verdict id)).surplus ((rule_of half (transport_view side log)).verdict id))
-            (classify_as (consequence_of half) id ((rule_of half (transport_view side log)).verdict id) n (known_by dispatched.old progress.old))
+            (look_stage true half ((rule_of half (transport_view side log)).consequence dispatched.old id ((rule_of half (transport_view side log)).verdict id)).surplus ((rule_of half (transport_view side log)).verdict id))
+            (classify_slot true (rule_of half (transport_view side log)) id n (known_by dispatched.old progress.old))
             n left inbox.new (known_by dispatched.new progress.new)) }
 {
     let verdict = release_header(inbox, half, id)?;
     let consequence = dispatched.consequence(half, id, &verdict);
     let surplus = consequence.surplus;
     let is_released = is_released_at_once(&verdict);
-    let gives_up = surplus || is_given_up(&verdict);
+    let gives_up = gives_up(surplus, &verdict);
     progress.note(consequence)?;
     dispatched.add(Classified {
         id,
@@ -90,11 +110,7 @@ fn classify(
         surplus,
     })?;
     give_up_if(inbox, id, gives_up);
-    if is_released {
-        Ok(None)
-    } else {
-        Ok(Some(Slot::held(id)))
-    }
+    Ok(held_unless(is_released, id))
 }
 
 /// A dequeued stream is classified as soon as its verdict is final: what is left of its slot.
@@ -111,11 +127,21 @@ fn look(
             (classify_slot (is_final ((rule_of half (transport_view side log)).verdict id)) (rule_of half (transport_view side log)) id n (known_by dispatched.old progress.old))
             n left inbox.new (known_by dispatched.new progress.new)) }
 {
-    if has_verdict(inbox, half, id)? {
+    let is_decided = has_verdict(inbox, half, id)?;
+    if is_decided {
         classify(inbox, half, id, dispatched, progress)
     } else {
         Ok(Some(Slot::dequeued(id)))
     }
+}
+
+/// Whether a stream may be dequeued behind so many occupied slots.
+fn may_dequeue(inbox: &Inbox, half: Half, occupied: usize) -> bool
+    ensures { (side : Side) (log : Log) (stage : ℕ → Stage) (untaken : List Action) → Refines side inbox.now log stage untaken → is_open log ≡ true → result ≡ (is_ready side log && nat_lt occupied (rule_of half (transport_view side log)).slots) }
+{
+    let is_ready = inbox.is_ready();
+    let is_free = occupied < slots_of(half);
+    is_ready && is_free
 }
 
 /// Visits a slot behind so many others: what is left of it.
@@ -138,12 +164,24 @@ fn visit(
         Place::Held => Ok(Some(Slot::held(id))),
         Place::Dequeued => look(inbox, half, id, dispatched, progress),
         Place::Arrived => {
-            if inbox.is_ready() && occupied < slots_of(half) {
+            let may_dequeue = may_dequeue(inbox, half, occupied);
+            if may_dequeue {
                 look(inbox, half, id, dispatched, progress)
             } else {
                 Ok(Some(Slot::arrived(id)))
             }
         }
+    }
+}
+
+/// Removes a slot.
+pub(crate) fn remove_at(slots: &mut VecDeque<Slot>, at: usize)
+    requires { at < length slots.old.items }
+    ensures { slots.new.items ≡ remove slots.old.items at }
+{
+    match slots.remove(at) {
+        Some(_released) => {}
+        None => unreachable!(),
     }
 }
 
@@ -168,9 +206,7 @@ pub fn scan(
                 slots[at] = slot;
                 at += 1;
             }
-            None => {
-                let _released = slots.remove(at);
-            }
+            None => remove_at(slots, at),
         }
     }
     Ok(())

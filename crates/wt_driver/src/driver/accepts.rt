@@ -1,6 +1,12 @@
 //! Calls that give the session's next stream or datagram, and pass those of others.
+ghost use Rattle.std.specs.Prelude.{◌≡◌, suc, OnOk};
+ghost use Rattle.wt_driver_spec.specs.Due.{due_stream, state_next_due};
+ghost use Rattle.wt_driver_spec.specs.Step.{release, without_slot};
+ghost use Rattle.wt_driver.specs.DriverValue.{IsAmong, with_state, without_first};
+ghost use Rattle.wt_driver.specs.Found.{due_as};
 
 use super::Driver;
+use crate::scan::remove_at;
 use crate::slot::{Slot, peer_bi, peer_uni};
 use std::collections::VecDeque;
 use wt_proto::datagram::H3Datagram;
@@ -10,15 +16,18 @@ use wt_turn::poll::Poll;
 use wt_wire::error::{ErrorCode, OutOfMemory};
 use wt_wire::ids::{SessionId, StreamId};
 
-/// Removes the slot of a stream.
-fn remove_slot(slots: &mut VecDeque<Slot>, id: StreamId) {
+/// Removes the slot of a stream, where it is among the first few.
+fn remove_slot(slots: &mut VecDeque<Slot>, most: usize, id: StreamId)
+    ensures { IsAmong most id slots.old.items → slots.new.items ≡ without_slot id slots.old.items }
+{
     let mut at = 0;
-    while at < slots.len() {
-        if slots[at].id() == id {
-            let _gone = slots.remove(at);
-        } else {
-            at += 1;
+    while at < most && at < slots.len() {
+        let slot = &slots[at];
+        if slot.id() == id {
+            remove_at(slots, at);
+            return;
         }
+        at += 1;
     }
 }
 
@@ -34,14 +43,18 @@ impl Driver {
     // ---- streams
 
     /// An accept gave the stream, or passed it.
-    pub(super) fn release(&mut self, id: StreamId) {
-        remove_slot(&mut self.unis, id);
-        remove_slot(&mut self.bis, id);
+    pub(super) fn release(&mut self, id: StreamId)
+        ensures { IsAmong 4 id self.old.state.unis → IsAmong 1 id self.old.state.bis → self.new ≡ with_state self.old (release id self.old.state) }
+    {
+        remove_slot(&mut self.unis, 4, id);
+        remove_slot(&mut self.bis, 1, id);
         self.dispatched.release(id);
     }
 
     /// Nothing of a stream is read any more.
-    pub(super) fn give_up(&mut self, id: StreamId) {
+    pub(super) fn give_up(&mut self, id: StreamId)
+        ensures { self.new.queue ≡ self.old.queue }
+    {
         if self.inbox.can_receive(id) {
             self.inbox.give_up(id);
         }
@@ -74,7 +87,9 @@ impl Driver {
         self.work()
     }
 
-    fn next_due(&self, kind: u64, session: SessionId) -> Option<(StreamId, bool)> {
+    fn next_due(&self, kind: u64, session: SessionId) -> Option<(StreamId, bool)>
+        ensures { due_as result ≡ due_stream session (state_next_due self.now.state kind session) }
+    {
         self.dispatched
             .next_due(self.inbox.is_open(), kind, session)
     }
@@ -87,7 +102,7 @@ impl Driver {
         session: SessionId,
         looks: u64,
     ) -> Result<Option<StreamId>, OutOfMemory> {
-        for _look in 0..looks {
+        for _look in 0..=looks {
             match self.next_due(kind, session) {
                 None => return Ok(None),
                 Some((id, is_own)) => {
@@ -116,7 +131,7 @@ impl Driver {
         session: SessionId,
     ) -> Result<Poll<Result<StreamId, DriverError>>, OutOfMemory> {
         let kind = peer_uni(self.inbox.side());
-        let looks = self.inbox.peer_unis() + 1;
+        let looks = self.inbox.peer_unis();
         match self.accept(kind, session, looks)? {
             Some(id) => Ok(Poll::Ready(Ok(id))),
             None => self.nothing_left(),
@@ -129,7 +144,7 @@ impl Driver {
         session: SessionId,
     ) -> Result<Poll<Result<StreamId, DriverError>>, OutOfMemory> {
         let kind = peer_bi(self.inbox.side());
-        let looks = self.inbox.peer_bis() + 1;
+        let looks = self.inbox.peer_bis();
         match self.accept(kind, session, looks)? {
             Some(id) => Ok(Poll::Ready(Ok(id))),
             None => self.nothing_left(),
@@ -152,15 +167,28 @@ impl Driver {
     }
 
     /// The datagram in front is received or passed.
-    pub(super) fn settle_datagram(&mut self) {
-        let _settled = self.queue.pop_front();
-        self.settled = self.settled.saturating_add(1);
+    pub(super) fn settle_datagram(&mut self) -> Result<(), OutOfMemory>
+        ensures { OnOk result (self.new ≡ record self.old { state = record self.old.state { datagrams = suc self.old.state.datagrams }; queue = without_first self.old.queue }) }
+    {
+        let _piece = self.take_front()?;
+        Ok(())
+    }
+
+    fn take_front(&mut self) -> Result<Option<Piece>, OutOfMemory>
+        ensures { OnOk result (self.new ≡ record self.old { state = record self.old.state { datagrams = suc self.old.state.datagrams }; queue = without_first self.old.queue }) }
+    {
+        match self.settled.checked_add(1) {
+            None => Err(OutOfMemory),
+            Some(settled) => {
+                self.settled = settled;
+                Ok(self.queue.pop_front())
+            }
+        }
     }
 
     /// The same, with the work of that moment; the datagram is given.
     fn take_datagram(&mut self) -> Result<Option<Piece>, OutOfMemory> {
-        let piece = self.queue.pop_front();
-        self.settled = self.settled.saturating_add(1);
+        let piece = self.take_front()?;
         self.work()?;
         Ok(piece)
     }
@@ -171,7 +199,7 @@ impl Driver {
         session: SessionId,
     ) -> Result<Poll<Result<Piece, DriverError>>, OutOfMemory> {
         let looks = self.queue.len();
-        for _look in 0..=looks {
+        for _look in 0..looks {
             match self.next_datagram(session) {
                 None => return self.nothing_left(),
                 Some(is_own) => {

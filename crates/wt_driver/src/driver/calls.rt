@@ -1,4 +1,8 @@
 //! The other calls: the handshake's, streams of this end, the end.
+ghost use Rattle.std.specs.Prelude.{◌≡◌, Some, IfOk};
+ghost use Rattle.wt_driver_spec.specs.Step.{deliver};
+ghost use Rattle.wt_driver.specs.DriverValue.{with_state};
+ghost use Rattle.wt_driver.specs.Results.{error_of, result_of};
 
 use super::Driver;
 use crate::ending::EndingKind;
@@ -21,19 +25,25 @@ impl Driver {
     // ---- how the connection ended
 
     /// Whether the connection is open.
-    pub fn is_open(&self) -> bool {
+    pub fn is_open(&self) -> bool
+        ensures { result ≡ self.now.state.is_open }
+    {
         self.inbox.is_open()
     }
 
     /// How the connection ended, by the driver's own ending where it has one; None while it is open.
-    pub fn result(&self) -> Result<Option<DriverError>, OutOfMemory> {
+    pub fn result(&self) -> Result<Option<DriverError>, OutOfMemory>
+        ensures { IfOk result (λ r. r ≡ result_of self.now.state.is_open self.now.state.progress.ending) }
+    {
         if self.inbox.is_open() {
             return Ok(None);
         }
         Ok(Some(self.error()?))
     }
 
-    fn error(&self) -> Result<DriverError, OutOfMemory> {
+    fn error(&self) -> Result<DriverError, OutOfMemory>
+        ensures { IfOk result (λ e. e ≡ error_of self.now.state.progress.ending) }
+    {
         let Some(ending) = self.progress.ending() else {
             return Ok(DriverError::NotConnected);
         };
@@ -60,17 +70,31 @@ impl Driver {
     // ---- what calls did
 
     /// Takes in what a call did.
-    fn note_call(&mut self, record: &Record) {
+    fn note_call(&mut self, record: &Record) -> Result<(), OutOfMemory> {
         match record {
-            Record::RequestDelivered(id) => self.dispatched.deliver(*id),
-            Record::SessionEstablished(id, at) => self.session = Some((*id, *at)),
+            Record::RequestDelivered(id) => self.deliver(*id),
+            Record::SessionEstablished(id, at) => self.establish(*id, *at),
             Record::StreamAccepted(id) => self.release(*id),
             Record::StreamPassed(id) => self.pass(*id),
-            Record::DatagramReceived | Record::DatagramPassed => self.settle_datagram(),
+            Record::DatagramReceived | Record::DatagramPassed => self.settle_datagram()?,
             Record::StreamGivenUp(id) => self.give_up(*id),
             Record::PrioritySet(id, priority) => self.set_priority(*id, *priority),
+            Record::ResetUnsent(id, code) => self.reset(*id, *code)?,
             _ => {}
         }
+        Ok(())
+    }
+
+    fn deliver(&mut self, id: StreamId)
+        ensures { self.new ≡ with_state self.old (deliver id self.old.state) }
+    {
+        self.dispatched.deliver(id);
+    }
+
+    fn establish(&mut self, id: StreamId, at: usize)
+        ensures { self.new ≡ with_state self.old (record self.old.state { session = Some (id, at) }) }
+    {
+        self.session = Some((id, at));
     }
 
     fn set_priority(&mut self, id: StreamId, priority: i32) {
@@ -79,20 +103,10 @@ impl Driver {
         }
     }
 
-    fn reset_unsent(&mut self, record: &Record) -> Result<(), OutOfMemory> {
-        match record {
-            Record::ResetUnsent(id, code) if self.inbox.can_send(*id) => {
-                self.inbox.reset(*id, *code)
-            }
-            _ => Ok(()),
-        }
-    }
-
     /// Takes in what a call did, and does the work of its moment. What the call sent of its own is put
     /// out before.
     pub fn called(&mut self, record: &Record) -> Result<(), OutOfMemory> {
-        self.note_call(record);
-        self.reset_unsent(record)?;
+        self.note_call(record)?;
         self.work()
     }
 
@@ -166,7 +180,9 @@ impl Driver {
     // ---- the handshake
 
     /// Whether the peer's SETTINGS came.
-    pub fn have_settings_come(&self) -> bool {
+    pub fn have_settings_come(&self) -> bool
+        ensures { result ≡ self.now.state.progress.settings }
+    {
         self.progress.settings()
     }
 

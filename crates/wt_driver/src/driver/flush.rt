@@ -71,8 +71,13 @@ impl Driver {
         let credit = self.inbox.control_credit();
         let rest = after(covered(head.as_slice(), credit), self.control_sent);
         let count = self.inbox.send(id, rest)?;
-        self.control_sent += count;
-        Ok(())
+        match self.control_sent.checked_add(count) {
+            None => Err(OutOfMemory),
+            Some(sent) => {
+                self.control_sent = sent;
+                Ok(())
+            }
+        }
     }
 
     /// This end's control stream opens as soon as it may, and sends as far as credit goes.

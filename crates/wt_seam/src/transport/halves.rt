@@ -148,7 +148,7 @@ impl Transport {
     }
 
     /// How many bytes are unread.
-    fn unread_count(&self, id: StreamId) -> usize
+    pub(super) fn unread_count(&self, id: StreamId) -> usize
         ensures { result ≡ length (unread_now self.now id) }
     {
         self.unread_now(id) as usize
@@ -166,7 +166,7 @@ impl Transport {
     }
 
     /// Fills the buffer with unread bytes, which stay unread.
-    fn copy_front(&self, id: StreamId, buffer: &mut [u8])
+    pub(super) fn copy_front(&self, id: StreamId, buffer: &mut [u8])
         requires { length buffer.old ≤ length (unread_now self.now id) }
         ensures { buffer.new ≡ take (length buffer.old) (unread_now self.now id) }
     {
