@@ -5,3 +5,12 @@ pub mod Removing
 pub mod Moved
 pub mod BiChannelLaws
 pub mod SharedResultLaws
+pub mod StageChecks
+pub mod StageEntries
+pub mod StageMoments
+pub mod StageScans
+pub mod StageTables
+pub mod StageAnswers
+pub mod StageAsks
+pub mod StageUses
+pub mod StageTurns

@@ -1,5 +1,5 @@
--- At which stage of its reading each stream is after a log: what the driver's use of a stream says of it.
-use Rattle.std.specs.Prelude.{[], ◌%◌, ◌&&◌, drop, ◌+◌, ◌==◌, ◌||◌, ◌∷◌, ◌≡◌, Bool, List, None, Option, Some, false, if◌then◌else◌, true, ℕ}
+-- At which stage of its reading each stream is after a log: what the driver does with a stream says of it.
+use Rattle.std.specs.Prelude.{[], ◌%◌, ◌&&◌, drop, is_some, length, ◌≤◌, ◌+◌, ◌==◌, ◌||◌, ◌∷◌, ◌≡◌, Bool, List, None, Option, Some, false, if◌then◌else◌, true, ℕ}
 use Rattle.std.specs.List.{list_any}
 use Rattle.wt_driver.specs.Scanning.{scan_stages}
 use Rattle.wt_driver.specs.declared.slot.Half.{Half}
@@ -10,12 +10,13 @@ use Rattle.wt_driver_spec.specs.Step.{after_entry, begin_scan, known_of, scan_bi
 use Rattle.wt_inbox.specs.Stage.{Anywhere, ControlBody, SessionBody, Stage, awaits_bi, awaits_response, awaits_uni, body_offset, control_offset, session_offset, stage_from, with_stage}
 use Rattle.wt_proto.specs.SessionWalk.{is_over, session_walk_of}
 use Rattle.wt_proto.specs.declared.verdict.Verdict.{Verdict}
-use Rattle.wt_seam_spec.specs.Streams.{local_bi, peer_bi, peer_uni}
+use Rattle.wt_seam_spec.specs.Streams.{local_bi, local_count, peer_bi, peer_uni}
 use Rattle.wt_spec.specs.Driver.{apply_if, established, stream_table}
-use Rattle.wt_spec.specs.Halves.{is_accepted, total_read}
+use Rattle.wt_spec.specs.Halves.{is_accepted, unread}
+use Rattle.wt_spec.specs.Handshake.{awaits_answer, handshake_state}
 use Rattle.wt_spec.specs.Scan.{bi_rule, check_datagram, check_session, critical_if, uni_rule, unless_ended}
 use Rattle.wt_spec.specs.StreamTable.{Classified, Ending, Progress, StreamTable, TransportView, is_webtransport}
-use Rattle.wt_turn.specs.Log.{BytesRead, CallRecord, Called, Entry, HandshakeOver, Log, SessionEstablished, StreamAccepted, StreamGivenUp, StreamPassed, calls_of}
+use Rattle.wt_turn.specs.Log.{BytesRead, CallRecord, Called, ConnectStarted, Entry, HandshakeOver, Log, OpeningStarted, RequestDelivered, ResponseStarted, SessionEstablished, StreamAccepted, StreamGivenUp, StreamPassed, actions_of, calls_of}
 use Rattle.wt_wire.specs.declared.side.Side.{Side}
 use Rattle.wt_wire.specs.declared.side.Side.TheVariants.{Client, Server}
 use Rattle.wt_proto.specs.declared.verdict.Verdict.TheVariants as verdicts
@@ -70,21 +71,10 @@ may_give role o = is_for_application role o
 
 -- ---- what the calls did to a stream
 
--- the call let the rest of the stream's bytes go
-abbrev pub drops : ℕ → CallRecord → Bool
-drops k (StreamPassed id) = id == k
-drops k (StreamGivenUp id) = id == k
-drops k _ = false
-
 -- the call passed the stream
 abbrev pub passes : ℕ → CallRecord → Bool
 passes k (StreamPassed id) = id == k
 passes k _ = false
-
--- the call ended the handshake without a session
-abbrev pub fails_handshake : CallRecord → Bool
-fails_handshake HandshakeOver = true
-fails_handshake _ = false
 
 -- what the calls did, as far as it matters for a stream
 pub record CallUse : Type 0 where
@@ -93,20 +83,29 @@ pub record CallUse : Type 0 where
   pub session : Option (ℕ × ℕ)  -- the session that is established
   pub is_over : Bool  -- the handshake failed
 
+-- before the first call
+abbrev pub no_use : CallUse
+no_use = record { read = 0; is_dropped = false; session = None; is_over = false }
+
+-- what the calls did to stream k, with one more
+abbrev pub use_after : ℕ → CallRecord → CallUse → CallUse
+use_after k (BytesRead id count) before = record before { read = if id == k then count + before.read else before.read }
+use_after k (StreamGivenUp id) before = record before { is_dropped = id == k || before.is_dropped }
+use_after k (StreamPassed id) before = record before { is_dropped = id == k || before.is_dropped }
+use_after k (SessionEstablished id at) before = record before { session = Some (id, at) }
+use_after k HandshakeOver before = record before { is_over = true }
+use_after k _ before = before
+
 -- what these calls did to stream k
 abbrev pub use_of : ℕ → List CallRecord → CallUse
-use_of k calls = record {
-  read = total_read k calls;
-  is_dropped = list_any (drops k) calls;
-  session = established calls;
-  is_over = list_any fails_handshake calls;
-}
+use_of k [] = no_use
+use_of k (r ∷ earlier) = use_after k r (use_of k earlier)
 
 -- ---- what is said of a stage
 
 -- the application's part of a stream begins at this offset, and is read as far as the calls read it
 abbrev pub BodySays : CallUse → ℕ → Stage → Type 0
-BodySays used at stage = used.is_dropped ≡ false → body_offset stage ≡ Some (at + used.read)
+BodySays done at stage = done.is_dropped ≡ false → body_offset stage ≡ Some (at + done.read)
 
 -- the response is to be read, then the session's part; nothing once the handshake failed
 abbrev pub ResponseSays : Option (ℕ × ℕ) → Bool → Option Ending → Stage → Type 0
@@ -116,23 +115,23 @@ ResponseSays None false ending stage = awaits_response stage ≡ true
 
 -- of a stream that isn't classified
 abbrev pub FirstSays : StreamRole → CallUse → Option Ending → Stage → Type 0
-FirstSays OfPeerUni used ending stage = (awaits_uni stage ≡ true) × (used.read ≡ 0)
-FirstSays OfPeerBi used ending stage = (awaits_bi stage ≡ true) × (used.read ≡ 0)
-FirstSays ForRequest used ending stage = ResponseSays used.session used.is_over ending stage
-FirstSays OfLocalBi used ending stage = BodySays used 0 stage
-FirstSays OfLocalUni used ending stage = Unit {0}
+FirstSays OfPeerUni done ending stage = (awaits_uni stage ≡ true) × (done.read ≡ 0)
+FirstSays OfPeerBi done ending stage = (awaits_bi stage ≡ true) × (done.read ≡ 0)
+FirstSays ForRequest done ending stage = ResponseSays done.session done.is_over ending stage
+FirstSays OfLocalBi done ending stage = BodySays done 0 stage
+FirstSays OfLocalUni done ending stage = Unit {0}
 
 -- of a stream that is classified with this verdict
 abbrev pub ClassifiedSays : Bool → Verdict → CallUse → Option Ending → Stage → Type 0
-ClassifiedSays surplus (verdicts.Control at) used ending stage = control_offset stage ≡ Some at
-ClassifiedSays surplus (verdicts.Request request at) used ending stage = surplus ≡ false → ending ≡ None → session_offset stage ≡ Some at
-ClassifiedSays surplus (verdicts.WebTransport session at) used ending stage = BodySays used at stage
-ClassifiedSays surplus _ used ending stage = Unit {0}
+ClassifiedSays surplus (verdicts.Control at) done ending stage = control_offset stage ≡ Some at
+ClassifiedSays surplus (verdicts.Request request at) done ending stage = surplus ≡ false → ending ≡ None → session_offset stage ≡ Some at
+ClassifiedSays surplus (verdicts.WebTransport session at) done ending stage = BodySays done at stage
+ClassifiedSays surplus _ done ending stage = Unit {0}
 
 -- of any stream
 abbrev pub StageSays : StreamRole → CallUse → Option Ending → Option Classified → Stage → Type 0
-StageSays role used ending None stage = FirstSays role used ending stage
-StageSays role used ending (Some c) stage = ClassifiedSays c.surplus c.verdict used ending stage
+StageSays role done ending None stage = FirstSays role done ending stage
+StageSays role done ending (Some c) stage = ClassifiedSays c.surplus c.verdict done ending stage
 
 -- stream k is at this stage, by the calls and the table
 abbrev pub StageFits : Side → List CallRecord → StreamTable → ℕ → Stage → Type 0
@@ -157,19 +156,43 @@ abbrev pub request_at : Bool → Verdict → Option ℕ
 request_at false (verdicts.Request request at) = Some at
 request_at surplus _ = None
 
--- where the session's part of a stream begins that may carry it: a client has that from the response
-abbrev pub session_at : StreamRole → Option Classified → ℕ → Option ℕ
-session_at role (Some c) at = request_at c.surplus c.verdict
-session_at ForRequest None at = Some at
-session_at _ None at = None
+-- where the session's part begins of a stream that carries it: a client has that from the response
+abbrev pub response_at : StreamRole → ℕ → Option ℕ
+response_at ForRequest at = Some at
+response_at _ at = None
 
--- the application's calls are on streams that it may have, a passed one isn't given, and the session is on its stream
+-- a server has it from the request that was queued
+abbrev pub queued_at : Option Classified → Option ℕ
+queued_at None = None
+queued_at (Some c) = request_at c.surplus c.verdict
+
+-- where the session's part of a stream begins, by the side
+abbrev pub session_at : Side → StreamRole → Option Classified → ℕ → Option ℕ
+session_at Client role o at = response_at role at
+session_at Server role o at = queued_at o
+
+-- it is classified as a session's
+abbrev pub is_sessions : Option Classified → Bool
+is_sessions None = false
+is_sessions (Some c) = is_webtransport c.verdict
+
+-- a client's stream for its request is open
+abbrev pub RequestOpened : Side → Log → Type 0
+RequestOpened Client log = (local_count (actions_of log) (local_bi Client) == 0) ≡ false
+RequestOpened Server log = Unit {0}
+
+-- a client connects first, and a server answers a request that was queued and delivered; the session is on the stream of
+-- the request; streams of sessions are given or passed, and what the application reads of its streams came
 abbrev pub MayUse : Side → Log → CallRecord → Type 0
+MayUse side log (ConnectStarted reserved head) = (side ≡ Client) × (established (calls_of log) ≡ None) × ((use_of 0 (calls_of log)).is_over ≡ false)
+MayUse side log (RequestDelivered id) = is_some (queued_at (classified_of id (stream_table side log).classified)) ≡ true
+MayUse side log (ResponseStarted accepts head) = (side ≡ Server) × (awaits_answer (handshake_state (calls_of log)) ≡ true)
+MayUse side log (SessionEstablished id at) = (session_at side (role_of side id) (classified_of id (stream_table side log).classified) at ≡ Some at) × RequestOpened side log
 MayUse side log (StreamAccepted id) = (may_give (role_of side id) (classified_of id (stream_table side log).classified) ≡ true) × (list_any (passes id) (calls_of log) ≡ false)
-MayUse side log (StreamPassed id) = (is_for_application (role_of side id) (classified_of id (stream_table side log).classified) ≡ true) × (is_accepted log id ≡ false)
-MayUse side log (BytesRead id count) = is_for_application (role_of side id) (classified_of id (stream_table side log).classified) ≡ true
+MayUse side log (StreamPassed id) = (is_sessions (classified_of id (stream_table side log).classified) ≡ true) × (is_accepted log id ≡ false)
+MayUse side log (OpeningStarted id session) = may_give (role_of side id) None ≡ true
+MayUse side log (BytesRead id count) = (is_for_application (role_of side id) (classified_of id (stream_table side log).classified) ≡ true) × (count ≤ length (unread side log id))
 MayUse side log (StreamGivenUp id) = is_for_application (role_of side id) (classified_of id (stream_table side log).classified) ≡ true
-MayUse side log (SessionEstablished id at) = session_at (role_of side id) (classified_of id (stream_table side log).classified) at ≡ Some at
 MayUse side log _ = Unit {0}
 
 -- an entry may follow
@@ -181,6 +204,16 @@ MayUseBy side log _ = Unit {0}
 abbrev pub Uses : Side → Log → Type 0
 Uses side [] = Unit {0}
 Uses side (e ∷ log) = MayUseBy side log e × Uses side log
+
+-- a client's response was read when its session is established
+abbrev pub ResponseRead : Side → CallRecord → (ℕ → Stage) → Type 0
+ResponseRead Client (SessionEstablished id at) stage = session_offset (stage id) ≡ Some at
+ResponseRead side _ stage = Unit {0}
+
+-- it was, where the entry is such a call
+abbrev pub ResponseReadBy : Side → Entry → (ℕ → Stage) → Type 0
+ResponseReadBy side (Called r) stage = ResponseRead side r stage
+ResponseReadBy side _ stage = Unit {0}
 
 -- ---- the stages after an entry and its moment
 

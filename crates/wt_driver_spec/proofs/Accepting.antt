@@ -3,7 +3,7 @@ use Rattle.std.proofs.Common.{◌≡◌, ℕ, zero, suc, Bool, true, false, List
 use Rattle.std.specs.Prelude.{Option, Some, None, ◌==◌, ◌*◌, not, if◌then◌else◌}
 use Rattle.std.proofs.lemmas.Bool.{and_parts, or_right}
 use Rattle.wt_driver_spec.proofs.ClassifiedOnce.{found-in, in-classified, only-in}
-use Rattle.wt_driver_spec.proofs.Following.{Sound, moment-fits, moment-followed, moment-out, out-followed, sound}
+use Rattle.wt_driver_spec.proofs.Following.{Sound, events-with, moment-fits, moment-followed, moment-out, out-followed, sound, view-with}
 use Rattle.wt_driver_spec.proofs.RestMoments.{moment-rests-open, quiet-call, quiet-call-rests, quiet-call-state}
 use Rattle.wt_driver_spec.specs.DriverState.{DriverState, state_of}
 use Rattle.wt_driver_spec.specs.Due.{CallFollowed, DriverRun, Due, DueRule, Outcome, accepted, due_datagram, due_stream, ending_error, give_or_pass_due, given_reply, log_datagrams, log_streams, outcome_effect, passing, received, reply_or, run_action, run_from, run_moment, state_accepted, state_datagrams, state_next_datagram, state_next_due, state_pending_or_failed, state_received, state_reply, state_streams, take_due, take_next}
@@ -79,14 +79,6 @@ newest-both (x ∷ xs) ys before = newest-both xs ys (x ∷ before)
 pub actions-newest : (acts : List Action) (log : Log) → actions_of (with_actions acts log) ≡ newest_first acts (actions_of log)
 actions-newest [] log = refl
 actions-newest (a ∷ later) log = actions-newest later (Sent a ∷ log)
-
-events-with : (acts : List Action) (log : Log) → events_of (with_actions acts log) ≡ events_of log
-events-with [] log = refl
-events-with (a ∷ later) log = events-with later (Sent a ∷ log)
-
-view-with : (side : Side) (acts : List Action) (log : Log) → transport_view side (with_actions acts log) ≡ transport_view side log
-view-with side [] log = refl
-view-with side (a ∷ later) log = view-with side later (Sent a ∷ log)
 
 -- what is kept, and what went out, since a log
 pub record Tracks (side : Side) (since log : Log) (x : DriverRun) : Type 0 where

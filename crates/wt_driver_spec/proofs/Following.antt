@@ -5,7 +5,7 @@ use Rattle.std.proofs.lemmas.Bool.{eqb-true, false_from_ne_true}
 use Rattle.std.specs.List.{list_any}
 use Rattle.wt_driver_spec.proofs.ClassifiedOnce.{moment-once}
 use Rattle.wt_driver_spec.proofs.MomentScan.{moment-later, moment-scanned}
-use Rattle.wt_driver_spec.proofs.ScanSlots.{ArePeers, Same, Untouched, is_queued, scan-same, untouched-later}
+use Rattle.wt_driver_spec.proofs.ScanSlots.{ArePeers, Same, Untouched, is_queued, only-both, scan-same, untouched-later}
 use Rattle.wt_driver_spec.proofs.StreamIds.{apart-ids, bi-low, fewer-miss, ids-more, kinds-differ, kinds-differ-so, kinds-miss, next-misses, uni-low}
 use Rattle.wt_driver_spec.specs.Claims.{IsOnce}
 use Rattle.wt_driver_spec.specs.DriverState.{DriverState, Held, Slot, slot_by, slot_of, slots, state_by, state_of}
@@ -74,7 +74,7 @@ untouched-called side log (StreamPassed id) may un = record { released = untouch
 untouched-called side log (RequestDelivered id) may un = record { released = un.released; delivered = untouched-delivering side log id may un }
 untouched-called side log _ may un = record { released = un.released; delivered = un.delivered }
 
-untouched-entry : (side : Side) (log : Log) (m : Entry) → MayFollow side log m → Untouched (is_local side) (call_view log) (stream_table side log) → Untouched (is_local side) (call_view (m ∷ log)) (stream_table side log)
+pub untouched-entry : (side : Side) (log : Log) (m : Entry) → MayFollow side log m → Untouched (is_local side) (call_view log) (stream_table side log) → Untouched (is_local side) (call_view (m ∷ log)) (stream_table side log)
 untouched-entry side log (Called d) may un = untouched-called side log d may un
 untouched-entry side log _ may un = record { released = un.released; delivered = un.delivered }
 
@@ -212,10 +212,6 @@ slots-releasing local id d s [] peers may = refl
 slots-releasing local id d s (k ∷ ks) peers may =
     (λ i. slot-releasing local id d s k peers.0 may i ++ slots-releasing local id d s ks peers.1 may i) ∙ sym (without-append id (slot_of d s k) (slots d s ks))
 
-pub only-both : (holds : Classified → Bool) (xs ys : List Classified) → only holds (xs ++ ys) ≡ only holds xs ++ only holds ys
-only-both holds [] ys = refl
-only-both holds (x ∷ xs) ys = rw (only-both holds xs ys) (sym (append_assoc (kept_if (holds x) x) (only holds xs) (only holds ys)))
-
 or-true : (b : Bool) → (b || true) ≡ true
 or-true true = refl
 or-true false = refl
@@ -319,7 +315,7 @@ sent-control side log a = λ i. record {
   sent = sent-more (local_uni side) a (sent_on (actions_of log) (local_uni side)) i;
 }
 
-abbrev before_scan : Side → Log → Entry → DriverState
+abbrev pub before_scan : Side → Log → Entry → DriverState
 before_scan side log m = state_by (transport_view side (m ∷ log)) (call_view (m ∷ log)) (control_sent side (m ∷ log)) (is_open (m ∷ log)) (stream_table side log)
 
 abbrev held : Side → Log → DriverState
@@ -336,7 +332,7 @@ called-in side log (StreamPassed id) may = state-releasing (transport_view side 
 called-in side log (RequestDelivered id) may = state-delivering (transport_view side log) (call_view log) (control_sent side log) (is_open log) (stream_table side log) id
 called-in side log _ may = refl
 
-taken-in : (side : Side) (log : Log) (m : Entry) → MayFollow side log m → Sound side log → before_scan side log m ≡ after_entry (transport_view side log) m (held side log)
+pub taken-in : (side : Side) (log : Log) (m : Entry) → MayFollow side log m → Sound side log → before_scan side log m ≡ after_entry (transport_view side log) m (held side log)
 taken-in side log (Reported e) may s = reported-in side log e s
 taken-in side log (Called d) may s = called-in side log d may
 taken-in side log (Sent a) may s = λ i. state_by (transport_view side log) (call_view log) (sent-control side log a i) (open-more (Sent a) log i) (stream_table side log)
@@ -365,6 +361,15 @@ out-followed side log a = λ i. state_by (transport_view side log) (call_view lo
 pub actions-followed : (side : Side) (acts : List Action) (log : Log) → state_of side (with_actions acts log) ≡ state_with_actions (transport_view side log) acts (state_of side log)
 actions-followed side [] log = refl
 actions-followed side (a ∷ later) log = actions-followed side later (Sent a ∷ log) ∙ ap (state_with_actions (transport_view side log) later) (out-followed side log a)
+
+-- actions leave what the transport told as it is
+pub view-with : (side : Side) (acts : List Action) (log : Log) → transport_view side (with_actions acts log) ≡ transport_view side log
+view-with side [] log = refl
+view-with side (a ∷ later) log = view-with side later (Sent a ∷ log)
+
+pub events-with : (acts : List Action) (log : Log) → events_of (with_actions acts log) ≡ events_of log
+events-with [] log = refl
+events-with (a ∷ later) log = events-with later (Sent a ∷ log)
 
 -- what the definition sends is what the driver sends
 pub scanned-out : (side : Side) (log : Log) → pending_actions side log ≡ step_actions (transport_view side log) (state_of side log)

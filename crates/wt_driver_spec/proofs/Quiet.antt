@@ -1,7 +1,7 @@
 -- A byte that classifies no stream, and with which no walk says anything new, changes nothing: so a whole piece may be taken at once.
 use Rattle.std.proofs.Common.{◌≡◌, ℕ, suc, Bool, true, false, List, [], ◌∷◌, refl, sym, ap, subst, ◌∙◌}
 use Rattle.std.specs.Prelude.{Option, Some, None, ◌==◌, ◌&&◌}
-use Rattle.wt_driver_spec.proofs.Following.{actions-followed, entry-followed, scanned-out, sound}
+use Rattle.wt_driver_spec.proofs.Following.{actions-followed, entry-followed, scanned-out, sound, view-with}
 use Rattle.wt_driver_spec.proofs.Resting.{rest-scanned, scanned-rest}
 use Rattle.wt_driver_spec.proofs.Sending.{pass-again, pass-silent, sends-are}
 use Rattle.wt_driver_spec.specs.DriverState.{Arrived, Dequeued, DriverState, Held, Slot, SlotPlace, state_of}
@@ -15,7 +15,7 @@ use Rattle.wt_seam_spec.specs.Streams.{contents}
 use Rattle.wt_spec.specs.Driver.{apply_if, flush, is_moment, log_and_flush, pending_actions, transport_view}
 use Rattle.wt_spec.specs.Scan.{SlotRule, check_datagram, check_qpack}
 use Rattle.wt_spec.specs.StreamTable.{Consequence, Dispatched, Progress, TransportView, bi_consequence, uni_consequence}
-use Rattle.wt_turn.specs.Log.{Entry, Log, Received, Sent, is_open, with_actions}
+use Rattle.wt_turn.specs.Log.{Entry, Log, Received, is_open, with_actions}
 use Rattle.wt_turn.specs.declared.action.Action.{Action}
 use Rattle.wt_wire.specs.declared.side.Side.{Side}
 use Rattle.wt_wire.specs.declared.side.StreamEnd.{StreamEnd}
@@ -118,10 +118,6 @@ quiet-moment side log id b fits runs r q =
       },
     )
 
-same-sight : (side : Side) (acts : List Action) (log : Log) → transport_view side (with_actions acts log) ≡ transport_view side log
-same-sight side [] log = refl
-same-sight side (a ∷ later) log = same-sight side later (Sent a ∷ log)
-
 -- Each moment that doesn't end the connection leaves all at rest.
 pub moment-rests : (side : Side) (log : Log) (m : Entry) → MayFollow side log m → Fits side log → (is_moment m && is_open (m ∷ log)) ≡ true
     → (state_of side (m ∷ log)).progress.ending ≡ None → AtRest side (log_and_flush side log m)
@@ -147,7 +143,7 @@ moment-rests side log m may fits scans none = by (is_moment m && is_open (m ∷ 
         ∙ ap (flush_state u) worked_so
 
     same : transport_view side (with_actions (pending_actions side (m ∷ log)) (m ∷ log)) ≡ u
-    same = same-sight side (pending_actions side (m ∷ log)) (m ∷ log)
+    same = view-with side (pending_actions side (m ∷ log)) (m ∷ log)
 
     by : (b : Bool) → b ≡ true → AtRest side (apply_if b (with_actions (pending_actions side (m ∷ log))) (m ∷ log))
     by true e = record {

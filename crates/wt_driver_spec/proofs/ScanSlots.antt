@@ -129,9 +129,12 @@ first-append step_actions (x ∷ xs) r =
     ap (or_later (paired x.id (step_actions x.verdict))) (first-append step_actions xs r)
     ∙ or-again (paired x.id (step_actions x.verdict)) (first_at step_actions xs) (paired r.id (step_actions r.verdict))
 
+pub only-both : (holds : Classified → Bool) (xs ys : List Classified) → only holds (xs ++ ys) ≡ only holds xs ++ only holds ys
+only-both holds [] ys = refl
+only-both holds (x ∷ xs) ys = rw (only-both holds xs ys) (sym (append_assoc (kept_if (holds x) x) (only holds xs) (only holds ys)))
+
 pub only-append : (holds : Classified → Bool) (rs : List Classified) (r : Classified) → only holds (rs ++ r ∷ []) ≡ only holds rs ++ kept_if (holds r) r
-only-append holds [] r = append-nil (kept_if (holds r) r)
-only-append holds (x ∷ xs) r = rw (only-append holds xs r) (sym (append_assoc (kept_if (holds x) x) (only holds xs) (kept_if (holds r) r)))
+only-append holds rs r = only-both holds rs (r ∷ []) ∙ ap (λ (cs : List Classified). only holds rs ++ cs) (append-nil (kept_if (holds r) r))
 
 -- a request that is queued
 abbrev pub is_queued : Classified → Bool
