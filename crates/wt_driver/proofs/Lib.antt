@@ -3,6 +3,7 @@ pub mod ScanSteps
 pub mod Visits
 pub mod Removing
 pub mod Moved
+pub mod Checks
 pub mod BiChannelLaws
 pub mod SharedResultLaws
 pub mod StageChecks
