@@ -8,9 +8,9 @@ use Rattle.wt_seam_spec.specs.Outgoing.{may_send, opened_id, sending}
 use Rattle.wt_seam_spec.specs.Reports.{stop_of}
 use Rattle.wt_seam_spec.specs.Sent.{is_finished, is_reset}
 use Rattle.wt_seam_spec.specs.Streams.{can_receive, can_send, local_bi, local_uni}
-use Rattle.wt_spec.specs.Driver.{ControlSent, actions_after, control_actions, control_sent, session_id, transport_view}
+use Rattle.wt_spec.specs.Driver.{ControlSent, actions_after, control_actions, control_sent, established, session_id, transport_view}
 use Rattle.wt_spec.specs.StreamTable.{ByFault, BySession, Ending, Progress, Stopped}
-use Rattle.wt_turn.specs.Log.{Log, Sent, actions_of, events_of, is_open, with_actions}
+use Rattle.wt_turn.specs.Log.{Log, Sent, actions_of, calls_of, events_of, is_open, with_actions}
 use Rattle.wt_turn.specs.declared.action.Action.{Action}
 use Rattle.wt_turn.specs.declared.action.Action.TheVariants as actions
 use Rattle.wt_wire.specs.Ids.{is_bidirectional}
@@ -59,6 +59,13 @@ pub record SendsControl (side : Side) (log : Log) (stage : ℕ → Stage) (untak
 pub record Flushes (side : Side) (log : Log) (stage : ℕ → Stage) (untaken : List Action) (acts : List Action) (x : InboxState) (own : ControlSent) : Type 0 where
   pub inbox : Refines side x (with_actions acts log) stage (newest_first acts untaken)
   pub control_is : own ≡ control_flushed (transport_view side log).may_open (transport_view side log).credit (control_sent side log)
+
+-- What lets a driver send, of a log: this end's control stream isn't finished or reset, and the session's stream has a
+-- sending half.
+pub record SendFacts (side : Side) (log : Log) : Type 0 where
+  pub unfinished : is_finished (actions_of log) (local_uni side) ≡ false
+  pub unreset : is_reset log (local_uni side) ≡ false
+  pub session : (s : ℕ × ℕ) → established (calls_of log) ≡ Some s → can_send side log s.0 ≡ true
 
 -- ---- for a call
 
