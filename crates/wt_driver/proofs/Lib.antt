@@ -4,6 +4,9 @@ pub mod Visits
 pub mod Removing
 pub mod Moved
 pub mod Checks
+pub mod Flushed
+pub mod FlushedWhole
+pub mod FlushFacts
 pub mod BiChannelLaws
 pub mod SharedResultLaws
 pub mod StageChecks

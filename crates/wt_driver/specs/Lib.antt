@@ -8,5 +8,6 @@ pub mod Records
 pub mod Scanning
 pub mod Stages
 pub mod Moving
+pub mod Flushing
 pub mod DriverValue
 pub mod Results

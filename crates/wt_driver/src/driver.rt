@@ -4,6 +4,7 @@ ghost use Rattle.wt_inbox.specs.State.{nothing_read, readers_now};
 ghost use Rattle.wt_driver.specs.DriverValue.{first_state};
 
 mod accepts;
+mod acting;
 mod arrivals;
 mod calls;
 mod flush;
