@@ -14,3 +14,4 @@ pub mod StageAnswers
 pub mod StageAsks
 pub mod StageUses
 pub mod StageTurns
+pub mod StageSteps
