@@ -15,3 +15,4 @@ pub mod StageAsks
 pub mod StageUses
 pub mod StageTurns
 pub mod StageSteps
+pub mod StageWork

@@ -10,3 +10,4 @@ pub mod Stages
 pub mod Moving
 pub mod DriverValue
 pub mod Results
+pub mod Tie
