@@ -99,8 +99,8 @@ module _ (side : Side) (log : Log) (untaken : List Action) where
       let two = then-stages d first second stage (after_datagram t d.state) (after_session t) (λ s. after_session_stages t s stage) one b in
       let three = then-state d second third (after_session_stages t (after_datagram t d.state) stage) (after_session t (after_datagram t d.state)) (after_local t) two c in
       let four = then-stages d third fourth (after_session_stages t (after_datagram t d.state) stage) (after_local t (after_session t (after_datagram t d.state))) (after_control t)
-          (λ s. after_control_stages t s (after_session_stages t (after_datagram t d.state) stage)) three
-          (subst (λ (x : DriverState). Moves side log untaken third fourth (after_control_stages t third.state (after_session_stages t x stage)) (after_control t third.state)) one.state_is e) in
+      (λ s. after_control_stages t s (after_session_stages t (after_datagram t d.state) stage)) three
+      (subst (λ (x : DriverState). Moves side log untaken third fourth (after_control_stages t third.state (after_session_stages t x stage)) (after_control t third.state)) one.state_is e) in
       let five = then-state d fourth fifth _ _ (after_encoder t) four f in
       then-state d fifth last _ _ (after_decoder t) five g
 
@@ -115,7 +115,7 @@ module _ (side : Side) (log : Log) (untaken : List Action) where
       let one = state-moves side log untaken d begun stage (begin_scan d.state) r a in
       let two = then-stages d begun unis stage (begin_scan d.state) (scan_uni_slots t) (λ s. uni_stages t s stage) one b in
       let three = then-stages d unis bis (uni_stages t (begin_scan d.state) stage) (scan_uni_slots t (begin_scan d.state)) (scan_bi_slots t) (λ s. bi_stages t s (uni_stages t (begin_scan d.state) stage)) two
-          (subst (λ (x : DriverState). Moves side log untaken unis bis (bi_stages t unis.state (uni_stages t x stage)) (scan_bi_slots t unis.state)) one.state_is c) in
+      (subst (λ (x : DriverState). Moves side log untaken unis bis (bi_stages t unis.state (uni_stages t x stage)) (scan_bi_slots t unis.state)) one.state_is c) in
       then-stages d bis last _ _ (run_checks t) (λ s. check_stages t s (bi_stages t (scan_uni_slots t (begin_scan d.state)) (uni_stages t (begin_scan d.state) stage))) three
       (subst (λ (x : DriverState). Moves side log untaken bis last (check_stages t bis.state (bi_stages t x (uni_stages t (begin_scan d.state) stage))) (run_checks t bis.state)) two.state_is
       (subst (λ (x : DriverState). Moves side log untaken bis last (check_stages t bis.state (bi_stages t unis.state (uni_stages t x stage))) (run_checks t bis.state)) one.state_is e))

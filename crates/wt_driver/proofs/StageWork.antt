@@ -1,10 +1,11 @@
 -- The work of a moment leads from a log with an entry more to the log that the definitions give.
-use Rattle.std.proofs.Common.{◌≡◌, ℕ, zero, suc, true, false, List, [], ◌∷◌, drop, refl, sym, ap, subst, ◌∙◌}
+use Rattle.std.proofs.Common.{arith, add-one, length, length-append, ◌+◌, ◌≤◌, ◌++◌, ◌≡◌, ℕ, zero, suc, true, false, List, [], ◌∷◌, drop, refl, sym, ap, subst, ◌∙◌}
 use Rattle.std.specs.Prelude.{◌&&◌, slice_get}
+use Rattle.std.proofs.lemmas.List.{drop-append-le}
 use Rattle.wt_driver.proofs.StageAsks.{ScanAsks, scan-asked}
 use Rattle.wt_driver.proofs.StageMoments.{actions-staged, actions-use, scan-staged}
 use Rattle.wt_driver.proofs.StageUses.{calls-with}
-use Rattle.wt_driver.specs.DriverValue.{DriverValue}
+use Rattle.wt_driver.specs.DriverValue.{DriverValue, without_first}
 use Rattle.wt_driver.specs.Moving.{HasDatagram, Moves, front_of}
 use Rattle.wt_driver.specs.Stages.{MayUseBy, StagesFit, TableFits, Uses, scanned_stages}
 use Rattle.wt_driver.specs.Tie.{Refines, unsettled}
@@ -17,10 +18,10 @@ use Rattle.wt_driver_spec.specs.Moment.{Fits, MayFollow, scans}
 use Rattle.wt_driver_spec.specs.Step.{after_entry, begin_scan, scan_state, step_actions}
 use Rattle.wt_inbox.specs.Stage as inboxes
 use Rattle.wt_inbox.specs.Stage.{Stage}
-use Rattle.wt_seam_spec.specs.Reports.{datagrams_of}
+use Rattle.wt_seam_spec.specs.Reports.{datagrams_of, with_datagram}
 use Rattle.wt_spec.specs.Driver.{apply_if, flush, is_moment, log_and_flush, pending_actions, settled_datagrams, stream_table, transport_view}
 use Rattle.wt_spec.specs.StreamTable.{TransportView}
-use Rattle.wt_turn.specs.Log.{Entry, Log, calls_of, events_of, is_open, with_actions}
+use Rattle.wt_turn.specs.Log.{Called, Datagram, DatagramPassed, DatagramReceived, Entry, Event, Log, Reported, calls_of, events_of, is_open, with_actions}
 use Rattle.wt_turn.specs.declared.action.Action.{Action}
 use Rattle.wt_wire.specs.declared.side.Side.{Side}
 
@@ -34,6 +35,43 @@ slice-front (x ∷ xs) (suc n) = slice-front xs n
 -- actions settle no datagram
 unsettled-with : (acts : List Action) (log : Log) → unsettled (with_actions acts log) ≡ unsettled log
 unsettled-with acts log = λ i. drop (settled_datagrams (calls-with acts log i)) (datagrams_of (events-with acts log i))
+
+-- ---- the datagrams that wait
+
+-- no more are settled than came
+more-came : (e : Event) (n : ℕ) (xs : List (List ℕ)) → n ≤ length xs → n ≤ length (with_datagram e xs)
+more-came (Datagram piece) n xs le = rw (length-append xs (piece ∷ [])) (omega arith)
+more-came _ n xs le = le
+
+pub settled-came : (side : Side) (log : Log) → Uses side log → settled_datagrams (calls_of log) ≤ length (datagrams_of (events_of log))
+settled-came side [] uses = omega arith
+settled-came side (Called DatagramReceived ∷ log) uses = let came = uses.0 in omega arith
+settled-came side (Called DatagramPassed ∷ log) uses = let came = uses.0 in omega arith
+settled-came side (Called _ ∷ log) uses = settled-came side log uses.1
+settled-came side (Reported e ∷ log) uses = more-came e (settled_datagrams (calls_of log)) (datagrams_of (events_of log)) (settled-came side log uses.1)
+settled-came side (_ ∷ log) uses = settled-came side log uses.1
+
+-- one more waits behind the others
+pub datagram-waits : (side : Side) (log : Log) (piece : List ℕ) → Uses side log → unsettled (Reported (Datagram piece) ∷ log) ≡ unsettled log ++ piece ∷ []
+datagram-waits side log piece uses = drop-append-le (settled_datagrams (calls_of log)) (datagrams_of (events_of log)) (piece ∷ []) (settled-came side log uses)
+
+drop-next : (n : ℕ) (xs : List (List ℕ)) → drop (suc n) xs ≡ without_first (drop n xs)
+drop-next zero [] = refl
+drop-next zero (x ∷ xs) = refl
+drop-next (suc n) [] = refl
+drop-next (suc n) (x ∷ xs) = drop-next n xs
+
+drop-more : (n : ℕ) (xs : List (List ℕ)) → drop (n + 1) xs ≡ without_first (drop n xs)
+drop-more n xs = ap (λ (i : ℕ). drop i xs) (add-one n) ∙ drop-next n xs
+
+-- the front one waits no longer
+pub received-waits : (log : Log) → unsettled (Called DatagramReceived ∷ log) ≡ without_first (unsettled log)
+received-waits log = drop-more (settled_datagrams (calls_of log)) (datagrams_of (events_of log))
+
+pub passed-waits : (log : Log) → unsettled (Called DatagramPassed ∷ log) ≡ without_first (unsettled log)
+passed-waits log = drop-more (settled_datagrams (calls_of log)) (datagrams_of (events_of log))
+
+-- ---- the work
 
 module _ (side : Side) (log : Log) (m : Entry) (stage : ℕ → Stage) (may : MayFollow side log m) (can : MayUseBy side log m) (fits : Fits side log) (uses : Uses side log)
     (f : TableFits side (calls_of (m ∷ log)) (stream_table side log) stage) (d : DriverValue) (here : d.state ≡ after_entry (transport_view side log) m (state_of side log)) (waits : d.queue ≡ unsettled (m ∷ log)) where
