@@ -3,6 +3,10 @@ pub mod ScanSteps
 pub mod Visits
 pub mod Removing
 pub mod Moved
+pub mod Checks
+pub mod Flushed
+pub mod FlushedWhole
+pub mod FlushFacts
 pub mod BiChannelLaws
 pub mod SharedResultLaws
 pub mod StageChecks

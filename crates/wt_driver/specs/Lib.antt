@@ -8,6 +8,7 @@ pub mod Records
 pub mod Scanning
 pub mod Stages
 pub mod Moving
+pub mod Flushing
 pub mod DriverValue
 pub mod Results
 pub mod Tie

@@ -1,9 +1,10 @@
 //! The driver of one connection.
-ghost use Rattle.std.specs.Prelude.{◌≡◌, [], false, None, true};
+ghost use Rattle.std.specs.Prelude.{◌≡◌, ◌^◌, ◌-◌, [], false, min, None, true};
 ghost use Rattle.wt_inbox.specs.State.{nothing_read, readers_now};
 ghost use Rattle.wt_driver.specs.DriverValue.{first_state};
 
 mod accepts;
+mod acting;
 mod arrivals;
 mod calls;
 mod flush;
@@ -103,7 +104,7 @@ impl Driver {
 
     /// How many readers are kept.
     pub fn readers(&self) -> usize
-        ensures { result ≡ readers_now self.now.inbox }
+        ensures { result ≡ min (readers_now self.now.inbox) (2 ^ 64 - 1) }
     {
         self.inbox.readers()
     }

@@ -5,6 +5,7 @@ ghost use Rattle.wt_driver.specs.DriverValue.{with_state};
 ghost use Rattle.wt_driver.specs.Results.{error_of, result_of};
 
 use super::Driver;
+use super::acting::{act, reset};
 use crate::ending::EndingKind;
 use crate::record::Record;
 use wt_proto::session::SessionRequest;
@@ -79,7 +80,7 @@ impl Driver {
             Record::DatagramReceived | Record::DatagramPassed => self.settle_datagram()?,
             Record::StreamGivenUp(id) => self.give_up(*id),
             Record::PrioritySet(id, priority) => self.set_priority(*id, *priority),
-            Record::ResetUnsent(id, code) => self.reset(*id, *code)?,
+            Record::ResetUnsent(id, code) => reset(&mut self.inbox, *id, *code)?,
             _ => {}
         }
         Ok(())
@@ -112,69 +113,9 @@ impl Driver {
 
     // ---- what calls send
 
-    fn open(&mut self, id: StreamId) -> Result<(), OutOfMemory> {
-        let _opened = if id.is_bidirectional() {
-            self.inbox.open_bi()?
-        } else {
-            self.inbox.open_uni()?
-        };
-        Ok(())
-    }
-
-    fn send(&mut self, id: StreamId, piece: &Piece) -> Result<(), OutOfMemory> {
-        if self.inbox.may_send(id) {
-            let _count = self.inbox.send(id, piece.as_slice())?;
-        }
-        Ok(())
-    }
-
-    fn finish(&mut self, id: StreamId) -> Result<(), OutOfMemory> {
-        if self.inbox.may_send(id) {
-            self.inbox.finish(id)?;
-        }
-        Ok(())
-    }
-
-    fn reset(&mut self, id: StreamId, code: VarInt) -> Result<(), OutOfMemory> {
-        if self.inbox.can_send(id) {
-            self.inbox.reset(id, code)?;
-        }
-        Ok(())
-    }
-
-    fn stop(&mut self, id: StreamId, code: VarInt) -> Result<(), OutOfMemory> {
-        if self.inbox.can_receive(id) {
-            self.inbox.stop(id, code)?;
-        }
-        Ok(())
-    }
-
-    fn dial(&mut self, address: Addr, name: Text) -> Result<(), OutOfMemory> {
-        if self.inbox.is_open() {
-            self.inbox.dial(address, name)?;
-        }
-        Ok(())
-    }
-
-    fn datagram_out(&mut self, piece: Piece) -> Result<(), OutOfMemory> {
-        if self.inbox.is_open() {
-            self.inbox.datagram_out(piece)?;
-        }
-        Ok(())
-    }
-
     /// An action of a call goes out.
     pub fn act(&mut self, action: Action) -> Result<(), OutOfMemory> {
-        match action {
-            Action::Dial { address, name } => self.dial(address, name),
-            Action::Opened { id } => self.open(id),
-            Action::Send { id, piece } => self.send(id, &piece),
-            Action::Finish { id } => self.finish(id),
-            Action::ResetOut { id, code } => self.reset(id, code),
-            Action::StopOut { id, code } => self.stop(id, code),
-            Action::DatagramOut { piece } => self.datagram_out(piece),
-            Action::Close { code, reason } => self.close(code, reason),
-        }
+        act(&mut self.inbox, action)
     }
 
     // ---- the handshake

@@ -1,12 +1,12 @@
 //! The work of a moment.
 ghost use Rattle.std.specs.Prelude.{◌≡◌, ◌↔◌, None, IsTrue, ◌==◌, ◌&&◌, List, ℕ, Some, IfOk, OnOk, drop, true, not};
 ghost use Rattle.wt_driver.specs.DriverValue.{with_state};
-ghost use Rattle.wt_driver.specs.Moving.{HasDatagram, Moves, WalkFrom, front_of};
+ghost use Rattle.wt_driver.specs.Moving.{HasDatagram, MayCheck, MayScan, Moves, WalkFrom, front_of};
 ghost use Rattle.wt_driver.specs.Scanning.{AllAwait};
-ghost use Rattle.wt_driver.specs.Stages.{bi_stages, control_stages, datagram_checked, session_stage, session_stages, uni_stages, unless_ended_stage};
+ghost use Rattle.wt_driver.specs.Stages.{bi_stages, check_stages, control_stages, datagram_checked, scanned_stages, session_stage, session_stages, uni_stages, unless_ended_stage};
 ghost use Rattle.wt_driver.specs.declared.slot.Half.TheVariants as halves;
 ghost use Rattle.wt_driver_spec.specs.Bounds.{AreDistinct, IsBounded};
-ghost use Rattle.wt_driver_spec.specs.Step.{scan_bi_slots, scan_uni_slots};
+ghost use Rattle.wt_driver_spec.specs.Step.{begin_scan, run_checks, scan_bi_slots, scan_state, scan_uni_slots};
 ghost use Rattle.wt_inbox.specs.Stage.{Anywhere, ControlBody, Refines, SessionBody, Stage, control_offset, session_offset, with_stage};
 ghost use Rattle.wt_seam_spec.specs.Reports.{end_of, is_running};
 ghost use Rattle.wt_seam_spec.specs.Streams.{contents};
@@ -35,6 +35,13 @@ fn is_running(end: StreamEnd) -> bool
         StreamEnd::Running => true,
         StreamEnd::Fin | StreamEnd::Reset(_) => false,
     }
+}
+
+/// The stream of a pair with an offset.
+fn stream_of(place: (StreamId, usize)) -> StreamId
+    ensures { result ≡ place.0 }
+{
+    place.0
 }
 
 impl Driver {
@@ -150,7 +157,10 @@ impl Driver {
     {
         match session {
             None => Ok(()),
-            Some((id, _)) => self.read_session(id),
+            Some(place) => {
+                let id = stream_of(place);
+                self.read_session(id)
+            }
         }
     }
 
@@ -240,7 +250,10 @@ impl Driver {
     {
         match control {
             None => Ok(()),
-            Some((id, _)) => self.read_control(id),
+            Some(place) => {
+                let id = stream_of(place);
+                self.read_control(id)
+            }
         }
     }
 
@@ -273,7 +286,10 @@ impl Driver {
     {
         match stream {
             None => {}
-            Some((id, _)) => self.check_end(id),
+            Some(place) => {
+                let id = stream_of(place);
+                self.check_end(id);
+            }
         }
     }
 
@@ -294,7 +310,11 @@ impl Driver {
     }
 
     /// The checks in their order, up to the first that ends the connection.
-    fn run_checks(&mut self) -> Result<(), OutOfMemory> {
+    fn run_checks(&mut self) -> Result<(), OutOfMemory>
+        ensures log { (side : Side) (log : Log) (stage : ℕ → Stage) (untaken : List Action) → Refines side self.old.inbox log stage untaken → is_open log ≡ true → HasDatagram side log self.old
+            → MayCheck (transport_view side log) self.old.state stage
+            → OnOk result (Moves side log untaken self.old self.new (check_stages (transport_view side log) self.old.state stage) (run_checks (transport_view side log) self.old.state)) }
+    {
         self.check_datagram()?;
         self.check_session()?;
         self.check_local_control();
@@ -304,9 +324,19 @@ impl Driver {
         Ok(())
     }
 
-    /// The whole scan of a moment.
-    fn scan(&mut self) -> Result<(), OutOfMemory> {
+    fn begin_scan(&mut self)
+        ensures { self.new ≡ with_state self.old (begin_scan self.old.state) }
+    {
         self.progress.begin();
+    }
+
+    /// The whole scan of a moment.
+    fn scan(&mut self) -> Result<(), OutOfMemory>
+        ensures log { (side : Side) (log : Log) (stage : ℕ → Stage) (untaken : List Action) → Refines side self.old.inbox log stage untaken → is_open log ≡ true → HasDatagram side log self.old
+            → MayScan (transport_view side log) self.old.state stage
+            → OnOk result (Moves side log untaken self.old self.new (scanned_stages (transport_view side log) self.old.state stage) (scan_state (transport_view side log) self.old.state)) }
+    {
+        self.begin_scan();
         self.scan_unis()?;
         self.scan_bis()?;
         self.run_checks()

@@ -12,4 +12,4 @@ returns-in-None c = record {
 }
 
 pub returns-in-Some : goal.returns-in-Some
-returns-in-Some c = record { log = λ side log stage untaken r. rw (c.in-Some.is, ← c.in-Some.id-is) (c.check_end.ensures.log side log stage untaken r) }
+returns-in-Some c = record { log = λ side log stage untaken r. rw (c.in-Some.is, ← c.stream_of-id.ensures) (c.check_end.ensures.log side log stage untaken r) }
