@@ -197,7 +197,7 @@ impl Driver {
 
     /// The peer's end of the session ends the connection.
     fn check_session(&mut self) -> Result<(), OutOfMemory>
-        ensures log { (side : Side) (log : Log) (stage : ℕ → Stage) (untaken : List Action) → Refines side self.old.inbox log stage untaken → WalkFrom session_offset stage self.old.state.session
+        ensures log { (side : Side) (log : Log) (stage : ℕ → Stage) (untaken : List Action) → Refines side self.old.inbox log stage untaken → (self.old.state.progress.ending ≡ None → WalkFrom session_offset stage self.old.state.session)
             → OnOk result (Moves side log untaken self.old self.new (unless_ended_stage self.old.state.progress.ending (session_stages (transport_view side log) self.old.state.session stage) stage)
                 (record self.old.state { progress = unless_ended self.old.state.progress.ending (check_session (transport_view side log) self.old.state.session) self.old.state.progress })) }
     {
