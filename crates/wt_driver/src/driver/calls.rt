@@ -8,6 +8,7 @@ use super::Driver;
 use super::acting::{act, reset};
 use crate::ending::EndingKind;
 use crate::record::Record;
+use wt_proto::response_walk::ResponseWalk;
 use wt_proto::session::SessionRequest;
 use wt_proto::settings::Settings;
 use wt_proto::verdict::Verdict;
@@ -78,12 +79,20 @@ impl Driver {
             Record::StreamAccepted(id) => self.release(*id),
             Record::StreamPassed(id) => self.pass(*id),
             Record::DatagramReceived | Record::DatagramPassed => self.settle_datagram()?,
+            Record::BytesRead(id, count) => self.consume(*id, *count),
             Record::StreamGivenUp(id) => self.give_up(*id),
             Record::PrioritySet(id, priority) => self.set_priority(*id, *priority),
             Record::ResetUnsent(id, code) => reset(&mut self.inbox, *id, *code)?,
             _ => {}
         }
         Ok(())
+    }
+
+    /// So many unread bytes of a stream are read.
+    fn consume(&mut self, id: StreamId, count: usize) {
+        if count as u64 <= self.inbox.unread(id) {
+            self.inbox.consume(id, count);
+        }
     }
 
     fn deliver(&mut self, id: StreamId)
@@ -119,6 +128,16 @@ impl Driver {
     }
 
     // ---- the handshake
+
+    /// Reads a client's session stream on up to the response, and tells whether there is an outcome.
+    pub fn has_response(&mut self, id: StreamId) -> Result<bool, OutOfMemory> {
+        self.inbox.has_response(id)
+    }
+
+    /// The response on a client's session stream. What comes after it stays unread.
+    pub fn release_response(&mut self, id: StreamId) -> Result<ResponseWalk, OutOfMemory> {
+        self.inbox.release_response(id)
+    }
 
     /// Whether the peer's SETTINGS came.
     pub fn have_settings_come(&self) -> bool

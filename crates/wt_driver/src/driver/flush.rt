@@ -69,7 +69,7 @@ fn send_control(inbox: &mut Inbox, alloc: Global, sent: &mut usize) -> Result<()
     ensures log { (side : Side) (log : Log) (stage : ℕ → Stage) (untaken : List Action) → Refines side inbox.old log stage untaken → is_open log ≡ true
         → control_sent side log ≡ record { opened = true; sent = sent.old } → ControlRuns side log → (transport_view side log).may_open ≡ true
         → OnOk result (SendsControl side log stage untaken (send_of (local_uni side) (drop sent.old (take (transport_view side log).credit local_control_bytes))) inbox.new
-            sent.new (sent.old + length (drop sent.old (take (transport_view side log).credit local_control_bytes)))) }
+        sent.new (sent.old + length (drop sent.old (take (transport_view side log).credit local_control_bytes)))) }
 {
     let id = control_id(inbox.side());
     if !inbox.may_send(id) {
@@ -199,7 +199,13 @@ fn flush(
 
 impl Driver {
     /// What goes out after a moment, in its order.
-    pub(super) fn flush(&mut self) -> Result<(), OutOfMemory> {
+    pub(super) fn flush(&mut self) -> Result<(), OutOfMemory>
+        ensures log { (side : Side) (log : Log) (stage : ℕ → Stage) (untaken : List Action) → Refines side self.old.inbox log stage untaken → is_open log ≡ true
+            → control_sent side log ≡ self.old.state.control_sent → MayFlush side log self.old.state.session self.old.state.progress
+            → OnOk result (Flushes side log stage untaken (actions_after (transport_view side log) (control_sent side log) self.old.state.session self.old.state.progress) self.new.inbox self.new.state.control_sent) }
+        ensures rest { OnOk result (self.new.state ≡ record self.old.state { control_sent = self.new.state.control_sent; is_open = self.new.state.is_open }) }
+        ensures queue { OnOk result (self.new.queue ≡ self.old.queue) }
+    {
         flush(
             &mut self.inbox,
             self.alloc,
