@@ -20,3 +20,4 @@ pub mod StageUses
 pub mod StageTurns
 pub mod StageSteps
 pub mod StageWork
+pub mod Worked
