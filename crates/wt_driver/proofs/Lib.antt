@@ -21,3 +21,4 @@ pub mod StageTurns
 pub mod StageSteps
 pub mod StageWork
 pub mod Worked
+pub mod Turning

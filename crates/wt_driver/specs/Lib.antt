@@ -12,3 +12,4 @@ pub mod Flushing
 pub mod DriverValue
 pub mod Results
 pub mod Tie
+pub mod Arriving
