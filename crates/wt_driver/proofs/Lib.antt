@@ -22,3 +22,5 @@ pub mod StageSteps
 pub mod StageWork
 pub mod Worked
 pub mod Turning
+pub mod Calling
+pub mod Acting
