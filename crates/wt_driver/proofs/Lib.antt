@@ -24,3 +24,4 @@ pub mod Worked
 pub mod Turning
 pub mod Calling
 pub mod Acting
+pub mod Beginning
