@@ -22,3 +22,6 @@ pub mod StageSteps
 pub mod StageWork
 pub mod Worked
 pub mod Turning
+pub mod Calling
+pub mod Acting
+pub mod Beginning

@@ -13,3 +13,4 @@ pub mod DriverValue
 pub mod Results
 pub mod Tie
 pub mod Arriving
+pub mod Calling

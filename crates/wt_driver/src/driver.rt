@@ -2,6 +2,7 @@
 ghost use Rattle.std.specs.Prelude.{◌≡◌, ◌^◌, ◌-◌, [], false, min, None, true};
 ghost use Rattle.wt_inbox.specs.State.{nothing_read, readers_now};
 ghost use Rattle.wt_driver.specs.DriverValue.{first_state};
+ghost use Rattle.wt_driver.specs.Tie.{Follows};
 
 mod accepts;
 mod acting;
@@ -77,6 +78,7 @@ impl Driver {
         ensures queue { result.queue ≡ [] }
         ensures settings { result.settings ≡ None }
         ensures given { result.has_given_settings ≡ false }
+        ensures log { Follows side result [] 0 }
     {
         Driver {
             alloc,

@@ -1,5 +1,9 @@
 //! Calls that give the session's next stream or datagram, and pass those of others.
-ghost use Rattle.std.specs.Prelude.{◌≡◌, suc, OnOk};
+ghost use Rattle.std.specs.Prelude.{◌≡◌, List, suc, OnOk, ℕ};
+ghost use Rattle.wt_inbox.specs.Stage.{Anywhere, Refines, Stage, with_stage};
+ghost use Rattle.wt_turn.specs.Log.{Log};
+ghost use Rattle.wt_turn.specs.declared.action.Action.{Action};
+ghost use Rattle.wt_wire.specs.declared.side.Side.{Side};
 ghost use Rattle.wt_driver_spec.specs.Due.{due_stream, state_next_due};
 ghost use Rattle.wt_driver_spec.specs.Step.{release, without_slot};
 ghost use Rattle.wt_driver.specs.DriverValue.{IsAmong, with_state, without_first};
@@ -44,7 +48,9 @@ impl Driver {
 
     /// An accept gave the stream, or passed it.
     pub(super) fn release(&mut self, id: StreamId)
-        ensures { IsAmong 4 id self.old.state.unis → IsAmong 1 id self.old.state.bis → self.new ≡ with_state self.old (release id self.old.state) }
+        ensures release { IsAmong 4 id self.old.state.unis → IsAmong 1 id self.old.state.bis → self.new ≡ with_state self.old (release id self.old.state) }
+        ensures inbox { self.new.inbox ≡ self.old.inbox }
+        ensures queue { self.new.queue ≡ self.old.queue }
     {
         remove_slot(&mut self.unis, 4, id);
         remove_slot(&mut self.bis, 1, id);
@@ -53,7 +59,9 @@ impl Driver {
 
     /// Nothing of a stream is read any more.
     pub(super) fn give_up(&mut self, id: StreamId)
-        ensures { self.new.queue ≡ self.old.queue }
+        ensures log { (side : Side) (log : Log) (stage : ℕ → Stage) (untaken : List Action) → Refines side self.old.inbox log stage untaken → Refines side self.new.inbox log (with_stage stage id Anywhere) untaken }
+        ensures state { self.new.state ≡ record self.old.state { is_open = self.new.inbox.transport.is_open } }
+        ensures queue { self.new.queue ≡ self.old.queue }
     {
         if self.inbox.can_receive(id) {
             self.inbox.give_up(id);
@@ -61,7 +69,11 @@ impl Driver {
     }
 
     /// An accept passed the stream.
-    pub(super) fn pass(&mut self, id: StreamId) {
+    pub(super) fn pass(&mut self, id: StreamId)
+        ensures log { (side : Side) (log : Log) (stage : ℕ → Stage) (untaken : List Action) → Refines side self.old.inbox log stage untaken → Refines side self.new.inbox log (with_stage stage id Anywhere) untaken }
+        ensures state { IsAmong 4 id self.old.state.unis → IsAmong 1 id self.old.state.bis → self.new.state ≡ record (release id self.old.state) { is_open = self.new.inbox.transport.is_open } }
+        ensures queue { self.new.queue ≡ self.old.queue }
+    {
         self.give_up(id);
         self.release(id);
     }

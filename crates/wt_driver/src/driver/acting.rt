@@ -1,10 +1,10 @@
 //! What goes out for a call.
-ghost use Rattle.std.specs.Prelude.{◌≡◌, ◌∷◌, [], Some, true, List, ℕ, OnOk};
+ghost use Rattle.std.specs.Prelude.{◌≡◌, ◌∷◌, [], Some, false, true, List, ℕ, OnOk};
 ghost use Rattle.wt_driver.specs.Flushing.{MayAct, local_kind};
 ghost use Rattle.wt_inbox.specs.Stage.{Refines, Stage};
 ghost use Rattle.wt_seam_spec.specs.Outgoing.{may_send, opened_id, sending};
 ghost use Rattle.wt_seam_spec.specs.Streams.{can_receive, can_send};
-ghost use Rattle.wt_turn.specs.Log.{Log, Sent, is_open};
+ghost use Rattle.wt_turn.specs.Log.{Called, Log, ResetUnsent, Sent, is_open};
 ghost use Rattle.wt_turn.specs.declared.action.Action.{Action};
 ghost use Rattle.wt_turn.specs.declared.action.Action.TheVariants as actions;
 ghost use Rattle.wt_wire.specs.declared.side.Side.{Side};
@@ -54,6 +54,8 @@ fn finish(inbox: &mut Inbox, id: StreamId) -> Result<(), OutOfMemory>
 pub(super) fn reset(inbox: &mut Inbox, id: StreamId, code: VarInt) -> Result<(), OutOfMemory>
     ensures log { (side : Side) (log : Log) (stage : ℕ → Stage) (untaken : List Action) → Refines side inbox.old log stage untaken
         → is_open log ≡ true → can_send side log id ≡ true → OnOk result (Refines side inbox.new (Sent (actions.ResetOut id code) ∷ log) stage (actions.ResetOut id code ∷ untaken)) }
+    ensures unsent { (side : Side) (log : Log) (stage : ℕ → Stage) (untaken : List Action) → Refines side inbox.old log stage untaken
+        → is_open log ≡ false → can_send side log id ≡ true → OnOk result (Refines side inbox.new (Called (ResetUnsent id code) ∷ log) stage untaken) }
 {
     if inbox.can_send(id) {
         inbox.reset(id, code)?;

@@ -40,7 +40,8 @@ fn stream_id(index: u64, kind: u64) -> Result<StreamId, OutOfMemory>
 impl Driver {
     /// Whether a turn of the transport is lawful now.
     pub fn fits(&self, turn: &Turn) -> bool
-        ensures { result ≡ fits_now self.now.inbox.transport turn.now }
+        ensures now { result ≡ fits_now self.now.inbox.transport turn.now }
+        ensures log { (side : Side) (log : Log) (taken : ℕ) → Follows side self.now log taken → result ≡ fits side log turn.now }
     {
         self.inbox.fits(turn)
     }

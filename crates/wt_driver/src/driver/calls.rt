@@ -1,6 +1,17 @@
 //! The other calls: the handshake's, streams of this end, the end.
-ghost use Rattle.std.specs.Prelude.{◌≡◌, Some, IfOk};
+ghost use Rattle.std.specs.Prelude.{◌≡◌, ◌≤◌, ◌+◌, ◌∷◌, List, Some, IfOk, OnOk, drop, false, length, true, ℕ};
 ghost use Rattle.wt_driver_spec.specs.Step.{deliver};
+ghost use Rattle.wt_driver.specs.Calling.{MayBeCalled, SparesControl};
+ghost use Rattle.wt_driver.specs.Flushing.{MayAct};
+ghost use Rattle.wt_driver.specs.Records.{record_of};
+ghost use Rattle.wt_driver.specs.Tie.{Follows, TakenIn, untaken_since};
+ghost use Rattle.wt_inbox.specs.Stage.{Body, Refines, Stage, body_offset, with_stage};
+ghost use Rattle.wt_seam_spec.specs.Joined.{joined};
+ghost use Rattle.wt_seam_spec.specs.Streams.{can_send, contents};
+ghost use Rattle.wt_spec.specs.Driver.{log_and_flush};
+ghost use Rattle.wt_turn.specs.Log.{Called, Log, actions_of, PrioritySet, ResetUnsent, Sent, is_open};
+ghost use Rattle.wt_turn.specs.declared.action.Action.{Action};
+ghost use Rattle.wt_wire.specs.declared.side.Side.{Side};
 ghost use Rattle.wt_driver.specs.DriverValue.{with_state};
 ghost use Rattle.wt_driver.specs.Results.{error_of, result_of};
 
@@ -65,31 +76,52 @@ impl Driver {
     }
 
     /// The actions since the last such call.
-    pub fn take_actions(&mut self) -> Actions {
+    pub fn take_actions(&mut self) -> Actions
+        ensures actions { (side : Side) (log : Log) (taken : ℕ) → Follows side self.old log taken → result ≡ joined (untaken_since taken log) }
+        ensures log { (side : Side) (log : Log) (taken : ℕ) → Follows side self.old log taken → Follows side self.new log (length (actions_of log)) }
+    {
         self.inbox.take_actions()
     }
 
     // ---- what calls did
 
     /// Takes in what a call did.
-    fn note_call(&mut self, record: &Record) -> Result<(), OutOfMemory> {
-        match record {
+    fn note_call(&mut self, call: &Record) -> Result<(), OutOfMemory>
+        ensures log { (side : Side) (log : Log) (taken : ℕ) (f : Follows side self.old log taken) → MayBeCalled side log self.old f.refines.stage (record_of call.now) → OnOk result (TakenIn side log (Called (record_of call.now)) self.new taken) }
+    {
+        match call {
             Record::RequestDelivered(id) => self.deliver(*id),
             Record::SessionEstablished(id, at) => self.establish(*id, *at),
             Record::StreamAccepted(id) => self.release(*id),
             Record::StreamPassed(id) => self.pass(*id),
-            Record::DatagramReceived | Record::DatagramPassed => self.settle_datagram()?,
+            Record::DatagramReceived => self.settle_datagram()?,
+            Record::DatagramPassed => self.settle_datagram()?,
             Record::BytesRead(id, count) => self.consume(*id, *count),
             Record::StreamGivenUp(id) => self.give_up(*id),
             Record::PrioritySet(id, priority) => self.set_priority(*id, *priority),
-            Record::ResetUnsent(id, code) => reset(&mut self.inbox, *id, *code)?,
+            Record::ResetUnsent(id, code) => self.reset_unsent(*id, *code)?,
             _ => {}
         }
         Ok(())
     }
 
+    /// A reset after the end: it counts, and nothing goes out.
+    fn reset_unsent(&mut self, id: StreamId, code: VarInt) -> Result<(), OutOfMemory>
+        ensures log { (side : Side) (log : Log) (stage : ℕ → Stage) (untaken : List Action) → Refines side self.old.inbox log stage untaken → is_open log ≡ false → can_send side log id ≡ true
+            → OnOk result (Refines side self.new.inbox (Called (ResetUnsent id code) ∷ log) stage untaken) }
+        ensures state { OnOk result (self.new.state ≡ record self.old.state { is_open = self.new.inbox.transport.is_open }) }
+        ensures queue { OnOk result (self.new.queue ≡ self.old.queue) }
+    {
+        reset(&mut self.inbox, id, code)
+    }
+
     /// So many unread bytes of a stream are read.
-    fn consume(&mut self, id: StreamId, count: usize) {
+    fn consume(&mut self, id: StreamId, count: usize)
+        ensures log { (side : Side) (log : Log) (stage : ℕ → Stage) (untaken : List Action) (offset : ℕ) → Refines side self.old.inbox log stage untaken → body_offset (stage id) ≡ Some offset
+            → count ≤ length (drop offset (contents log id)) → Refines side self.new.inbox log (with_stage stage id (Body (offset + count))) untaken }
+        ensures state { self.new.state ≡ record self.old.state { is_open = self.new.inbox.transport.is_open } }
+        ensures queue { self.new.queue ≡ self.old.queue }
+    {
         if count as u64 <= self.inbox.unread(id) {
             self.inbox.consume(id, count);
         }
@@ -107,7 +139,12 @@ impl Driver {
         self.session = Some((id, at));
     }
 
-    fn set_priority(&mut self, id: StreamId, priority: i32) {
+    fn set_priority(&mut self, id: StreamId, priority: i32)
+        ensures log { (side : Side) (log : Log) (stage : ℕ → Stage) (untaken : List Action) → Refines side self.old.inbox log stage untaken → can_send side log id ≡ true
+            → Refines side self.new.inbox (Called (PrioritySet id priority) ∷ log) stage untaken }
+        ensures state { self.new.state ≡ record self.old.state { is_open = self.new.inbox.transport.is_open } }
+        ensures queue { self.new.queue ≡ self.old.queue }
+    {
         if self.inbox.can_send(id) {
             self.inbox.set_priority(id, priority);
         }
@@ -115,16 +152,30 @@ impl Driver {
 
     /// Takes in what a call did, and does the work of its moment. What the call sent of its own is put
     /// out before.
-    pub fn called(&mut self, record: &Record) -> Result<(), OutOfMemory> {
-        self.note_call(record)?;
+    pub fn called(&mut self, call: &Record) -> Result<(), OutOfMemory>
+        ensures log { (side : Side) (log : Log) (taken : ℕ) (f : Follows side self.old log taken) → MayBeCalled side log self.old f.refines.stage (record_of call.now)
+            → OnOk result (Follows side self.new (log_and_flush side log (Called (record_of call.now))) taken) }
+    {
+        self.note_call(call)?;
         self.work()
     }
 
     // ---- what calls send
 
-    /// An action of a call goes out.
-    pub fn act(&mut self, action: Action) -> Result<(), OutOfMemory> {
+    fn put_out(&mut self, action: Action) -> Result<(), OutOfMemory>
+        ensures log { (side : Side) (log : Log) (stage : ℕ → Stage) (untaken : List Action) → Refines side self.old.inbox log stage untaken → MayAct side log action
+            → OnOk result (Refines side self.new.inbox (Sent action ∷ log) stage (action ∷ untaken)) }
+        ensures state { OnOk result (self.new.state ≡ record self.old.state { is_open = self.new.inbox.transport.is_open }) }
+        ensures queue { OnOk result (self.new.queue ≡ self.old.queue) }
+    {
         act(&mut self.inbox, action)
+    }
+
+    /// An action of a call goes out.
+    pub fn act(&mut self, action: Action) -> Result<(), OutOfMemory>
+        ensures log { (side : Side) (log : Log) (taken : ℕ) → Follows side self.old log taken → MayAct side log action → SparesControl side action → OnOk result (Follows side self.new (Sent action ∷ log) taken) }
+    {
+        self.put_out(action)
     }
 
     // ---- the handshake

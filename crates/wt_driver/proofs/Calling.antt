@@ -1,0 +1,249 @@
+-- A call's record taken in, from what the driver's parts ensure.
+use Rattle.std.proofs.Common.{arith, ◌≡◌, ◌≤◌, ◌+◌, ℕ, zero, suc, Bool, true, false, List, [], ◌∷◌, length, drop, refl, sym, ap, subst, ◌∙◌, add-one}
+use Rattle.std.specs.Prelude.{◌&&◌, ◌==◌, Option, Some, None, not, if◌then◌else◌, ℤ}
+use Rattle.wt_driver.proofs.Moved.{open-is}
+use Rattle.wt_driver.proofs.StageAnswers.{read-staged}
+use Rattle.wt_driver.proofs.StageEntries.{called-fits}
+use Rattle.wt_driver.proofs.StageTables.{is-own}
+use Rattle.wt_driver.proofs.StageWork.{passed-waits, received-waits}
+use Rattle.wt_driver.specs.Calling.{HalfAsks, MayBeCalled, called_queue}
+use Rattle.wt_driver.specs.DriverValue.{DriverValue, IsAmong, with_state, without_first}
+use Rattle.wt_driver.specs.Records.{record_of}
+use Rattle.wt_driver.specs.declared.record.Record.{Record}
+use Rattle.wt_driver.specs.declared.record.Record.TheVariants as records
+use Rattle.wt_driver.specs.Stages.{ResponseRead, called_stages, read_on}
+use Rattle.wt_driver.specs.Tie.{Follows, Refines, SendsWhileOpen, TakenIn, unsettled, untaken_since}
+use Rattle.wt_driver_spec.proofs.RestMoments.{open-says}
+use Rattle.wt_driver_spec.specs.DriverState.{DriverState, state_of}
+use Rattle.wt_driver_spec.specs.Step.{after_call, after_entry, deliver, release}
+use Rattle.wt_inbox.proofs.Passing.{goes-called, passes}
+use Rattle.wt_inbox.specs.Stage as inboxes
+use Rattle.wt_inbox.specs.Stage.{Anywhere, Body, IsAt, Stage, body_offset, stage_from, with_stage}
+use Rattle.wt_inbox.specs.State.{InboxState}
+use Rattle.wt_seam.specs.State as seam
+use Rattle.wt_streams.specs.StreamState.{rows}
+use Rattle.wt_seam_spec.specs.Sent.{is_reset, priority_of}
+use Rattle.wt_seam_spec.specs.Reports.{initial_credit}
+use Rattle.wt_seam_spec.specs.Streams.{contents, stream_count}
+use Rattle.wt_seam_spec.specs.Unread.{ReadPosition}
+use Rattle.wt_spec.specs.Driver.{stream_table, transport_view}
+use Rattle.wt_spec.specs.Halves as halves
+use Rattle.wt_spec.specs.StreamTable.{verdict_of}
+use Rattle.wt_turn.specs.Log.{BytesRead, CallRecord, Called, ConnectStarted, DatagramPassed, DatagramReceived, HandshakeOver, Log, OpeningFailed, OpeningStarted, Polled, PrioritySet, RequestDelivered, ResetUnsent, ResponseStarted, SessionEstablished, StreamAccepted, StreamGivenUp, StreamPassed, all_events_of, calls_of, is_open}
+use Rattle.wt_turn.specs.declared.action.Action.{Action}
+use Rattle.wt_wire.specs.declared.side.Side.{Side}
+use Rattle.wt_wire.specs.declared.side.Side.TheVariants.{Client, Server}
+
+-- ---- records that tell the transport nothing
+
+-- neither a priority nor a reset
+abbrev pub TellsNothing : CallRecord → Type 0
+TellsNothing (PrioritySet id priority) = ⊥
+TellsNothing (ResetUnsent id code) = ⊥
+TellsNothing _ = Unit {0}
+
+same-reset : (r : CallRecord) (log : Log) (k : ℕ) → TellsNothing r → is_reset (Called r ∷ log) k ≡ is_reset log k
+same-reset (ResetUnsent id code) log k n = absurd n
+same-reset _ log k n = refl
+
+same-priority : (r : CallRecord) (calls : List CallRecord) (k : ℕ) → TellsNothing r → priority_of (r ∷ calls) k ≡ priority_of calls k
+same-priority (PrioritySet id priority) calls k n = absurd n
+same-priority _ calls k n = refl
+
+module _ (side : Side) (t : seam.TransportState) (log : Log) (position : ℕ → ReadPosition) (untaken : List Action) (r : CallRecord) (n : TellsNothing r) where
+  same-stream : (pieces : ℕ → List (List ℕ)) (k : ℕ) → seam.stream_of (Called r ∷ log) position pieces k ≡ seam.stream_of log position pieces k
+  same-stream pieces k = λ i. record (seam.stream_of log position pieces k) { reset = same-reset r log k n i; priority = same-priority r (calls_of log) k n i }
+
+  transport-kept : seam.Refines side t log position untaken → seam.Refines side t (Called r ∷ log) position untaken
+  transport-kept s = record {
+    pieces = s.pieces;
+    facts = record {
+      streams = λ k. subst (seam.IsStream side (stream_count side log) (initial_credit (all_events_of log)) k) (sym (same-stream s.pieces k)) (s.facts.streams k);
+      unconnected = s.facts.unconnected;
+      unallowed = s.facts.unallowed;
+      open_same = s.facts.open_same;
+    };
+    holds = λ k. record { bytes = (s.holds k).bytes; filled = (s.holds k).filled; within = (s.holds k).within };
+    state = s.state ∙ sym (λ i. record (seam.state_of side log position s.pieces untaken) { streams = rows (λ k. same-stream s.pieces k i) (stream_count side log) });
+  }
+
+pub inbox-kept : (side : Side) (x : InboxState) (log : Log) (stage : ℕ → Stage) (untaken : List Action) (r : CallRecord) → TellsNothing r → inboxes.Refines side x log stage untaken → inboxes.Refines side x (Called r ∷ log) stage untaken
+inbox-kept side x log stage untaken r n s = passes side x log stage untaken s x.transport (Called r ∷ log) untaken (goes-called side log r) (transport-kept side x.transport log s.position untaken r n s.transport)
+
+-- ---- what is said of a stage may be forgotten
+
+pub forgets : (side : Side) (x : InboxState) (log : Log) (stage : ℕ → Stage) (untaken : List Action) (id : ℕ) (to : Stage) → inboxes.Refines side x log (with_stage stage id to) untaken → inboxes.Refines side x log (with_stage stage id Anywhere) untaken
+forgets side x log stage untaken id to s = record { position = s.position; transport = s.transport; no_uni = s.no_uni; no_bi = s.no_bi; staged = λ k. by (id == k) k (s.staged k) }
+  where
+    by : (b : Bool) (k : ℕ) → IsAt x k (contents log k) (s.position k) (if b then to else stage k) → IsAt x k (contents log k) (s.position k) (if b then Anywhere else stage k)
+    by true k a = tt
+    by false k a = a
+
+pub forgets-one : (side : Side) (x : InboxState) (log : Log) (stage : ℕ → Stage) (untaken : List Action) (id : ℕ) → inboxes.Refines side x log stage untaken → inboxes.Refines side x log (with_stage stage id Anywhere) untaken
+forgets-one side x log stage untaken id s = record { position = s.position; transport = s.transport; no_uni = s.no_uni; no_bi = s.no_bi; staged = λ k. by (id == k) k (s.staged k) }
+  where
+    by : (b : Bool) (k : ℕ) → IsAt x k (contents log k) (s.position k) (stage k) → IsAt x k (contents log k) (s.position k) (if b then Anywhere else stage k)
+    by true k a = tt
+    by false k a = a
+
+-- ---- a record taken in
+
+queue-so : (r : CallRecord) (log : Log) → unsettled (Called r ∷ log) ≡ called_queue r (unsettled log)
+queue-so DatagramReceived log = received-waits log
+queue-so DatagramPassed log = passed-waits log
+queue-so _ log = refl
+
+read-so : (side : Side) (log : Log) (d : DriverValue) (stage : ℕ → Stage) (r : CallRecord) → HalfAsks side log d stage r → ResponseRead side r stage
+read-so Client log d stage (SessionEstablished id at) h = h
+read-so Server log d stage (SessionEstablished id at) h = tt
+read-so Client log d stage _ h = tt
+read-so Server log d stage _ h = tt
+
+module _ (side : Side) (log : Log) (taken : ℕ) (d : DriverValue) (f : Follows side d log taken) (r : CallRecord) (a : MayBeCalled side log d f.refines.stage r) where
+  open-before : d.state.is_open ≡ (state_of side log).is_open
+  open-before = ap (λ (s : DriverState). s.is_open) f.refines.state_is
+
+  -- the record, with what it did
+  pub call-taken : (new : DriverValue) (b : Bool) → inboxes.Refines side new.inbox (Called r ∷ log) (called_stages r f.refines.stage) (untaken_since taken log) → new.state ≡ record (after_call r d.state) { is_open = b }
+      → b ≡ (state_of side log).is_open → new.queue ≡ called_queue r d.queue → TakenIn side log (Called r) new taken
+  call-taken new b x s o q = record {
+    stage = called_stages r f.refines.stage;
+    inbox = x;
+    fit = called-fits side log f.refines.stage r (is-own side log f.refines.fits) a.can (read-so side log d f.refines.stage r a.half) f.refines.staged;
+    state_is = s ∙ (λ i. record (after_call r (f.refines.state_is i)) { is_open = o i });
+    queue_is = q ∙ ap (called_queue r) f.refines.queue_is ∙ sym (queue-so r log);
+    within = f.within;
+    moment = refl;
+    may = a.may;
+    can = a.can;
+    fits = f.refines.fits;
+    uses = f.refines.uses;
+    rests = f.rests;
+    sends = a.sends;
+  }
+
+  -- the transport stands as before
+  pub open-behind : (x : InboxState) (stage : ℕ → Stage) → inboxes.Refines side x (Called r ∷ log) stage (untaken_since taken log) → x.transport.is_open ≡ (state_of side log).is_open
+  open-behind x stage s = open-is side (Called r ∷ log) (untaken_since taken log) x stage s ∙ open-says side log
+
+-- ---- each record
+
+-- the driver keeps nothing of the call
+abbrev pub ChangesNothing : CallRecord → Type 0
+ChangesNothing (ConnectStarted reserved head) = Unit {0}
+ChangesNothing (ResponseStarted accepts head) = Unit {0}
+ChangesNothing HandshakeOver = Unit {0}
+ChangesNothing (OpeningStarted id session) = Unit {0}
+ChangesNothing (OpeningFailed id) = Unit {0}
+ChangesNothing Polled = Unit {0}
+ChangesNothing _ = ⊥
+
+module _ (side : Side) (log : Log) (taken : ℕ) (d : DriverValue) (f : Follows side d log taken) where
+  abbrev Asks : CallRecord → Type 0
+  Asks r = MayBeCalled side log d f.refines.stage r
+
+  opened : d.state.is_open ≡ (state_of side log).is_open
+  opened = ap (λ (s : DriverState). s.is_open) f.refines.state_is
+
+  behind : (r : CallRecord) (x : InboxState) (stage : ℕ → Stage) → inboxes.Refines side x (Called r ∷ log) stage (untaken_since taken log) → x.transport.is_open ≡ (state_of side log).is_open
+  behind r x stage s = open-is side (Called r ∷ log) (untaken_since taken log) x stage s ∙ open-says side log
+
+  kept : (r : CallRecord) → TellsNothing r → inboxes.Refines side d.inbox (Called r ∷ log) f.refines.stage (untaken_since taken log)
+  kept r n = inbox-kept side d.inbox log f.refines.stage (untaken_since taken log) r n f.refines.inbox
+
+  pub nothing-taken : (r : CallRecord) → ChangesNothing r → Asks r → TakenIn side log (Called r) d taken
+  nothing-taken (ConnectStarted reserved head) n a = call-taken side log taken d f (ConnectStarted reserved head) a d d.state.is_open (kept (ConnectStarted reserved head) tt) refl opened refl
+  nothing-taken (ResponseStarted accepts head) n a = call-taken side log taken d f (ResponseStarted accepts head) a d d.state.is_open (kept (ResponseStarted accepts head) tt) refl opened refl
+  nothing-taken HandshakeOver n a = call-taken side log taken d f HandshakeOver a d d.state.is_open (kept HandshakeOver tt) refl opened refl
+  nothing-taken (OpeningStarted id session) n a = call-taken side log taken d f (OpeningStarted id session) a d d.state.is_open (kept (OpeningStarted id session) tt) refl opened refl
+  nothing-taken (OpeningFailed id) n a = call-taken side log taken d f (OpeningFailed id) a d d.state.is_open (kept (OpeningFailed id) tt) refl opened refl
+  nothing-taken Polled n a = call-taken side log taken d f Polled a d d.state.is_open (kept Polled tt) refl opened refl
+  nothing-taken (RequestDelivered id) n a = absurd n
+  nothing-taken (SessionEstablished id at) n a = absurd n
+  nothing-taken (StreamAccepted id) n a = absurd n
+  nothing-taken (StreamPassed id) n a = absurd n
+  nothing-taken (BytesRead id count) n a = absurd n
+  nothing-taken (StreamGivenUp id) n a = absurd n
+  nothing-taken (ResetUnsent id code) n a = absurd n
+  nothing-taken (PrioritySet id priority) n a = absurd n
+  nothing-taken DatagramReceived n a = absurd n
+  nothing-taken DatagramPassed n a = absurd n
+
+  module _ (new : DriverValue) where
+    pub delivered-taken : (id : ℕ) → new ≡ with_state d (deliver id d.state) → Asks (RequestDelivered id) → TakenIn side log (Called (RequestDelivered id)) new taken
+    delivered-taken id e a = subst (λ (v : DriverValue). TakenIn side log (Called (RequestDelivered id)) v taken) (sym e)
+        (call-taken side log taken d f (RequestDelivered id) a (with_state d (deliver id d.state)) d.state.is_open (kept (RequestDelivered id) tt) refl opened refl)
+
+    pub established-taken : (id at : ℕ) → new ≡ with_state d (record d.state { session = Some (id, at) }) → Asks (SessionEstablished id at) → TakenIn side log (Called (SessionEstablished id at)) new taken
+    established-taken id at e a = subst (λ (v : DriverValue). TakenIn side log (Called (SessionEstablished id at)) v taken) (sym e)
+        (call-taken side log taken d f (SessionEstablished id at) a (with_state d (record d.state { session = Some (id, at) })) d.state.is_open (kept (SessionEstablished id at) tt) refl opened refl)
+
+    pub accepted-taken : (id : ℕ) → (IsAmong 4 id d.state.unis → IsAmong 1 id d.state.bis → new ≡ with_state d (release id d.state)) → Asks (StreamAccepted id) → TakenIn side log (Called (StreamAccepted id)) new taken
+    accepted-taken id e a = subst (λ (v : DriverValue). TakenIn side log (Called (StreamAccepted id)) v taken) (sym (e a.half.unis a.half.bis))
+        (call-taken side log taken d f (StreamAccepted id) a (with_state d (release id d.state)) d.state.is_open (kept (StreamAccepted id) tt) refl opened refl)
+
+    abbrev settled_value : DriverValue
+    settled_value = record d { state = record d.state { datagrams = suc d.state.datagrams }; queue = without_first d.queue }
+
+    pub received-taken : new ≡ record d { state = record d.state { datagrams = suc d.state.datagrams }; queue = without_first d.queue } → Asks DatagramReceived → TakenIn side log (Called DatagramReceived) new taken
+    received-taken e a = subst (λ (v : DriverValue). TakenIn side log (Called DatagramReceived) v taken) (sym e)
+        (call-taken side log taken d f DatagramReceived a settled_value d.state.is_open (kept DatagramReceived tt) (λ i. record d.state { datagrams = sym (add-one d.state.datagrams) i }) opened refl)
+
+    pub skipped-taken : new ≡ record d { state = record d.state { datagrams = suc d.state.datagrams }; queue = without_first d.queue } → Asks DatagramPassed → TakenIn side log (Called DatagramPassed) new taken
+    skipped-taken e a = subst (λ (v : DriverValue). TakenIn side log (Called DatagramPassed) v taken) (sym e)
+        (call-taken side log taken d f DatagramPassed a settled_value d.state.is_open (kept DatagramPassed tt) (λ i. record d.state { datagrams = sym (add-one d.state.datagrams) i }) opened refl)
+
+    pub passed-taken : (id : ℕ) → inboxes.Refines side new.inbox log (with_stage f.refines.stage id Anywhere) (untaken_since taken log)
+        → (IsAmong 4 id d.state.unis → IsAmong 1 id d.state.bis → new.state ≡ record (release id d.state) { is_open = new.inbox.transport.is_open }) → new.queue ≡ d.queue → Asks (StreamPassed id) → TakenIn side log (Called (StreamPassed id)) new taken
+    passed-taken id x s q a =
+        let y = inbox-kept side new.inbox log (with_stage f.refines.stage id Anywhere) (untaken_since taken log) (StreamPassed id) tt x in
+        call-taken side log taken d f (StreamPassed id) a new new.inbox.transport.is_open y (s a.half.unis a.half.bis) (behind (StreamPassed id) new.inbox (with_stage f.refines.stage id Anywhere) y) q
+
+    pub given-up-taken : (id : ℕ) → inboxes.Refines side new.inbox log (with_stage f.refines.stage id Anywhere) (untaken_since taken log)
+        → new.state ≡ record d.state { is_open = new.inbox.transport.is_open } → new.queue ≡ d.queue → Asks (StreamGivenUp id) → TakenIn side log (Called (StreamGivenUp id)) new taken
+    given-up-taken id x s q a =
+        let y = inbox-kept side new.inbox log (with_stage f.refines.stage id Anywhere) (untaken_since taken log) (StreamGivenUp id) tt x in
+        call-taken side log taken d f (StreamGivenUp id) a new new.inbox.transport.is_open y s (behind (StreamGivenUp id) new.inbox (with_stage f.refines.stage id Anywhere) y) q
+
+    pub read-taken : (id count : ℕ)
+        → ((offset : ℕ) → body_offset (f.refines.stage id) ≡ Some offset → count ≤ length (drop offset (contents log id)) → inboxes.Refines side new.inbox log (with_stage f.refines.stage id (Body (offset + count))) (untaken_since taken log))
+        → new.state ≡ record d.state { is_open = new.inbox.transport.is_open } → new.queue ≡ d.queue → Asks (BytesRead id count) → TakenIn side log (Called (BytesRead id count)) new taken
+    read-taken id count x s q a =
+        let at = halves.body_offset (verdict_of id (stream_table side log).classified) + halves.total_read id (calls_of log) in
+        let e : body_offset (f.refines.stage id) ≡ Some at = read-staged side log f.refines.stage id f.refines.fits f.refines.uses f.refines.staged a.half in
+        let z = x at e a.can.1 in
+        let w = subst (λ (o : Option ℕ). inboxes.Refines side new.inbox log (with_stage f.refines.stage id (stage_from (read_on count o))) (untaken_since taken log)) (sym e) z in
+        let y = inbox-kept side new.inbox log (called_stages (BytesRead id count) f.refines.stage) (untaken_since taken log) (BytesRead id count) tt w in
+        call-taken side log taken d f (BytesRead id count) a new new.inbox.transport.is_open y s (behind (BytesRead id count) new.inbox (called_stages (BytesRead id count) f.refines.stage) y) q
+
+    pub told-taken : (r : CallRecord) → after_call r d.state ≡ d.state → called_queue r d.queue ≡ d.queue → called_stages r f.refines.stage ≡ f.refines.stage → inboxes.Refines side new.inbox (Called r ∷ log) f.refines.stage (untaken_since taken log)
+        → new.state ≡ record d.state { is_open = new.inbox.transport.is_open } → new.queue ≡ d.queue → Asks r → TakenIn side log (Called r) new taken
+    told-taken r same same_queue same_stages x s q a =
+        call-taken side log taken d f r a new new.inbox.transport.is_open (subst (λ (z : ℕ → Stage). inboxes.Refines side new.inbox (Called r ∷ log) z (untaken_since taken log)) (sym same_stages) x)
+        (s ∙ (λ i. record (sym same i) { is_open = new.inbox.transport.is_open })) (behind r new.inbox f.refines.stage x) (q ∙ sym same_queue)
+
+-- a call of which the driver keeps nothing is any other one
+pub no-other : (call : Record) → ((id : ℕ) → call ≡ records.RequestDelivered id → ⊥) → ((id at : ℕ) → call ≡ records.SessionEstablished id at → ⊥) → ((id : ℕ) → call ≡ records.StreamAccepted id → ⊥)
+    → ((id : ℕ) → call ≡ records.StreamPassed id → ⊥) → ((id count : ℕ) → call ≡ records.BytesRead id count → ⊥) → ((id : ℕ) → call ≡ records.StreamGivenUp id → ⊥) → ((id code : ℕ) → call ≡ records.ResetUnsent id code → ⊥)
+    → ((id : ℕ) (p : ℤ) → call ≡ records.PrioritySet id p → ⊥) → (call ≡ records.DatagramReceived → ⊥) → (call ≡ records.DatagramPassed → ⊥) → ChangesNothing (record_of call)
+no-other (records.RequestDelivered id) a b c d e f g h i j = a id refl
+no-other (records.SessionEstablished id at) a b c d e f g h i j = b id at refl
+no-other (records.StreamAccepted id) a b c d e f g h i j = c id refl
+no-other (records.StreamPassed id) a b c d e f g h i j = d id refl
+no-other (records.BytesRead id count) a b c d e f g h i j = e id count refl
+no-other (records.StreamGivenUp id) a b c d e f g h i j = f id refl
+no-other (records.ResetUnsent id code) a b c d e f g h i j = g id code refl
+no-other (records.PrioritySet id p) a b c d e f g h i j = h id p refl
+no-other records.DatagramReceived a b c d e f g h i j = i refl
+no-other records.DatagramPassed a b c d e f g h i j = j refl
+no-other (records.ConnectStarted reserved head) a b c d e f g h i j = tt
+no-other (records.ResponseStarted accepts head) a b c d e f g h i j = tt
+no-other records.HandshakeOver a b c d e f g h i j = tt
+no-other (records.OpeningStarted id session) a b c d e f g h i j = tt
+no-other (records.OpeningFailed id) a b c d e f g h i j = tt
+no-other records.Polled a b c d e f g h i j = tt
+
+-- what is shown of a record's shape holds of the record
+pub of-shape : (side : Side) (log : Log) (taken : ℕ) (d : DriverValue) (stage : ℕ → Stage) (new : DriverValue) (call shape : Record) → call ≡ shape
+    → (MayBeCalled side log d stage (record_of shape) → TakenIn side log (Called (record_of shape)) new taken) → MayBeCalled side log d stage (record_of call) → TakenIn side log (Called (record_of call)) new taken
+of-shape side log taken d stage new call shape e g = subst (λ (x : Record). MayBeCalled side log d stage (record_of x) → TakenIn side log (Called (record_of x)) new taken) (sym e) g
