@@ -5,3 +5,6 @@ pub mod Responses
 pub mod Requests
 pub mod Uses
 pub mod Noted
+pub mod LawfulLogs
+pub mod FactsSame
+pub mod PlansSame

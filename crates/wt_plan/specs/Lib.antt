@@ -3,3 +3,4 @@ pub mod Planned
 pub mod FactsNow
 pub mod Heads
 pub mod Table
+pub mod Tells

@@ -1,0 +1,40 @@
+//! Calls are planned by what is kept as they are by the log: functions with empty bodies, whose contracts are the laws.
+ghost use Rattle.std.specs.Prelude.{◌≡◌, true, ℕ};
+ghost use Rattle.wt_laws.specs.Reachable.{IsReachable};
+ghost use Rattle.wt_plan.specs.FactsNow.{DriverFacts, facts_now};
+ghost use Rattle.wt_plan.specs.Table.{KeepsCalls, TableValue};
+ghost use Rattle.wt_plan.specs.Tells.{LogTells, TellsFacts, session_now};
+ghost use Rattle.wt_seam.specs.State.{TransportState};
+ghost use Rattle.wt_seam.specs.Step.{can_receive_now, can_send_now, unread_now};
+ghost use Rattle.wt_session_spec.specs.CallFacts.{facts_of};
+ghost use Rattle.wt_session_spec.specs.Plan.{perform};
+ghost use Rattle.wt_session_spec.specs.Plans.{may_call_now, plan_of};
+ghost use Rattle.wt_session_spec.specs.SessionState.{session_state};
+ghost use Rattle.wt_spec.specs.Answers.{call_effect, may_call};
+ghost use Rattle.wt_spec.specs.Halves.{has_receiving_half, has_sending_half, unread};
+ghost use Rattle.wt_turn.specs.Log.{Log, calls_of};
+ghost use Rattle.wt_turn.specs.declared.call.Call.{Call};
+ghost use Rattle.wt_wire.specs.declared.side.Side.{Side};
+
+/// Datagrams are told of from the connection on, and a stream whose half the application has was opened.
+#[tactic(auto, using(crate::proofs::LawfulLogs::log_tells))]
+pub fn lawful_logs_tell()
+    ensures { (side : Side) (log : Log) → IsReachable side log → LogTells side log }
+{
+}
+
+/// A stream whose half the application has is there, and what of it is unread is kept.
+pub fn given_streams_are_kept()
+    ensures sending { (side : Side) (log : Log) (t : TransportState) (d : DriverFacts) → TellsFacts side log t d → (k : ℕ) → has_sending_half side log k ≡ true → can_send_now t k ≡ true }
+    ensures receiving { (side : Side) (log : Log) (t : TransportState) (d : DriverFacts) → TellsFacts side log t d → (k : ℕ) → has_receiving_half side log k ≡ true → can_receive_now t k ≡ true }
+    ensures unread { (side : Side) (log : Log) (t : TransportState) (d : DriverFacts) → TellsFacts side log t d → (k : ℕ) → has_receiving_half side log k ≡ true → unread_now t k ≡ unread side log k }
+{
+}
+
+/// The plan of each call by what is kept is that by the log, leads to what the call does, and comes where the call may.
+pub fn calls_are_planned_by_what_is_kept()
+    ensures plan { (side : Side) (log : Log) (t : TransportState) (d : DriverFacts) → TellsFacts side log t d → (s : TableValue) → KeepsCalls s (calls_of log) → (call : Call) → plan_of (facts_now t d) (session_now s) call ≡ plan_of (facts_of side log) (session_state log) call }
+    ensures effect { (side : Side) (log : Log) (t : TransportState) (d : DriverFacts) → TellsFacts side log t d → (s : TableValue) → KeepsCalls s (calls_of log) → (call : Call) → call_effect side log call ≡ perform side log (plan_of (facts_now t d) (session_now s) call) }
+    ensures may { (side : Side) (log : Log) (t : TransportState) (d : DriverFacts) → TellsFacts side log t d → (s : TableValue) → KeepsCalls s (calls_of log) → (call : Call) → may_call_now (facts_now t d) (session_now s) call ≡ may_call side log call }
+{
+}
