@@ -1,3 +1,13 @@
 pub mod BiChannel
 pub mod Poll
 pub mod SharedResult
+pub mod Places
+pub mod Found
+pub mod Rules
+pub mod Records
+pub mod Scanning
+pub mod Stages
+pub mod Moving
+pub mod Flushing
+pub mod DriverValue
+pub mod Results

@@ -74,7 +74,7 @@ untouched-called side log (StreamPassed id) may un = record { released = untouch
 untouched-called side log (RequestDelivered id) may un = record { released = un.released; delivered = untouched-delivering side log id may un }
 untouched-called side log _ may un = record { released = un.released; delivered = un.delivered }
 
-untouched-entry : (side : Side) (log : Log) (m : Entry) → MayFollow side log m → Untouched (is_local side) (call_view log) (stream_table side log) → Untouched (is_local side) (call_view (m ∷ log)) (stream_table side log)
+pub untouched-entry : (side : Side) (log : Log) (m : Entry) → MayFollow side log m → Untouched (is_local side) (call_view log) (stream_table side log) → Untouched (is_local side) (call_view (m ∷ log)) (stream_table side log)
 untouched-entry side log (Called d) may un = untouched-called side log d may un
 untouched-entry side log _ may un = record { released = un.released; delivered = un.delivered }
 
@@ -315,7 +315,7 @@ sent-control side log a = λ i. record {
   sent = sent-more (local_uni side) a (sent_on (actions_of log) (local_uni side)) i;
 }
 
-abbrev before_scan : Side → Log → Entry → DriverState
+abbrev pub before_scan : Side → Log → Entry → DriverState
 before_scan side log m = state_by (transport_view side (m ∷ log)) (call_view (m ∷ log)) (control_sent side (m ∷ log)) (is_open (m ∷ log)) (stream_table side log)
 
 abbrev held : Side → Log → DriverState
@@ -332,7 +332,7 @@ called-in side log (StreamPassed id) may = state-releasing (transport_view side 
 called-in side log (RequestDelivered id) may = state-delivering (transport_view side log) (call_view log) (control_sent side log) (is_open log) (stream_table side log) id
 called-in side log _ may = refl
 
-taken-in : (side : Side) (log : Log) (m : Entry) → MayFollow side log m → Sound side log → before_scan side log m ≡ after_entry (transport_view side log) m (held side log)
+pub taken-in : (side : Side) (log : Log) (m : Entry) → MayFollow side log m → Sound side log → before_scan side log m ≡ after_entry (transport_view side log) m (held side log)
 taken-in side log (Reported e) may s = reported-in side log e s
 taken-in side log (Called d) may s = called-in side log d may
 taken-in side log (Sent a) may s = λ i. state_by (transport_view side log) (call_view log) (sent-control side log a i) (open-more (Sent a) log i) (stream_table side log)

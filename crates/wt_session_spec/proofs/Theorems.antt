@@ -4,7 +4,7 @@ use Rattle.std.proofs.Common.{refl}
 use Rattle.wt_message.specs.FixedBytes.{response_bytes}
 use Rattle.wt_seam_spec.specs.Reports.{datagram_fact}
 use Rattle.wt_seam_spec.specs.Streams.{local_bi, local_uni, peer_bi, peer_uni}
-use Rattle.wt_turn.specs.Log.{CallRecord, Entry, Log, calls_of, events_of, record_in}
+use Rattle.wt_turn.specs.Log.{CallRecord, Entry, Log, record_in, calls_of, events_of}
 use Rattle.wt_turn.specs.declared.action.Action.{Action}
 use Rattle.wt_turn.specs.declared.call.Call.{Call}
 use Rattle.wt_wire.specs.declared.side.Side.{Side}

@@ -2,7 +2,7 @@
 use Rattle.std.specs.Prelude.{[], ◌&&◌, ◌==◌, ◌||◌, ◌∷◌, ◌≡◌, Bool, List, None, false, not, true, ℕ}
 use Rattle.std.specs.List.{list_any}
 use Rattle.std.proofs.Common.{◌∙◌, ap, refl}
-use Rattle.wt_turn.specs.Log.{CallRecord, Called, Entry, Log, OpeningFailed, OpeningStarted, Polled, Received, Reported, ReportedLate, Sent, StreamAccepted, calls_of, is_open, record_in, with_actions}
+use Rattle.wt_turn.specs.Log.{CallRecord, Called, Entry, Log, OpeningFailed, OpeningStarted, Polled, Received, Reported, ReportedLate, Sent, StreamAccepted, record_in, calls_of, is_open, with_actions}
 use Rattle.wt_turn.specs.declared.action.Action.{Action}
 use Rattle.wt_wire.specs.declared.side.Side.{Side}
 use Rattle.wt_spec.specs.Connection.{accepts_stream, ends_opening, is_opening, starts_opening}

@@ -1,0 +1,211 @@
+-- What stages that fit a log say where the code reads.
+use Rattle.std.proofs.Common.{arith, ◌≡◌, ◌<◌, ℕ, ◌+◌, ◌%◌, Bool, true, false, cond, List, [], ◌∷◌, ◌++◌, ◌⊎◌, inl, inr, refl, sym, ap, subst, ◌∙◌}
+use Rattle.std.specs.Prelude.{Option, Some, None, ◌==◌, ◌||◌, ◌&&◌, not, if◌then◌else◌}
+use Rattle.std.specs.List.{list_any}
+use Rattle.std.proofs.lemmas.Bool.{and_parts, eq-eqb, eqb-true, false_from_ne_true, or_parts, true≢false}
+use Rattle.wt_driver.proofs.StageScans.{AreOf, none-found, verdict-found}
+use Rattle.std.proofs.lemmas.Bool.Decides.{nat_tests}
+use Rattle.wt_driver.proofs.StageTables.{entry-found, is-own, use-session}
+use Rattle.wt_driver.specs.Scanning.{AllAwait}
+use Rattle.wt_driver.specs.Stages.{ClassifiedSays, FirstSays, OfLocalBi, OfLocalUni, StageSays, StagesFit, StreamRole, TableFits, Uses, classified_of, is_sessions, may_give, passes, peer_role, role_by, role_of, use_of}
+use Rattle.wt_driver.specs.declared.slot.Half.{Half}
+use Rattle.wt_driver.specs.declared.slot.Half.TheVariants.{Bi, Uni}
+use Rattle.wt_driver_spec.proofs.Following.{sound}
+use Rattle.wt_driver_spec.proofs.StreamIds.{bi-low, kind-is, uni-low}
+use Rattle.wt_driver_spec.specs.DriverState.{Arrived, Dequeued, Held, slot_by, slots}
+use Rattle.wt_driver_spec.specs.Moment.{Fits}
+use Rattle.wt_inbox.specs.Stage.{Stage, awaits_response, body_offset}
+use Rattle.wt_proto.specs.declared.verdict.Verdict.{Verdict}
+use Rattle.wt_proto.specs.declared.verdict.Verdict.TheVariants as verdicts
+use Rattle.wt_seam_spec.specs.Streams.{local_uni, peer_bi, peer_count, peer_uni}
+use Rattle.wt_spec.specs.Driver.{established, stream_table, transport_view}
+use Rattle.wt_spec.specs.Halves.{bytes_read, gives_up, has_receiving_half, is_accepted, total_read}
+use Rattle.wt_spec.specs.Halves as halves
+use Rattle.wt_spec.specs.Handshake.{Connecting, handshake_state}
+use Rattle.wt_spec.specs.Scan.{bi_ids, has, is_released, uni_ids}
+use Rattle.wt_spec.specs.StreamTable.{CallView, Classified, StreamTable, is_webtransport, verdict_of}
+use Rattle.wt_turn.specs.Log.{BytesRead, CallRecord, Called, ConnectStarted, Entry, HandshakeOver, Log, RequestDelivered, ResponseStarted, SessionEstablished, StreamAccepted, StreamGivenUp, StreamPassed, calls_of, events_of}
+use Rattle.wt_wire.specs.declared.side.Side.{Side}
+use Rattle.wt_wire.specs.declared.side.Side.TheVariants.{Client, Server}
+
+-- ---- a scan can read the headers
+
+-- the headers of the streams in these slots can be read
+pub slots-await : (side : Side) (calls : List CallRecord) (half : Half) (d : CallView) (table : StreamTable) (stage : ℕ → Stage) (ks : List ℕ) → AreOf side half ks → TableFits side calls table stage → AllAwait half stage (slots d table ks)
+slots-await side calls half d table stage [] kinds f = tt
+slots-await side calls half d table stage (k ∷ ks) kinds f = by (classified_of k table.classified) refl (slots-await side calls half d table stage ks kinds.1 f)
+  where
+    first : (half : Half) (role : StreamRole) → role ≡ peer_role half → FirstSays role (use_of k calls) table.progress.ending (stage k) → (dequeued : Bool) → AllAwait half stage (slots d table ks)
+        → AllAwait half stage (record { id = k; place = cond dequeued Dequeued Arrived } ∷ slots d table ks)
+    first Uni role e f true rest = ((rw e at f).0, rest)
+    first Uni role e f false rest = ((rw e at f).0, rest)
+    first Bi role e f true rest = ((rw e at f).0, rest)
+    first Bi role e f false rest = ((rw e at f).0, rest)
+
+    held : (b : Bool) → AllAwait half stage (slots d table ks) → AllAwait half stage (cond b [] (record { id = k; place = Held } ∷ []) ++ slots d table ks)
+    held true rest = rest
+    held false rest = (tt, rest)
+
+    by : (o : Option Classified) → classified_of k table.classified ≡ o → AllAwait half stage (slots d table ks) → AllAwait half stage (slot_by k (d.released k) (has k table.dequeued) (verdict_of k table.classified) ++ slots d table ks)
+    by None e rest = rw (verdict-found k table.classified, e) (first half (role_of side k) kinds.0 (subst (λ (o : Option Classified). StageSays (role_of side k) (use_of k calls) table.progress.ending o (stage k)) e (f k)) (has k table.dequeued) rest)
+    by (Some c) e rest = rw (verdict-found k table.classified, e) (held (is_released (d.released k) c.verdict) rest)
+
+-- ---- what the calls did
+
+pub use-read : (k : ℕ) (calls : List CallRecord) → (use_of k calls).read ≡ total_read k calls
+use-read k [] = refl
+use-read k (BytesRead id count ∷ calls) = by (id == k) (use-read k calls)
+  where
+    by : (b : Bool) → (use_of k calls).read ≡ total_read k calls → (if b then count + (use_of k calls).read else (use_of k calls).read) ≡ (if b then count else 0) + total_read k calls
+    by true e = ap (λ n. count + n) e
+    by false e = omega arith
+use-read k (r ∷ calls) = let e = use-read k calls in omega arith
+
+-- a stream that was neither passed nor given up isn't dropped
+pub use-kept : (k : ℕ) (calls : List CallRecord) → list_any (gives_up k) calls ≡ false → list_any (passes k) calls ≡ false → (use_of k calls).is_dropped ≡ false
+use-kept k [] e f = refl
+use-kept k (StreamGivenUp id ∷ calls) e f = let parts = or_parts (id == k) (list_any (gives_up k) calls) e in rw (parts.0, use-kept k calls parts.1 f) refl
+use-kept k (StreamPassed id ∷ calls) e f = let parts = or_parts (id == k) (list_any (passes k) calls) f in rw (parts.0, use-kept k calls e parts.1) refl
+use-kept k (_ ∷ calls) e f = use-kept k calls e f
+
+-- ---- streams that the application was given
+
+-- it is this end's own, or classified as a session's, and wasn't passed
+pub record IsGiven (side : Side) (log : Log) (k : ℕ) : Type 0 where
+  pub stream : (may_give (role_of side k) None ≡ true) ⊎ (is_sessions (classified_of k (stream_table side log).classified) ≡ true)
+  pub kept : list_any (passes k) (calls_of log) ≡ false
+
+-- that stays so, where the entry doesn't pass the stream
+given-stays : (side : Side) (log : Log) (m : Entry) (k : ℕ) → list_any (passes k) (calls_of (m ∷ log)) ≡ false → IsGiven side log k → IsGiven side (m ∷ log) k
+given-stays side log m k kept g = record { stream = by g.stream; kept = kept }
+  where
+    found : (o : Option Classified) → classified_of k (stream_table side log).classified ≡ o → is_sessions o ≡ true → is_sessions (classified_of k (stream_table side (m ∷ log)).classified) ≡ true
+    found None e f = absurd cc
+    found (Some c) e f = ap is_sessions (entry-found side log m k c e) ∙ f
+
+    by : (may_give (role_of side k) None ≡ true) ⊎ (is_sessions (classified_of k (stream_table side log).classified) ≡ true)
+        → (may_give (role_of side k) None ≡ true) ⊎ (is_sessions (classified_of k (stream_table side (m ∷ log)).classified) ≡ true)
+    by (inl e) = inl e
+    by (inr e) = inr (found (classified_of k (stream_table side log).classified) refl e)
+
+given-now : (role : StreamRole) (o : Option Classified) → may_give role o ≡ true → (may_give role None ≡ true) ⊎ (is_sessions o ≡ true)
+given-now role None e = inl e
+given-now OfLocalUni (Some c) e = inr e
+given-now _ (Some c) e = inr e
+
+pub accepted-given : (side : Side) (log : Log) (k : ℕ) → Uses side log → is_accepted log k ≡ true → IsGiven side log k
+accepted-given side [] k uses e = absurd cc
+accepted-given side (Called (StreamAccepted id) ∷ log) k uses e = by (id == k) refl e (λ f. accepted-given side log k uses.1 f)
+  where
+    m : Entry
+    m = Called (StreamAccepted id)
+
+    here : IsGiven side log id
+    here = record { stream = given-now (role_of side id) (classified_of id (stream_table side log).classified) uses.0.0; kept = uses.0.1 }
+
+    by : (b : Bool) → (id == k) ≡ b → (b || is_accepted log k) ≡ true → (is_accepted log k ≡ true → IsGiven side log k) → IsGiven side (m ∷ log) k
+    by true f g again = let x = subst (IsGiven side log) (eqb-true id k f) here in given-stays side log m k x.kept x
+    by false f g again = let x = again g in given-stays side log m k x.kept x
+accepted-given side (Called (StreamPassed id) ∷ log) k uses e = by (id == k) refl (accepted-given side log k uses.1 e)
+  where
+    m : Entry
+    m = Called (StreamPassed id)
+
+    by : (b : Bool) → (id == k) ≡ b → IsGiven side log k → IsGiven side (m ∷ log) k
+    by true f x = absurd (true≢false (sym e ∙ (ap (is_accepted log) (sym (eqb-true id k f)) ∙ uses.0.1)))
+    by false f x = given-stays side log m k (rw f x.kept) x
+accepted-given side (Called r ∷ log) k uses e = let x = accepted-given side log k uses.1 e in given-stays side log (Called r) k x.kept x
+accepted-given side (m ∷ log) k uses e = let x = accepted-given side log k uses.1 e in given-stays side log m k x.kept x
+
+-- ---- this end's streams aren't classified
+
+local-kind : (a b c d : Bool) → may_give (role_by a b c d) None ≡ true → (a ≡ false) × (b ≡ false)
+local-kind true b c d e = absurd cc
+local-kind false true c d e = absurd cc
+local-kind false false c d e = (refl, refl)
+
+pub own-unclassified : (side : Side) (log : Log) (k : ℕ) → Fits side log → may_give (role_of side k) None ≡ true → classified_of k (stream_table side log).classified ≡ None
+own-unclassified side log k fits e =
+    let kinds = local-kind (k % 4 == peer_uni side) (k % 4 == peer_bi side) _ _ e in
+    none-found k (stream_table side log).classified ((sound side log fits).within.classified k
+    (false_from_ne_true (has k (uni_ids (transport_view side log))) (λ f. true≢false (sym (eq-eqb (k % 4) (peer_uni side) (kind-is (peer_uni side) 0 (peer_count side (events_of log) (peer_uni side)) k (uni-low side) f)) ∙ kinds.0)))
+    (false_from_ne_true (has k (bi_ids (transport_view side log))) (λ f. true≢false (sym (eq-eqb (k % 4) (peer_bi side) (kind-is (peer_bi side) 0 (peer_count side (events_of log) (peer_bi side)) k (bi-low side) f)) ∙ kinds.1))))
+
+four : (n : ℕ) → n < 4 → (n == 3) ≡ false → (n == 1) ≡ false → (n == 0) ≡ false → (n == 2) ≡ false → ⊥
+four n lt a b c d = grind (arith, nat_tests)
+
+local-bi : (a b c d : Bool) → may_give (role_by a b c d) None ≡ true → (d ≡ false → ⊥) → role_by a b c d ≡ OfLocalBi
+local-bi true b c d e f = absurd cc
+local-bi false true c d e f = absurd cc
+local-bi false false true d e f = absurd cc
+local-bi false false false true e f = refl
+local-bi false false false false e f = absurd (f refl)
+
+-- this end's stream on which both ends send, where it isn't a client's request
+pub local-bi-role : (side : Side) (k : ℕ) → may_give (role_of side k) None ≡ true → (k % 4 == local_uni side) ≡ false → role_of side k ≡ OfLocalBi
+local-bi-role Client k e other =
+    let kinds = local-kind (k % 4 == 3) (k % 4 == 1) _ _ e in
+    local-bi (k % 4 == 3) (k % 4 == 1) (k == 0) (k % 4 == 0) e (λ f. four (k % 4) (omega arith) kinds.0 kinds.1 f other)
+local-bi-role Server k e other =
+    let kinds = local-kind (k % 4 == 2) (k % 4 == 0) _ _ e in
+    local-bi (k % 4 == 2) (k % 4 == 0) false (k % 4 == 1) e (λ f. four (k % 4) (omega arith) other f kinds.1 kinds.0)
+
+-- ---- reads
+
+-- the application reads a stream from behind its header on, and what it read before
+pub read-staged : (side : Side) (log : Log) (stage : ℕ → Stage) (k : ℕ) → Fits side log → Uses side log → StagesFit side log stage → has_receiving_half side log k ≡ true
+    → body_offset (stage k) ≡ Some (halves.body_offset (verdict_of k (stream_table side log).classified) + total_read k (calls_of log))
+read-staged side log stage k fits uses f half =
+    let parts = and_parts (is_accepted log k && not (k % 4 == local_uni side)) (not (list_any (gives_up k) (calls_of log))) half in
+    let first = and_parts (is_accepted log k) (not (k % 4 == local_uni side)) parts.0 in
+    let given = accepted-given side log k uses first.0 in
+    let kept = use-kept k (calls_of log) (not-so (list_any (gives_up k) (calls_of log)) parts.1) given.kept in
+    by kept (not-so (k % 4 == local_uni side) first.1) given.stream
+  where
+    not-so : (b : Bool) → not b ≡ true → b ≡ false
+    not-so true e = absurd cc
+    not-so false e = refl
+
+    cs : List Classified
+    cs = (stream_table side log).classified
+
+    says : (o : Option Classified) → classified_of k cs ≡ o → StageSays (role_of side k) (use_of k (calls_of log)) (stream_table side log).progress.ending o (stage k)
+    says o e = subst (λ (o : Option Classified). StageSays (role_of side k) (use_of k (calls_of log)) (stream_table side log).progress.ending o (stage k)) e (f k)
+
+    local : (role : StreamRole) → role ≡ OfLocalBi → FirstSays role (use_of k (calls_of log)) (stream_table side log).progress.ending (stage k) → (use_of k (calls_of log)).is_dropped ≡ false → body_offset (stage k) ≡ Some (0 + total_read k (calls_of log))
+    local role e g kept = (rw e at g) kept ∙ ap (λ n. Some (0 + n)) (use-read k (calls_of log))
+
+    named : (surplus : Bool) (v : Verdict) → is_webtransport v ≡ true → ClassifiedSays surplus v (use_of k (calls_of log)) (stream_table side log).progress.ending (stage k) → (use_of k (calls_of log)).is_dropped ≡ false
+        → body_offset (stage k) ≡ Some (halves.body_offset (Some v) + total_read k (calls_of log))
+    named surplus (verdicts.WebTransport session at) e g kept = g kept ∙ ap (λ n. Some (at + n)) (use-read k (calls_of log))
+    named surplus _ e g kept = absurd cc
+
+    found : (o : Option Classified) → classified_of k cs ≡ o → is_sessions o ≡ true → (use_of k (calls_of log)).is_dropped ≡ false → body_offset (stage k) ≡ Some (halves.body_offset (verdict_of k cs) + total_read k (calls_of log))
+    found None e g kept = absurd cc
+    found (Some c) e g kept = rw (verdict-found k cs, e) (named c.surplus c.verdict g (says (Some c) e) kept)
+
+    by : (use_of k (calls_of log)).is_dropped ≡ false → (k % 4 == local_uni side) ≡ false → (may_give (role_of side k) None ≡ true) ⊎ (is_sessions (classified_of k cs) ≡ true)
+        → body_offset (stage k) ≡ Some (halves.body_offset (verdict_of k cs) + total_read k (calls_of log))
+    by kept other (inl e) =
+        let none = own-unclassified side log k fits e in
+        rw (verdict-found k cs, none) (local (role_of side k) (local-bi-role side k e other) (says None none) kept)
+    by kept other (inr e) = found (classified_of k cs) refl e kept
+
+-- ---- a client's response
+
+-- a client that connects can read the response
+connecting : (log : Log) (reserved : Option (List ℕ)) (head : List ℕ) → Uses Client log → handshake_state (calls_of log) ≡ Connecting reserved head → (established (calls_of log) ≡ None) × ((use_of 0 (calls_of log)).is_over ≡ false)
+connecting [] reserved head uses e = absurd cc
+connecting (Called (ConnectStarted r h) ∷ log) reserved head uses e = (uses.0.1, uses.0.2)
+connecting (Called (RequestDelivered id) ∷ log) reserved head uses e = absurd cc
+connecting (Called (ResponseStarted accepts h) ∷ log) reserved head uses e = absurd cc
+connecting (Called (SessionEstablished id at) ∷ log) reserved head uses e = absurd cc
+connecting (Called HandshakeOver ∷ log) reserved head uses e = absurd cc
+connecting (Called _ ∷ log) reserved head uses e = connecting log reserved head uses.1 e
+connecting (_ ∷ log) reserved head uses e = connecting log reserved head uses.1 e
+
+pub response-staged : (log : Log) (stage : ℕ → Stage) (reserved : Option (List ℕ)) (head : List ℕ) → Fits Client log → Uses Client log → StagesFit Client log stage → handshake_state (calls_of log) ≡ Connecting reserved head
+    → awaits_response (stage 0) ≡ true
+response-staged log stage reserved head fits uses f e =
+    let c = connecting log reserved head uses e in
+    (rw (is-own Client log fits, use-session 0 (calls_of log) ∙ c.0, c.1) at (f 0))

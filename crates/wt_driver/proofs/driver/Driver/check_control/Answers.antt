@@ -1,0 +1,26 @@
+use Rattle.std.proofs.Common.{◌≡◌, ℕ, refl, sym, subst, ◌∙◌}
+use Rattle.std.specs.Prelude.{Option}
+use Rattle.std.proofs.lemmas.Bool.{true≢false}
+use Rattle.wt_driver.proofs.Moved.{ended-moves, open-moves}
+use Rattle.wt_driver.specs.Moving.{Moves, WalkFrom}
+use Rattle.wt_driver.specs.Stages.{control_stages}
+use Rattle.wt_inbox.specs.Stage.{control_offset}
+use Rattle.wt_spec.specs.Driver.{transport_view}
+use Rattle.wt_spec.specs.Scan.{check_control}
+use Rattle.wt_driver.proofs.driver.Driver.check_control.Goals as goal
+
+pub returns-in_ok-walk_control : goal.returns-in_ok-walk_control
+returns-in_ok-walk_control c = record {
+  log = λ side log stage untaken r w.
+      let d = c.args.self.now in
+      let m = c.in_ok-walk_control.ensures.log side log stage untaken r (subst (WalkFrom control_offset stage) (sym c.control-control.ensures) w) in
+      open-moves side log untaken d.state.progress.ending d c.walk_control.new.self stage (control_stages d.state.dispatched.control stage) (check_control (transport_view side log) d.state.dispatched.control) (c.goes_on-goes_on.ensures.0 c.if-goes_on.true)
+      (subst (λ (z : Option (ℕ × ℕ)). Moves side log untaken d c.walk_control.new.self (control_stages z stage) (record d.state { progress = check_control (transport_view side log) z d.state.progress })) c.control-control.ensures m);
+}
+
+pub returns-else-goes_on : goal.returns-else-goes_on
+returns-else-goes_on c = record {
+  log = λ side log stage untaken r w.
+      let d = c.args.self.now in
+      ended-moves side log untaken d.state.progress.ending d stage (control_stages d.state.dispatched.control stage) (check_control (transport_view side log) d.state.dispatched.control) (λ none. true≢false (sym (c.goes_on-goes_on.ensures.1 none) ∙ c.if-goes_on.false)) r;
+}

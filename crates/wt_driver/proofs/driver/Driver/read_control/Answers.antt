@@ -1,0 +1,14 @@
+use Rattle.std.proofs.Common.{◌≡◌, refl, sym, ap, ◌∙◌}
+use Rattle.wt_driver.proofs.Moved.{noted}
+use Rattle.wt_inbox.specs.Stage.{ControlBody, with_stage}
+use Rattle.wt_proto.specs.declared.control_walk.ControlWalk.{ControlWalk}
+use Rattle.wt_spec.specs.Scan.{control_read}
+use Rattle.wt_driver.proofs.driver.Driver.read_control.Goals as goal
+
+pub returns-in-Ok : goal.returns-in-Ok
+returns-in-Ok c = rw (← c.self.view_is) (record {
+  log = λ side log stage untaken at r e.
+      noted side log untaken _ c.note_control.new.self c.control_walk.new.self stage (with_stage stage c.args.id (ControlBody at)) _ _ r (c.in-Ok.ensures.log side log stage untaken r at e) refl
+      c.note_control.ensures.inbox c.note_control.ensures.state c.note_control.ensures.queue
+      (ap (λ (w : ControlWalk). control_read w c.self.inside.progress) (c.in-Ok.ensures.log_answer side log stage untaken r at e));
+})

@@ -1,0 +1,13 @@
+use Rattle.std.proofs.Common.{arith, ◌<◌, ◌≡◌, length, ◌∙◌}
+use Rattle.std.proofs.lemmas.Grind.{common_steps}
+use Rattle.wt_driver.proofs.Removing.{slot-absent-is, slot-removed-is}
+use Rattle.wt_driver.proofs.driver.accepts.remove_slot.Goals as goal
+
+pub returns-then-eq : goal.returns-then-eq
+returns-then-eq c = λ m.
+    let lt : c.loop-at.at < length c.loop-at.slots.items = grind (arith, common_steps) in
+    let same : c.index-slot.result.now.id ≡ c.args.id = grind (arith, common_steps) in
+    c.remove_at.ensures ∙ slot-removed-is c.args.id c.args.most c.loop-at.at c.loop-at.slots.items c.args.slots.now.items c.index-slot.result.now c.loop-at.invariant.same c.loop-at.invariant.far lt c.index-slot.ensures same m
+
+pub returns-after-loop-at : goal.returns-after-loop-at
+returns-after-loop-at c = λ m. slot-absent-is c.args.id c.args.most c.loop-at.at c.loop-at.slots.items c.args.slots.now.items c.loop-at.invariant.same c.loop-at.invariant.far c.loop-at-test.false m

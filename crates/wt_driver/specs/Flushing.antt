@@ -1,0 +1,91 @@
+-- What goes out at a moment and for a call, and under which conditions it may.
+use Rattle.std.specs.Prelude.{◌==◌, ◌≡◌, [], ◌∷◌, Bool, List, None, Option, Some, false, if◌then◌else◌, is_some, length, true, ℕ}
+use Rattle.wt_driver_spec.specs.AtOnce.{control_flushed}
+use Rattle.wt_inbox.specs.Stage.{Refines, Stage}
+use Rattle.wt_inbox.specs.State.{InboxState}
+use Rattle.wt_seam_spec.specs.Joined.{newest_first}
+use Rattle.wt_seam_spec.specs.Outgoing.{may_send, opened_id, sending}
+use Rattle.wt_seam_spec.specs.Reports.{stop_of}
+use Rattle.wt_seam_spec.specs.Sent.{is_finished, is_reset}
+use Rattle.wt_seam_spec.specs.Streams.{can_receive, can_send, local_bi, local_uni}
+use Rattle.wt_spec.specs.Driver.{ControlSent, actions_after, control_actions, control_sent, established, session_id, transport_view}
+use Rattle.wt_spec.specs.StreamTable.{ByFault, BySession, Ending, Progress, Stopped}
+use Rattle.wt_turn.specs.Log.{Log, Sent, actions_of, calls_of, events_of, is_open, with_actions}
+use Rattle.wt_turn.specs.declared.action.Action.{Action}
+use Rattle.wt_turn.specs.declared.action.Action.TheVariants as actions
+use Rattle.wt_wire.specs.Ids.{is_bidirectional}
+use Rattle.wt_wire.specs.declared.side.Side.{Side}
+
+-- ---- at a moment
+
+-- This end's control stream can be sent on while the peer lets it be: this end never finishes or resets it; once the peer
+-- stopped it, nothing of it is left to go out.
+pub record ControlRuns (side : Side) (log : Log) : Type 0 where
+  pub unfinished : is_finished (actions_of log) (local_uni side) ≡ false
+  pub unreset : is_reset log (local_uni side) ≡ false
+  pub silent : is_some (stop_of (events_of log) (local_uni side)) ≡ true → control_actions (transport_view side log).may_open (local_uni side) (transport_view side log).credit (control_sent side log) ≡ []
+
+-- each stream that is to be stopped is there, and has a receiving half
+abbrev pub CanStop : Side → Log → List Stopped → Type 0
+CanStop side log [] = Unit {0}
+CanStop side log (x ∷ xs) = (can_receive side log x.id ≡ true) × CanStop side log xs
+
+-- where a capsule ended the session, its stream is there, and has a sending half
+abbrev pub CanReset : Side → Log → Option (ℕ × ℕ) → Option Ending → Type 0
+CanReset side log session (Some (BySession code reason true)) = can_send side log (session_id session) ≡ true
+CanReset side log session _ = Unit {0}
+
+-- all of what goes out at a moment may go out
+pub record MayFlush (side : Side) (log : Log) (session : Option (ℕ × ℕ)) (p : Progress) : Type 0 where
+  pub control : ControlRuns side log
+  pub stops : CanStop side log p.stops
+  pub reset : CanReset side log session p.ending
+
+-- these actions went out, the first of them the oldest
+abbrev pub Sends : Side → Log → (ℕ → Stage) → List Action → List Action → InboxState → Type 0
+Sends side log stage untaken acts x = Refines side x (with_actions acts log) stage (newest_first acts untaken)
+
+-- the control stream was opened where it wasn't
+pub record OpensControl (side : Side) (log : Log) (stage : ℕ → Stage) (untaken : List Action) (acts : List Action) (x : InboxState) (opened : Bool) : Type 0 where
+  pub inbox : Refines side x (with_actions acts log) stage (newest_first acts untaken)
+  pub opened_is : opened ≡ true
+
+-- so many bytes more went out on the control stream
+pub record SendsControl (side : Side) (log : Log) (stage : ℕ → Stage) (untaken : List Action) (acts : List Action) (x : InboxState) (sent count : ℕ) : Type 0 where
+  pub inbox : Refines side x (with_actions acts log) stage (newest_first acts untaken)
+  pub sent_is : sent ≡ count
+
+-- What went out of a moment, and how far the control stream is then.
+pub record Flushes (side : Side) (log : Log) (stage : ℕ → Stage) (untaken : List Action) (acts : List Action) (x : InboxState) (own : ControlSent) : Type 0 where
+  pub inbox : Refines side x (with_actions acts log) stage (newest_first acts untaken)
+  pub control_is : own ≡ control_flushed (transport_view side log).may_open (transport_view side log).credit (control_sent side log)
+
+-- What lets a driver send, of a log: this end's control stream isn't finished or reset, and the session's stream has a
+-- sending half.
+pub record SendFacts (side : Side) (log : Log) : Type 0 where
+  pub unfinished : is_finished (actions_of log) (local_uni side) ≡ false
+  pub unreset : is_reset log (local_uni side) ≡ false
+  pub session : (s : ℕ × ℕ) → established (calls_of log) ≡ Some s → can_send side log s.0 ≡ true
+
+-- ---- for a call
+
+-- the kind of this end's streams that has the id's direction
+abbrev pub local_kind : Side → ℕ → ℕ
+local_kind side id = if is_bidirectional id then local_bi side else local_uni side
+
+-- An action of a call may go out: the connection is open, the stream has the half that it is about, an opened stream is
+-- the next one, and credit is left for all that is sent.
+abbrev pub MayAct : Side → Log → Action → Type 0
+MayAct side log (actions.Dial address name) = is_open log ≡ true
+MayAct side log (actions.Opened id) = opened_id side log (local_kind side id) ≡ Some id
+MayAct side log (actions.Send id piece) = (may_send side log id ≡ true) × (sending log id piece ≡ actions.Send id piece ∷ [])
+MayAct side log (actions.Finish id) = may_send side log id ≡ true
+MayAct side log (actions.ResetOut id code) = (is_open log ≡ true) × (can_send side log id ≡ true)
+MayAct side log (actions.StopOut id code) = (is_open log ≡ true) × (can_receive side log id ≡ true)
+MayAct side log (actions.DatagramOut piece) = is_open log ≡ true
+MayAct side log (actions.Close code reason) = is_open log ≡ true
+
+-- each of these actions may go out after those before it
+abbrev pub MayActAll : Side → Log → List Action → Type 0
+MayActAll side log [] = Unit {0}
+MayActAll side log (a ∷ later) = MayAct side log a × MayActAll side (Sent a ∷ log) later

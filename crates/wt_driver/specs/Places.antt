@@ -1,0 +1,19 @@
+-- How the driver's enums stand for what the definitions name.
+use Rattle.std.specs.Prelude.{Bool, List, Option, Some, None, ℕ}
+use Rattle.wt_driver.specs.declared.ending.EndingKind.{EndingKind}
+use Rattle.wt_driver.specs.declared.ending.EndingKind.TheVariants as kinds
+use Rattle.wt_driver.specs.declared.slot.Place.{Place}
+use Rattle.wt_driver.specs.declared.slot.Place.TheVariants as places
+use Rattle.wt_driver_spec.specs.DriverState.{Arrived, Dequeued, Held, SlotPlace}
+use Rattle.wt_spec.specs.StreamTable.{ByFault, BySession, Ending}
+
+-- how far a stream in a slot is
+abbrev pub place_of : Place → SlotPlace
+place_of places.Arrived = Arrived
+place_of places.Dequeued = Dequeued
+place_of places.Held = Held
+
+-- how the driver ends the connection
+abbrev pub ending_of : EndingKind → Ending
+ending_of (kinds.ByFault code) = ByFault code
+ending_of (kinds.BySession code reason by_capsule) = BySession code reason by_capsule

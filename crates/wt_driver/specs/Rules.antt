@@ -1,0 +1,16 @@
+-- What holds of each kind of the peer's streams.
+use Rattle.std.specs.Prelude.{ℕ}
+use Rattle.wt_driver.specs.declared.slot.Half.{Half}
+use Rattle.wt_driver.specs.declared.slot.Half.TheVariants.{Bi, Uni}
+use Rattle.wt_proto.specs.declared.verdict.Verdict.{Verdict}
+use Rattle.wt_spec.specs.StreamTable.{Consequence, Dispatched, bi_consequence, uni_consequence}
+
+-- what classifying a stream of this kind leads to
+abbrev pub consequence_of : Half → Dispatched → ℕ → Verdict → Consequence
+consequence_of Uni = uni_consequence
+consequence_of Bi = bi_consequence
+
+-- so many slots a kind has
+abbrev pub slots_of : Half → ℕ
+slots_of Uni = 4
+slots_of Bi = 1

@@ -1,0 +1,111 @@
+//! The driver of one connection.
+ghost use Rattle.std.specs.Prelude.{◌≡◌, ◌^◌, ◌-◌, [], false, min, None, true};
+ghost use Rattle.wt_inbox.specs.State.{nothing_read, readers_now};
+ghost use Rattle.wt_driver.specs.DriverValue.{first_state};
+
+mod accepts;
+mod acting;
+mod arrivals;
+mod calls;
+mod flush;
+mod moment;
+
+use crate::dispatched::DispatchedStreams;
+use crate::progress::Progress;
+use crate::slot::Slot;
+use std::alloc::Global;
+use std::collections::VecDeque;
+use std::marker::Model;
+use wt_inbox::Inbox;
+use wt_proto::settings::Settings;
+use wt_turn::piece::Piece;
+use wt_wire::ids::StreamId;
+use wt_wire::side::Side;
+
+/// The driver of one connection: the transport with its readers, which of the peer's streams are
+/// dequeued and classified, and what this end's control stream sent. Contracts see what it keeps as a
+/// record, and tie that record to each log that it refines. After a call that answered `OutOfMemory`
+/// nothing is said of it.
+#[derive(Drop)]
+pub struct Driver {
+    alloc: Global,
+    inbox: Inbox,
+    unis: VecDeque<Slot>,
+    bis: VecDeque<Slot>,
+    dispatched: DispatchedStreams,
+    progress: Progress,
+    control_opened: bool,
+    control_sent: usize,
+    /// So many datagrams were received or passed.
+    settled: u64,
+    /// The datagrams that came after those.
+    queue: VecDeque<Piece>,
+    session: Option<(StreamId, usize)>,
+    /// What the peer's SETTINGS say, and whether they were given.
+    settings: Option<Settings>,
+    has_given_settings: bool,
+}
+
+impl Model for Driver {
+    ghost use Rattle.wt_driver.specs.DriverValue.{DriverValue};
+
+    ghost Value = { DriverValue };
+
+    ghost view = { λ d. record {
+      inbox = d.inbox;
+      state = record {
+        unis = d.unis.items;
+        bis = d.bis.items;
+        dispatched = d.dispatched;
+        progress = d.progress;
+        control_sent = record { opened = d.control_opened; sent = d.control_sent };
+        datagrams = d.settled;
+        session = d.session;
+        is_open = d.inbox.transport.is_open;
+      };
+      queue = d.queue.items;
+      settings = d.settings;
+      has_given_settings = d.has_given_settings;
+    } };
+}
+
+impl Driver {
+    /// The driver of a connection of which nothing was told yet.
+    pub fn init(alloc: Global, side: Side) -> Driver
+        ensures inbox { result.inbox ≡ nothing_read side }
+        ensures state { result.state ≡ first_state true }
+        ensures queue { result.queue ≡ [] }
+        ensures settings { result.settings ≡ None }
+        ensures given { result.has_given_settings ≡ false }
+    {
+        Driver {
+            alloc,
+            inbox: Inbox::new(alloc, side),
+            unis: VecDeque::new(alloc),
+            bis: VecDeque::new(alloc),
+            dispatched: DispatchedStreams::new(alloc),
+            progress: Progress::new(alloc),
+            control_opened: false,
+            control_sent: 0,
+            settled: 0,
+            queue: VecDeque::new(alloc),
+            session: None,
+            settings: None,
+            has_given_settings: false,
+        }
+    }
+
+    /// The transport and its readers, to be asked.
+    pub fn inbox(&self) -> &Inbox
+        ensures { result.now ≡ self.now.inbox }
+    {
+        &self.inbox
+    }
+
+    /// How many readers are kept.
+    pub fn readers(&self) -> usize
+        ensures { result ≡ min (readers_now self.now.inbox) (2 ^ 64 - 1) }
+    {
+        self.inbox.readers()
+    }
+}

@@ -1,0 +1,217 @@
+//! Calls that give the session's next stream or datagram, and pass those of others.
+ghost use Rattle.std.specs.Prelude.{◌≡◌, suc, OnOk};
+ghost use Rattle.wt_driver_spec.specs.Due.{due_stream, state_next_due};
+ghost use Rattle.wt_driver_spec.specs.Step.{release, without_slot};
+ghost use Rattle.wt_driver.specs.DriverValue.{IsAmong, with_state, without_first};
+ghost use Rattle.wt_driver.specs.Found.{due_as};
+
+use super::Driver;
+use crate::scan::remove_at;
+use crate::slot::{Slot, peer_bi, peer_uni};
+use std::collections::VecDeque;
+use wt_proto::datagram::H3Datagram;
+use wt_turn::driver_error::DriverError;
+use wt_turn::piece::Piece;
+use wt_turn::poll::Poll;
+use wt_wire::error::{ErrorCode, OutOfMemory};
+use wt_wire::ids::{SessionId, StreamId};
+
+/// Removes the slot of a stream, where it is among the first few.
+fn remove_slot(slots: &mut VecDeque<Slot>, most: usize, id: StreamId)
+    ensures { IsAmong most id slots.old.items → slots.new.items ≡ without_slot id slots.old.items }
+{
+    let mut at = 0;
+    while at < most && at < slots.len() {
+        let slot = &slots[at];
+        if slot.id() == id {
+            remove_at(slots, at);
+            return;
+        }
+        at += 1;
+    }
+}
+
+/// Whether a datagram is of the session, where it is one.
+fn is_of_session(piece: &Piece, session: SessionId) -> bool {
+    match H3Datagram::read(piece.as_slice()) {
+        Ok(datagram) => datagram.qstream_id().into_session_id() == session,
+        Err(_) => false,
+    }
+}
+
+impl Driver {
+    // ---- streams
+
+    /// An accept gave the stream, or passed it.
+    pub(super) fn release(&mut self, id: StreamId)
+        ensures { IsAmong 4 id self.old.state.unis → IsAmong 1 id self.old.state.bis → self.new ≡ with_state self.old (release id self.old.state) }
+    {
+        remove_slot(&mut self.unis, 4, id);
+        remove_slot(&mut self.bis, 1, id);
+        self.dispatched.release(id);
+    }
+
+    /// Nothing of a stream is read any more.
+    pub(super) fn give_up(&mut self, id: StreamId)
+        ensures { self.new.queue ≡ self.old.queue }
+    {
+        if self.inbox.can_receive(id) {
+            self.inbox.give_up(id);
+        }
+    }
+
+    /// An accept passed the stream.
+    pub(super) fn pass(&mut self, id: StreamId) {
+        self.give_up(id);
+        self.release(id);
+    }
+
+    fn stop_passed(&mut self, id: StreamId) -> Result<(), OutOfMemory> {
+        if self.inbox.can_receive(id) {
+            self.inbox
+                .stop(id, ErrorCode::BufferedStreamRejected.to_code())?;
+        }
+        Ok(())
+    }
+
+    /// A stream of another session is stopped and passed, and the work of that moment is done.
+    fn pass_stream(&mut self, id: StreamId) -> Result<(), OutOfMemory> {
+        self.stop_passed(id)?;
+        self.pass(id);
+        self.work()
+    }
+
+    /// A stream of the session is given, and the work of that moment is done.
+    fn give_stream(&mut self, id: StreamId) -> Result<(), OutOfMemory> {
+        self.release(id);
+        self.work()
+    }
+
+    fn next_due(&self, kind: u64, session: SessionId) -> Option<(StreamId, bool)>
+        ensures { due_as result ≡ due_stream session (state_next_due self.now.state kind session) }
+    {
+        self.dispatched
+            .next_due(self.inbox.is_open(), kind, session)
+    }
+
+    /// The session's next stream of the kind with these low two bits: streams of other sessions in
+    /// front of it are passed.
+    fn accept(
+        &mut self,
+        kind: u64,
+        session: SessionId,
+        looks: u64,
+    ) -> Result<Option<StreamId>, OutOfMemory> {
+        for _look in 0..=looks {
+            match self.next_due(kind, session) {
+                None => return Ok(None),
+                Some((id, is_own)) => {
+                    if is_own {
+                        self.give_stream(id)?;
+                        return Ok(Some(id));
+                    }
+                    self.pass_stream(id)?;
+                }
+            }
+        }
+        Ok(None)
+    }
+
+    /// What a call answers that has nothing to give.
+    fn nothing_left<T>(&self) -> Result<Poll<Result<T, DriverError>>, OutOfMemory> {
+        match self.result()? {
+            None => Ok(Poll::Pending),
+            Some(error) => Ok(Poll::Ready(Err(error))),
+        }
+    }
+
+    /// The session's next unidirectional stream.
+    pub fn accept_uni_id(
+        &mut self,
+        session: SessionId,
+    ) -> Result<Poll<Result<StreamId, DriverError>>, OutOfMemory> {
+        let kind = peer_uni(self.inbox.side());
+        let looks = self.inbox.peer_unis();
+        match self.accept(kind, session, looks)? {
+            Some(id) => Ok(Poll::Ready(Ok(id))),
+            None => self.nothing_left(),
+        }
+    }
+
+    /// The session's next bidirectional stream.
+    pub fn accept_bi_id(
+        &mut self,
+        session: SessionId,
+    ) -> Result<Poll<Result<StreamId, DriverError>>, OutOfMemory> {
+        let kind = peer_bi(self.inbox.side());
+        let looks = self.inbox.peer_bis();
+        match self.accept(kind, session, looks)? {
+            Some(id) => Ok(Poll::Ready(Ok(id))),
+            None => self.nothing_left(),
+        }
+    }
+
+    // ---- datagrams
+
+    /// Whether a datagram is dequeued that is neither received nor passed: whether it is of the session.
+    fn next_datagram(&self, session: SessionId) -> Option<bool> {
+        if self.settled >= self.progress.datagrams() {
+            return None;
+        }
+        match self.queue.front() {
+            Some(piece) if H3Datagram::read(piece.as_slice()).is_ok() => {
+                Some(is_of_session(piece, session))
+            }
+            _ => None,
+        }
+    }
+
+    /// The datagram in front is received or passed.
+    pub(super) fn settle_datagram(&mut self) -> Result<(), OutOfMemory>
+        ensures { OnOk result (self.new ≡ record self.old { state = record self.old.state { datagrams = suc self.old.state.datagrams }; queue = without_first self.old.queue }) }
+    {
+        let _piece = self.take_front()?;
+        Ok(())
+    }
+
+    fn take_front(&mut self) -> Result<Option<Piece>, OutOfMemory>
+        ensures { OnOk result (self.new ≡ record self.old { state = record self.old.state { datagrams = suc self.old.state.datagrams }; queue = without_first self.old.queue }) }
+    {
+        match self.settled.checked_add(1) {
+            None => Err(OutOfMemory),
+            Some(settled) => {
+                self.settled = settled;
+                Ok(self.queue.pop_front())
+            }
+        }
+    }
+
+    /// The same, with the work of that moment; the datagram is given.
+    fn take_datagram(&mut self) -> Result<Option<Piece>, OutOfMemory> {
+        let piece = self.take_front()?;
+        self.work()?;
+        Ok(piece)
+    }
+
+    /// The session's next datagram, whole: those of other sessions in front of it are passed.
+    pub fn receive_datagram_piece(
+        &mut self,
+        session: SessionId,
+    ) -> Result<Poll<Result<Piece, DriverError>>, OutOfMemory> {
+        let looks = self.queue.len();
+        for _look in 0..looks {
+            match self.next_datagram(session) {
+                None => return self.nothing_left(),
+                Some(is_own) => {
+                    let piece = self.take_datagram()?;
+                    if let Some(piece) = piece {
+                        if is_own {
+                            return Ok(Poll::Ready(Ok(piece)));
+                        }
+                    }
+                }
+            }
+        }
+        self.nothing_left()
+    }
+}

@@ -1,0 +1,141 @@
+//! Turns of the transport.
+ghost use Rattle.std.specs.Prelude.{◌≡◌, ◌*◌, ◌+◌, ◌++◌, ◌∷◌, [], IfOk, IsTrue, OnOk};
+ghost use Rattle.wt_seam_spec.specs.Streams.{peer_bi, peer_uni};
+ghost use Rattle.wt_seam.specs.Step.{fits_now};
+ghost use Rattle.wt_inbox.specs.State.{peer_bis_now, peer_unis_now};
+ghost use Rattle.wt_driver_spec.specs.Step.{new_slot};
+ghost use Rattle.wt_driver.specs.DriverValue.{with_state};
+
+use super::Driver;
+use crate::slot::{Slot, peer_bi, peer_uni};
+use wt_turn::piece::Piece;
+use wt_turn::turn::Turn;
+use wt_wire::error::OutOfMemory;
+use wt_wire::ids::StreamId;
+use wt_wire::varint::VarInt;
+
+/// The id of a kind's stream, counted from 0 (RFC 9000, section 2.1).
+fn stream_id(index: u64, kind: u64) -> Result<StreamId, OutOfMemory>
+    ensures { IfOk result (λ id. id ≡ 4 * index + kind) }
+{
+    if index >= 1 << 60 || kind >= 4 {
+        return Err(OutOfMemory);
+    }
+    match VarInt::try_from_u64(4 * index + kind) {
+        Some(id) => Ok(StreamId::new(id)),
+        None => Err(OutOfMemory),
+    }
+}
+
+impl Driver {
+    /// Whether a turn of the transport is lawful now.
+    pub fn fits(&self, turn: &Turn) -> bool
+        ensures { result ≡ fits_now self.now.inbox.transport turn.now }
+    {
+        self.inbox.fits(turn)
+    }
+
+    /// The id of the next unidirectional stream of the peer's.
+    fn next_peer_uni(&self) -> Result<StreamId, OutOfMemory>
+        ensures { IfOk result (λ id. id ≡ 4 * peer_unis_now self.now.inbox.transport + peer_uni self.now.inbox.transport.side) }
+    {
+        stream_id(self.inbox.peer_unis(), peer_uni(self.inbox.side()))
+    }
+
+    /// The id of the next bidirectional stream of the peer's.
+    fn next_peer_bi(&self) -> Result<StreamId, OutOfMemory>
+        ensures { IfOk result (λ id. id ≡ 4 * peer_bis_now self.now.inbox.transport + peer_bi self.now.inbox.transport.side) }
+    {
+        stream_id(self.inbox.peer_bis(), peer_bi(self.inbox.side()))
+    }
+
+    /// The peer opened its next unidirectional stream.
+    fn open_peer_uni(&mut self) -> Result<(), OutOfMemory>
+        ensures { OnOk result (self.new ≡ with_state self.old (record self.old.state { unis = self.old.state.unis ++ new_slot (4 * peer_unis_now self.old.inbox.transport + peer_uni self.old.inbox.transport.side) ∷ [] })) }
+    {
+        let id = self.next_peer_uni()?;
+        self.unis.push_back(Slot::arrived(id))?;
+        Ok(())
+    }
+
+    /// The peer opened its next bidirectional stream.
+    fn open_peer_bi(&mut self) -> Result<(), OutOfMemory>
+        ensures { OnOk result (self.new ≡ with_state self.old (record self.old.state { bis = self.old.state.bis ++ new_slot (4 * peer_bis_now self.old.inbox.transport + peer_bi self.old.inbox.transport.side) ∷ [] })) }
+    {
+        let id = self.next_peer_bi()?;
+        self.bis.push_back(Slot::arrived(id))?;
+        Ok(())
+    }
+
+    /// A datagram came.
+    fn queue_datagram(&mut self, piece: &Piece) -> Result<(), OutOfMemory>
+        ensures { OnOk result (self.new ≡ record self.old { queue = self.old.queue ++ piece.now ∷ [] }) }
+    {
+        self.queue.push_back(piece.copy()?)?;
+        Ok(())
+    }
+
+    /// What came while the connection is open, but for bytes.
+    fn note_arrival(&mut self, turn: &Turn) -> Result<(), OutOfMemory>
+        ensures { OnOk result (self.new.inbox ≡ self.old.inbox) }
+    {
+        match turn {
+            Turn::PeerUni => self.open_peer_uni(),
+            Turn::PeerBi => self.open_peer_bi(),
+            Turn::Datagram { piece } => self.queue_datagram(piece),
+            _ => Ok(()),
+        }
+    }
+
+    fn note_arrival_while_open(&mut self, turn: &Turn) -> Result<(), OutOfMemory>
+        ensures { OnOk result (self.new.inbox ≡ self.old.inbox) }
+    {
+        if self.inbox.is_open() {
+            self.note_arrival(turn)?;
+        }
+        Ok(())
+    }
+
+    fn record_turn(&mut self, turn: &Turn) -> Result<(), OutOfMemory>
+        requires { IsTrue (fits_now self.old.inbox.transport turn.now) }
+    {
+        self.inbox.take(turn)
+    }
+
+    /// Takes in what the transport tells, but for bytes.
+    fn note_turn(&mut self, turn: &Turn) -> Result<(), OutOfMemory>
+        requires { IsTrue (fits_now self.old.inbox.transport turn.now) }
+    {
+        self.note_arrival_while_open(turn)?;
+        self.record_turn(turn)
+    }
+
+    /// One byte of a stream.
+    fn take_byte(&mut self, id: StreamId, byte: u8) -> Result<(), OutOfMemory> {
+        if self.inbox.bytes_fit(id) {
+            self.inbox.take_bytes(id, &[byte])?;
+        }
+        self.work()
+    }
+
+    /// Bytes of a stream, one after another.
+    fn take_bytes(&mut self, id: StreamId, bytes: &[u8]) -> Result<(), OutOfMemory> {
+        for byte in bytes {
+            self.take_byte(id, *byte)?;
+        }
+        Ok(())
+    }
+
+    /// Takes a turn of the transport, and does the work of its moments: bytes come one after another.
+    pub fn turn(&mut self, turn: &Turn) -> Result<(), OutOfMemory>
+        requires { IsTrue (fits_now self.old.inbox.transport turn.now) }
+    {
+        match turn {
+            Turn::Bytes { id, piece } => self.take_bytes(*id, piece.as_slice()),
+            _ => {
+                self.note_turn(turn)?;
+                self.work()
+            }
+        }
+    }
+}
