@@ -125,7 +125,7 @@ module _ (side : Side) (t : TransportState) (log : Log) (position : ℕ → Read
   -- ---- all of them
 
   pub facts-same : (d : DriverFacts) → AnswersLog side log d → LogTells side log
-      → facts_now t d ≡ record (facts_of side log) { response = d.response; unread = unread_now t }
+      → facts_now t d ≡ record (facts_of side log) { request_end = d.request_end; response = d.response; unread = unread_now t }
   facts-same d a tells = λ j. record {
     side = side-is j;
     is_first = a.is_first j;
@@ -136,7 +136,7 @@ module _ (side : Side) (t : TransportState) (log : Log) (position : ℕ → Read
     datagram_fact = datagrams-are j;
     settings_came = a.settings_came j;
     requests = a.requests j;
-    request_end = a.request_end j;
+    request_end = d.request_end;
     has_request_stream = request-opened j;
     response = d.response;
     session = a.session j;

@@ -1,5 +1,5 @@
 -- When a transport, the driver's answers and a table tell what a log does.
-use Rattle.std.specs.Prelude.{◌+◌, ◌≡◌, List, Option, is_some, true, ℕ}
+use Rattle.std.specs.Prelude.{◌+◌, ◌≡◌, Bool, List, Option, false, is_some, true, ℕ}
 use Rattle.wt_plan.specs.FactsNow.{DriverFacts}
 use Rattle.wt_plan.specs.Table.{TableValue, use_as, use_now}
 use Rattle.wt_proto.specs.ResponseWalk.{response_walk_of}
@@ -12,7 +12,7 @@ use Rattle.wt_spec.specs.Answers.{is_first}
 use Rattle.wt_spec.specs.Driver.{established, settings_came, stream_table}
 use Rattle.wt_spec.specs.Effect.{driver_error}
 use Rattle.wt_spec.specs.Halves.{body_offset, has_receiving_half, has_sending_half, total_read}
-use Rattle.wt_spec.specs.Handshake.{Connecting, handshake_state, queued_requests, request_end, requested}
+use Rattle.wt_spec.specs.Handshake.{Connecting, HandshakeState, Requested, Responding, handshake_state, queued_requests, request_end, requested}
 use Rattle.wt_spec.specs.StreamTable.{verdict_of}
 use Rattle.wt_turn.specs.Log.{Log, calls_of, events_of}
 use Rattle.wt_turn.specs.declared.action.Action.{Action}
@@ -30,13 +30,20 @@ driver_facts side log = record {
   session = established (calls_of log);
 }
 
--- The driver answers what the log does. The walk over the response is asked only while a connect goes on.
+-- a request was delivered, and its answer isn't through
+abbrev pub is_answering : HandshakeState → Bool
+is_answering (Requested id) = true
+is_answering (Responding accepts head) = true
+is_answering _ = false
+
+-- The driver answers what the log does. Where the request ends is asked only while it is answered, and the walk over the
+-- response only while a connect goes on.
 pub record AnswersLog (side : Side) (log : Log) (d : DriverFacts) : Type 0 where
   pub is_first : d.is_first ≡ (driver_facts side log).is_first
   pub driver_error : d.driver_error ≡ (driver_facts side log).driver_error
   pub settings_came : d.settings_came ≡ (driver_facts side log).settings_came
   pub requests : d.requests ≡ (driver_facts side log).requests
-  pub request_end : d.request_end ≡ (driver_facts side log).request_end
+  pub request_end : is_answering (handshake_state (calls_of log)) ≡ true → d.request_end ≡ (driver_facts side log).request_end
   pub response : (reserved : Option (List ℕ)) (head : List ℕ) → handshake_state (calls_of log) ≡ Connecting reserved head → d.response ≡ (driver_facts side log).response
   pub session : d.session ≡ (driver_facts side log).session
 

@@ -31,10 +31,11 @@ pub fn given_streams_are_kept()
 {
 }
 
-/// The plan of each call by what is kept is that by the log, leads to what the call does, and comes where the call may.
+/// The plan of each call that may come, by what is kept, is that by the log, and leads to what the call does; and the same
+/// calls may come.
 pub fn calls_are_planned_by_what_is_kept()
-    ensures plan { (side : Side) (log : Log) (t : TransportState) (d : DriverFacts) → TellsFacts side log t d → (s : TableValue) → KeepsCalls s (calls_of log) → (call : Call) → plan_of (facts_now t d) (session_now s) call ≡ plan_of (facts_of side log) (session_state log) call }
-    ensures effect { (side : Side) (log : Log) (t : TransportState) (d : DriverFacts) → TellsFacts side log t d → (s : TableValue) → KeepsCalls s (calls_of log) → (call : Call) → call_effect side log call ≡ perform side log (plan_of (facts_now t d) (session_now s) call) }
+    ensures plan { (side : Side) (log : Log) (t : TransportState) (d : DriverFacts) → TellsFacts side log t d → (s : TableValue) → KeepsCalls s (calls_of log) → (call : Call) → may_call side log call ≡ true → plan_of (facts_now t d) (session_now s) call ≡ plan_of (facts_of side log) (session_state log) call }
+    ensures effect { (side : Side) (log : Log) (t : TransportState) (d : DriverFacts) → TellsFacts side log t d → (s : TableValue) → KeepsCalls s (calls_of log) → (call : Call) → may_call side log call ≡ true → call_effect side log call ≡ perform side log (plan_of (facts_now t d) (session_now s) call) }
     ensures may { (side : Side) (log : Log) (t : TransportState) (d : DriverFacts) → TellsFacts side log t d → (s : TableValue) → KeepsCalls s (calls_of log) → (call : Call) → may_call_now (facts_now t d) (session_now s) call ≡ may_call side log call }
 {
 }
