@@ -8,3 +8,4 @@ pub mod Noted
 pub mod LawfulLogs
 pub mod FactsSame
 pub mod PlansSame
+pub mod AnswersSame

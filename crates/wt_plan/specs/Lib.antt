@@ -4,3 +4,4 @@ pub mod FactsNow
 pub mod Heads
 pub mod Table
 pub mod Tells
+pub mod DriverAnswers

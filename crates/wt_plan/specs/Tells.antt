@@ -36,6 +36,10 @@ is_answering (Requested id) = true
 is_answering (Responding accepts head) = true
 is_answering _ = false
 
+-- while the request is answered this is where it ends
+abbrev pub KeepsRequestEnd : Side → Log → ℕ → Type 0
+KeepsRequestEnd side log end = is_answering (handshake_state (calls_of log)) ≡ true → end ≡ (driver_facts side log).request_end
+
 -- The driver answers what the log does. Where the request ends is asked only while it is answered, and the walk over the
 -- response only while a connect goes on.
 pub record AnswersLog (side : Side) (log : Log) (d : DriverFacts) : Type 0 where
@@ -43,7 +47,7 @@ pub record AnswersLog (side : Side) (log : Log) (d : DriverFacts) : Type 0 where
   pub driver_error : d.driver_error ≡ (driver_facts side log).driver_error
   pub settings_came : d.settings_came ≡ (driver_facts side log).settings_came
   pub requests : d.requests ≡ (driver_facts side log).requests
-  pub request_end : is_answering (handshake_state (calls_of log)) ≡ true → d.request_end ≡ (driver_facts side log).request_end
+  pub request_end : KeepsRequestEnd side log d.request_end
   pub response : (reserved : Option (List ℕ)) (head : List ℕ) → handshake_state (calls_of log) ≡ Connecting reserved head → d.response ≡ (driver_facts side log).response
   pub session : d.session ≡ (driver_facts side log).session
 

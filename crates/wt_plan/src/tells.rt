@@ -1,18 +1,27 @@
 //! Calls are planned by what is kept as they are by the log: functions with empty bodies, whose contracts are the laws.
-ghost use Rattle.std.specs.Prelude.{◌≡◌, true, ℕ};
+ghost use Rattle.std.specs.Prelude.{◌++◌, ◌≡◌, Bool, List, Option, Some, true, ℕ};
+ghost use Rattle.wt_driver_spec.specs.DriverState.{state_of};
 ghost use Rattle.wt_laws.specs.Reachable.{IsReachable};
+ghost use Rattle.wt_plan.specs.DriverAnswers.{answers_now};
 ghost use Rattle.wt_plan.specs.FactsNow.{DriverFacts, facts_now};
 ghost use Rattle.wt_plan.specs.Table.{KeepsCalls, TableValue};
-ghost use Rattle.wt_plan.specs.Tells.{LogTells, TellsFacts, session_now};
-ghost use Rattle.wt_seam.specs.State.{TransportState};
+ghost use Rattle.wt_plan.specs.Tells.{AnswersLog, KeepsRequestEnd, LogTells, TellsFacts, driver_facts, session_now};
+ghost use Rattle.wt_proto.specs.declared.response_walk.ResponseWalk.{ResponseWalk};
+ghost use Rattle.wt_proto.specs.declared.verdict.Verdict.{Verdict};
+ghost use Rattle.wt_seam.specs.State.{Refines, TransportState};
 ghost use Rattle.wt_seam.specs.Step.{can_receive_now, can_send_now, unread_now};
+ghost use Rattle.wt_seam_spec.specs.Unread.{ReadPosition};
 ghost use Rattle.wt_session_spec.specs.CallFacts.{facts_of};
 ghost use Rattle.wt_session_spec.specs.Plan.{perform};
 ghost use Rattle.wt_session_spec.specs.Plans.{may_call_now, plan_of};
 ghost use Rattle.wt_session_spec.specs.SessionState.{session_state};
-ghost use Rattle.wt_spec.specs.Answers.{call_effect, may_call};
+ghost use Rattle.wt_spec.specs.Answers.{call_effect, is_first, may_call};
+ghost use Rattle.wt_spec.specs.Driver.{stream_table};
 ghost use Rattle.wt_spec.specs.Halves.{has_receiving_half, has_sending_half, unread};
+ghost use Rattle.wt_spec.specs.Handshake.{Connecting, handshake_state, request_end};
+ghost use Rattle.wt_spec.specs.StreamTable.{verdict_of};
 ghost use Rattle.wt_turn.specs.Log.{Log, calls_of};
+ghost use Rattle.wt_turn.specs.declared.action.Action.{Action};
 ghost use Rattle.wt_turn.specs.declared.call.Call.{Call};
 ghost use Rattle.wt_wire.specs.declared.side.Side.{Side};
 
@@ -20,6 +29,14 @@ ghost use Rattle.wt_wire.specs.declared.side.Side.{Side};
 #[tactic(auto, using(crate::proofs::LawfulLogs::log_tells))]
 pub fn lawful_logs_tell()
     ensures { (side : Side) (log : Log) → IsReachable side log → LogTells side log }
+{
+}
+
+/// A driver that keeps the state of a log answers what the log does, and a classified stream ends its request where it did.
+pub fn kept_state_answers()
+    ensures own { (side : Side) (log : Log) → AnswersLog side log (driver_facts side log) }
+    ensures answers { (side : Side) (log : Log) (t : TransportState) (position : ℕ → ReadPosition) (untaken : List Action) (first : Bool) (end : ℕ) (walk : ResponseWalk) → Refines side t log position untaken → first ≡ is_first log → KeepsRequestEnd side log end → ((reserved : Option (List ℕ)) (head : List ℕ) → handshake_state (calls_of log) ≡ Connecting reserved head → walk ≡ (driver_facts side log).response) → AnswersLog side log (answers_now t (state_of side log) first end walk) }
+    ensures end { (side : Side) (more : Log) (earlier : Log) (k : ℕ) (v : Verdict) → verdict_of k (stream_table side earlier).classified ≡ Some v → request_end (verdict_of k (stream_table side (more ++ earlier)).classified) ≡ request_end (Some v) }
 {
 }
 
