@@ -1,6 +1,6 @@
 -- A driver that keeps the state of a log answers what the log does.
 use Rattle.std.specs.Prelude.{[], ◌++◌, ◌∷◌, ◌≡◌, Bool, List, None, Option, Some, true, ℕ}
-use Rattle.std.proofs.Common.{◌∙◌, ap, refl}
+use Rattle.std.proofs.Common.{◌∙◌, ap, refl, sym}
 use Rattle.wt_driver_spec.specs.DriverState as driver
 use Rattle.wt_driver_spec.specs.DriverState.{DriverState}
 use Rattle.wt_laws.proofs.Classified.{classified-stays}
@@ -19,9 +19,11 @@ use Rattle.wt_spec.specs.Handshake.{Connecting, HandshakeState, Requested, Respo
 use Rattle.wt_spec.specs.StreamTable.{ByFault, BySession, Ending, verdict_of}
 use Rattle.wt_turn.specs.Log.{Log, calls_of, events_of}
 use Rattle.wt_turn.specs.declared.action.Action.{Action}
+use Rattle.wt_wire.specs.HeaderList.{Fields}
 use Rattle.wt_wire.specs.declared.side.Side.{Side}
 use Rattle.wt_plan.specs.DriverAnswers.{answers_now, error_now}
 use Rattle.wt_plan.specs.Tells.{AnswersLog, KeepsRequestEnd, driver_facts, is_answering}
+use Rattle.wt_proto.specs.declared.verdict.Verdict.TheVariants as verdicts
 
 -- what a log says of itself
 pub own_answers : (side : Side) (log : Log) → AnswersLog side log (driver_facts side log)
@@ -65,3 +67,20 @@ verdict-later side (m ∷ more) earlier k v e = classified-stays side k v m (mor
 pub request_ends_there : (side : Side) (more earlier : Log) (k : ℕ) (v : Verdict) → verdict_of k (stream_table side earlier).classified ≡ Some v
     → request_end (verdict_of k (stream_table side (more ++ earlier)).classified) ≡ request_end (Some v)
 request_ends_there side more earlier k v e = ap request_end (verdict-later side more earlier k v e)
+
+answering-has : (h : HandshakeState) → is_answering h ≡ true → has_request h ≡ true
+answering-has (Requested id) e = refl
+answering-has (Responding accepts head) e = refl
+answering-has _ e = absurd (cc)
+
+-- the end of the request that a call delivers is kept from then on, as long as no other is delivered
+pub delivered_end : (side : Side) (more log : Log) (k : ℕ) (headers : Fields) (at : ℕ) → verdict_of k (stream_table side log).classified ≡ Some (verdicts.Request headers at)
+    → requested (calls_of (more ++ log)) ≡ k → KeepsRequestEnd side (more ++ log) at
+delivered_end side more log k headers at v q a = sym (ap (λ j. request_end (verdict_of j (stream_table side (more ++ log)).classified)) q ∙ request_ends_there side more log k (verdicts.Request headers at) v)
+
+pub request_end_kept : (side : Side) (more log : Log) (end : ℕ) → IsReachable side log → KeepsRequestEnd side log end → is_answering (handshake_state (calls_of log)) ≡ true
+    → requested (calls_of (more ++ log)) ≡ requested (calls_of log) → KeepsRequestEnd side (more ++ log) end
+request_end_kept side more log end r k b q a =
+    let h = (heads-hold side log r).given.handshakes in
+    let w = h.delivered (requested (calls_of log)) (h.has_one (answering-has (handshake_state (calls_of log)) b)) in
+    k b ∙ ap request_end w.verdict ∙ delivered_end side more log (requested (calls_of log)) w.headers w.at w.verdict q a

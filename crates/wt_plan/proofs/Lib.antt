@@ -9,3 +9,4 @@ pub mod LawfulLogs
 pub mod FactsSame
 pub mod PlansSame
 pub mod AnswersSame
+pub mod ReadsSame

@@ -5,3 +5,4 @@ pub mod Heads
 pub mod Table
 pub mod Tells
 pub mod DriverAnswers
+pub mod Inboxes
