@@ -51,7 +51,7 @@ events-among side kind (Received id byte ∷ log) = events-among side kind log
 events-among side kind (Sent a ∷ log) = events-among side kind log
 events-among side kind (Called r ∷ log) = events-among side kind log
 
-counts-more : (b : Bool) (k p n : ℕ) → nat_lt k (p + n) ≡ true → nat_lt k (one_more_if b p + n) ≡ true
+pub counts-more : (b : Bool) (k p n : ℕ) → nat_lt k (p + n) ≡ true → nat_lt k (one_more_if b p + n) ≡ true
 counts-more true k p n e = lt-ltb k ((p + 1) + n) (let l = ltb-true k (p + n) e in omega arith)
 counts-more false k p n e = e
 

@@ -18,3 +18,7 @@ pub mod StageAnswers
 pub mod StageAsks
 pub mod StageUses
 pub mod StageTurns
+pub mod StageSteps
+pub mod StageWork
+pub mod Worked
+pub mod Turning

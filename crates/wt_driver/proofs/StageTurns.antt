@@ -1,8 +1,9 @@
 -- Each lawful turn leads to a log whose entries may follow each other, as far as stages are concerned.
-use Rattle.std.proofs.Common.{arith, ◌≡◌, ℕ, ℤ, zero, suc, ◌+◌, ◌*◌, ◌%◌, Bool, true, false, List, [], ◌∷◌, ◌++◌, length, length-take, take, refl, sym, ap, subst, ◌∙◌, ◌⊎◌, inl, inr}
-use Rattle.std.specs.Prelude.{bytes_eq, ◌/◌, ◌≤◌, Option, Some, None, Result, Ok, Err, codes, is_some, nat_lt, not, ◌==◌, ◌&&◌, ◌||◌, if◌then◌else◌}
+use Rattle.std.proofs.Common.{arith, ◌<◌, ◌≡◌, ℕ, ℤ, zero, suc, ◌+◌, ◌*◌, ◌%◌, Bool, true, false, List, [], ◌∷◌, ◌++◌, length, length-take, take, refl, sym, ap, subst, ◌∙◌, ◌⊎◌, inl, inr}
+use Rattle.std.specs.Prelude.{slice_get, bytes_eq, ◌/◌, ◌≤◌, Option, Some, None, Result, Ok, Err, codes, is_some, nat_lt, not, ◌==◌, ◌&&◌, ◌||◌, if◌then◌else◌}
 use Rattle.std.specs.List.{list_any}
 use Rattle.std.proofs.lemmas.Bool.{and_parts, eqb-true, false_from_ne_true}
+use Rattle.std.proofs.lemmas.Option.{slice_get_within}
 use Rattle.url.specs.Parts.{Parts}
 use Rattle.url.specs.declared.error.ParseError.{ParseError}
 use Rattle.url.specs.Parser.{parse_url}
@@ -25,8 +26,8 @@ use Rattle.wt_seam_spec.specs.Sent.{is_finished}
 use Rattle.wt_seam_spec.specs.Streams.{contents, local_bi, local_count, local_uni, peer_bi, peer_count, peer_uni, stream_count}
 use Rattle.wt_spec.specs.Answers.{call_effect, in_session, is_client, is_first, is_lawful, log_after, may_call, may_respond, on_receiving, on_sending, on_session, receive}
 use Rattle.wt_spec.specs.Connect.{address_of, authority_of, connect, connect_to, outcome_error, path_of, port_of, request_head, reserved_name, server_name, unless_stopped, with_address}
-use Rattle.wt_spec.specs.Connection.{accept_due, accept_first, datagram_allowed, datagram_within, ends_opening, give_or_pass, is_for_session, is_opening, next_datagram, next_due, open_stream, pass_stream, poll_opening, receive_first, receive_next, receive_or_pass, send_datagram, starts_opening, stream_header}
-use Rattle.wt_spec.specs.Driver.{call_view, established, flush, log_and_flush, settings_came, stream_table}
+use Rattle.wt_spec.specs.Connection.{accept_due, accept_first, datagram_allowed, datagram_within, ends_opening, give_or_pass, is_for_session, is_opening, next_datagram, next_due, open_stream, pass_stream, poll_opening, read_datagram, receive_first, receive_next, receive_or_pass, send_datagram, starts_opening, stream_header}
+use Rattle.wt_spec.specs.Driver.{call_view, established, flush, log_and_flush, settings_came, settled_datagrams, stream_table}
 use Rattle.wt_spec.specs.Effect.{Effect, closing, driver_error, head_left, is_covered, is_empty, log_call, poll_sending, reply_with, transport_error}
 use Rattle.wt_spec.specs.Halves.{all_written_reply, exact_at_end, finishing, has_receiving_half, has_sending_half, is_done, on_half, read, read_exact, read_reply, reset, set_priority, take_bytes, unread, write_by, write_error, written_reply}
 use Rattle.wt_spec.specs.Handshake.{Connecting, HandshakeState, Requested, Responding, accept_response, await_or_fail, await_response, awaits_answer, continue_by, deliver, establish, fail_handshake, handshake_state, has_success, incoming, is_refused, open_request, queued_requests, read_response, reject_response, request_end, requested, respond, send_request, start_response, unless_reserved}
@@ -113,17 +114,29 @@ module _ (side : Side) (reply : ℕ → Reply) (kind session : ℕ) where
       by None e again = called-uses side log [] Polled uses tt
       by (Some c) e again = one (is_for_session session c.verdict) c e again
 
+-- the datagram that is due came
+due-came : (side : Side) (log : Log) (d : ℕ × List ℕ) → next_datagram side log ≡ Some d → settled_datagrams (calls_of log) < length (datagrams_of (events_of log))
+due-came side log d e = by (nat_lt (settled_datagrams (calls_of log)) (stream_table side log).progress.datagrams) e
+  where
+    there : (o : Option (List ℕ)) → slice_get (datagrams_of (events_of log)) (settled_datagrams (calls_of log)) ≡ o → read_datagram o ≡ Some d → settled_datagrams (calls_of log) < length (datagrams_of (events_of log))
+    there None f g = absurd cc
+    there (Some piece) f g = slice_get_within (datagrams_of (events_of log)) (settled_datagrams (calls_of log)) piece f
+
+    by : (b : Bool) → (if b then read_datagram (slice_get (datagrams_of (events_of log)) (settled_datagrams (calls_of log))) else None) ≡ Some d → settled_datagrams (calls_of log) < length (datagrams_of (events_of log))
+    by true f = there (slice_get (datagrams_of (events_of log)) (settled_datagrams (calls_of log))) refl f
+    by false f = absurd cc
+
 receive-uses : (side : Side) (session n : ℕ) (log : Log) → Uses side log → LeadsUses side (receive_first n side session log)
 receive-uses side session zero log uses = called-uses side log [] Polled uses tt
-receive-uses side session (suc n) log uses = by (next_datagram side log) (λ later. receive-uses side session n later)
+receive-uses side session (suc n) log uses = by (next_datagram side log) refl (λ later. receive-uses side session n later)
   where
-    one : (b : Bool) (payload : List ℕ) → ((later : Log) → Uses side later → LeadsUses side (receive_first n side session later)) → LeadsUses side (receive_or_pass b side (λ later. receive_first n side session later) log payload)
-    one true payload again = called-uses side (log_call side log [] DatagramReceived) [] Polled (moment-uses side log (Called DatagramReceived) tt uses) tt
-    one false payload again = again (log_call side log [] DatagramPassed) (moment-uses side log (Called DatagramPassed) tt uses)
+    one : (b : Bool) (payload : List ℕ) → settled_datagrams (calls_of log) < length (datagrams_of (events_of log)) → ((later : Log) → Uses side later → LeadsUses side (receive_first n side session later)) → LeadsUses side (receive_or_pass b side (λ later. receive_first n side session later) log payload)
+    one true payload came again = called-uses side (log_call side log [] DatagramReceived) [] Polled (moment-uses side log (Called DatagramReceived) came uses) tt
+    one false payload came again = again (log_call side log [] DatagramPassed) (moment-uses side log (Called DatagramPassed) came uses)
 
-    by : (o : Option (ℕ × List ℕ)) → ((later : Log) → Uses side later → LeadsUses side (receive_first n side session later)) → LeadsUses side (receive_next side (λ later. receive_first n side session later) session log o)
-    by None again = called-uses side log [] Polled uses tt
-    by (Some d) again = one (4 * d.0 == session) d.1 again
+    by : (o : Option (ℕ × List ℕ)) → next_datagram side log ≡ o → ((later : Log) → Uses side later → LeadsUses side (receive_first n side session later)) → LeadsUses side (receive_next side (λ later. receive_first n side session later) session log o)
+    by None e again = called-uses side log [] Polled uses tt
+    by (Some d) e again = one (4 * d.0 == session) d.1 (due-came side log d e) again
 
 either : (side : Side) (b : Bool) (e f : Effect) → LeadsUses side e → LeadsUses side f → LeadsUses side (if b then e else f)
 either side true e f p q = p

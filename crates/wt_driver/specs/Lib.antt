@@ -11,3 +11,5 @@ pub mod Moving
 pub mod Flushing
 pub mod DriverValue
 pub mod Results
+pub mod Tie
+pub mod Arriving

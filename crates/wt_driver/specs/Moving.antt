@@ -44,7 +44,7 @@ datagram_checked_state t s = record s { progress = datagram_checked t s.datagram
 
 -- What the checks behind the slots ask of a driver in this state, with streams at these stages.
 pub record MayCheck (t : TransportView) (s : DriverState) (stage : ℕ → Stage) : Type 0 where
-  pub session : WalkFrom session_offset stage s.session
+  pub session : (datagram_checked_state t s).progress.ending ≡ None → WalkFrom session_offset stage s.session
   pub control : WalkFrom control_offset (session_checked_stages t (datagram_checked_state t s) stage) s.dispatched.control
 
 -- What a whole scan asks of a driver in this state, with streams at these stages.

@@ -1,5 +1,5 @@
 -- At which stage of its reading each stream is after a log: what the driver does with a stream says of it.
-use Rattle.std.specs.Prelude.{[], ◌%◌, ◌&&◌, drop, is_some, length, ◌≤◌, ◌+◌, ◌==◌, ◌||◌, ◌∷◌, ◌≡◌, Bool, List, None, Option, Some, false, if◌then◌else◌, true, ℕ}
+use Rattle.std.specs.Prelude.{[], ◌%◌, ◌&&◌, drop, is_some, length, ◌≤◌, ◌<◌, ◌+◌, ◌==◌, ◌||◌, ◌∷◌, ◌≡◌, Bool, List, None, Option, Some, false, if◌then◌else◌, true, ℕ}
 use Rattle.std.specs.List.{list_any}
 use Rattle.wt_driver.specs.Scanning.{scan_stages}
 use Rattle.wt_driver.specs.declared.slot.Half.{Half}
@@ -10,13 +10,14 @@ use Rattle.wt_driver_spec.specs.Step.{after_entry, begin_scan, known_of, scan_bi
 use Rattle.wt_inbox.specs.Stage.{Anywhere, ControlBody, SessionBody, Stage, awaits_bi, awaits_response, awaits_uni, body_offset, control_offset, session_offset, stage_from, with_stage}
 use Rattle.wt_proto.specs.SessionWalk.{is_over, session_walk_of}
 use Rattle.wt_proto.specs.declared.verdict.Verdict.{Verdict}
+use Rattle.wt_seam_spec.specs.Reports.{datagrams_of}
 use Rattle.wt_seam_spec.specs.Streams.{local_bi, local_count, peer_bi, peer_uni}
-use Rattle.wt_spec.specs.Driver.{apply_if, established, stream_table}
+use Rattle.wt_spec.specs.Driver.{apply_if, established, settled_datagrams, stream_table}
 use Rattle.wt_spec.specs.Halves.{is_accepted, unread}
 use Rattle.wt_spec.specs.Handshake.{awaits_answer, handshake_state}
 use Rattle.wt_spec.specs.Scan.{bi_rule, check_datagram, check_session, critical_if, uni_rule, unless_ended}
 use Rattle.wt_spec.specs.StreamTable.{Classified, Ending, Progress, StreamTable, TransportView, is_webtransport}
-use Rattle.wt_turn.specs.Log.{BytesRead, CallRecord, Called, ConnectStarted, Entry, HandshakeOver, Log, OpeningStarted, RequestDelivered, ResponseStarted, SessionEstablished, StreamAccepted, StreamGivenUp, StreamPassed, actions_of, calls_of}
+use Rattle.wt_turn.specs.Log.{BytesRead, CallRecord, Called, ConnectStarted, DatagramPassed, DatagramReceived, Entry, HandshakeOver, Log, OpeningStarted, RequestDelivered, ResponseStarted, SessionEstablished, StreamAccepted, StreamGivenUp, StreamPassed, actions_of, calls_of, events_of}
 use Rattle.wt_wire.specs.declared.side.Side.{Side}
 use Rattle.wt_wire.specs.declared.side.Side.TheVariants.{Client, Server}
 use Rattle.wt_proto.specs.declared.verdict.Verdict.TheVariants as verdicts
@@ -182,7 +183,8 @@ RequestOpened Client log = (local_count (actions_of log) (local_bi Client) == 0)
 RequestOpened Server log = Unit {0}
 
 -- a client connects first, and a server answers a request that was queued and delivered; the session is on the stream of
--- the request; streams of sessions are given or passed, and what the application reads of its streams came
+-- the request; streams of sessions are given or passed; what the application reads of its streams came, and so did each
+-- datagram that a call settles
 abbrev pub MayUse : Side → Log → CallRecord → Type 0
 MayUse side log (ConnectStarted reserved head) = (side ≡ Client) × (established (calls_of log) ≡ None) × ((use_of 0 (calls_of log)).is_over ≡ false)
 MayUse side log (RequestDelivered id) = is_some (queued_at (classified_of id (stream_table side log).classified)) ≡ true
@@ -193,6 +195,8 @@ MayUse side log (StreamPassed id) = (is_sessions (classified_of id (stream_table
 MayUse side log (OpeningStarted id session) = may_give (role_of side id) None ≡ true
 MayUse side log (BytesRead id count) = (is_for_application (role_of side id) (classified_of id (stream_table side log).classified) ≡ true) × (count ≤ length (unread side log id))
 MayUse side log (StreamGivenUp id) = is_for_application (role_of side id) (classified_of id (stream_table side log).classified) ≡ true
+MayUse side log DatagramReceived = settled_datagrams (calls_of log) < length (datagrams_of (events_of log))
+MayUse side log DatagramPassed = settled_datagrams (calls_of log) < length (datagrams_of (events_of log))
 MayUse side log _ = Unit {0}
 
 -- an entry may follow

@@ -1,5 +1,15 @@
 //! Turns of the transport.
-ghost use Rattle.std.specs.Prelude.{◌≡◌, ◌*◌, ◌+◌, ◌++◌, ◌∷◌, [], IfOk, IsTrue, OnOk};
+ghost use Rattle.std.specs.Prelude.{◌≡◌, ◌*◌, ◌+◌, ◌++◌, ◌∷◌, [], IfOk, IsTrue, List, OnOk, Some, false, true, ℕ};
+ghost use Rattle.wt_driver.specs.Arriving.{EventTaken, arrived, event_of, is_call};
+ghost use Rattle.wt_driver.specs.Tie.{Follows};
+ghost use Rattle.wt_inbox.specs.Stage.{Refines, Stage};
+ghost use Rattle.wt_seam_spec.specs.Arrivals.{fits, log_turn};
+ghost use Rattle.wt_spec.specs.Answers.{log_after, receive};
+ghost use Rattle.wt_spec.specs.Driver.{transport_view};
+ghost use Rattle.wt_turn.specs.Log.{Event, Log, is_open};
+ghost use Rattle.wt_turn.specs.declared.action.Action.{Action};
+ghost use Rattle.wt_turn.specs.declared.turn.Turn.TheVariants as turns;
+ghost use Rattle.wt_wire.specs.declared.side.Side.{Side};
 ghost use Rattle.wt_seam_spec.specs.Streams.{peer_bi, peer_uni};
 ghost use Rattle.wt_seam.specs.Step.{fits_now};
 ghost use Rattle.wt_inbox.specs.State.{peer_bis_now, peer_unis_now};
@@ -77,7 +87,9 @@ impl Driver {
 
     /// What came while the connection is open, but for bytes.
     fn note_arrival(&mut self, turn: &Turn) -> Result<(), OutOfMemory>
-        ensures { OnOk result (self.new.inbox ≡ self.old.inbox) }
+        ensures inbox { OnOk result (self.new.inbox ≡ self.old.inbox) }
+        ensures log { (side : Side) (log : Log) (stage : ℕ → Stage) (untaken : List Action) → Refines side self.old.inbox log stage untaken → is_open log ≡ true
+            → OnOk result (self.new ≡ arrived (transport_view side log) (event_of turn.now) self.old) }
     {
         match turn {
             Turn::PeerUni => self.open_peer_uni(),
@@ -88,7 +100,10 @@ impl Driver {
     }
 
     fn note_arrival_while_open(&mut self, turn: &Turn) -> Result<(), OutOfMemory>
-        ensures { OnOk result (self.new.inbox ≡ self.old.inbox) }
+        ensures inbox { OnOk result (self.new.inbox ≡ self.old.inbox) }
+        ensures log { (side : Side) (log : Log) (stage : ℕ → Stage) (untaken : List Action) → Refines side self.old.inbox log stage untaken → is_open log ≡ true
+            → OnOk result (self.new ≡ arrived (transport_view side log) (event_of turn.now) self.old) }
+        ensures late { OnOk result (self.old.state.is_open ≡ false → self.new ≡ self.old) }
     {
         if self.inbox.is_open() {
             self.note_arrival(turn)?;
@@ -98,6 +113,10 @@ impl Driver {
 
     fn record_turn(&mut self, turn: &Turn) -> Result<(), OutOfMemory>
         requires { IsTrue (fits_now self.old.inbox.transport turn.now) }
+        ensures log { (side : Side) (log : Log) (stage : ℕ → Stage) (untaken : List Action) → Refines side self.old.inbox log stage untaken
+            → OnOk result (Refines side self.new.inbox (log_turn log turn.now) stage untaken) }
+        ensures state { OnOk result (self.new.state ≡ record self.old.state { is_open = self.new.inbox.transport.is_open }) }
+        ensures queue { OnOk result (self.new.queue ≡ self.old.queue) }
     {
         self.inbox.take(turn)
     }
@@ -105,23 +124,52 @@ impl Driver {
     /// Takes in what the transport tells, but for bytes.
     fn note_turn(&mut self, turn: &Turn) -> Result<(), OutOfMemory>
         requires { IsTrue (fits_now self.old.inbox.transport turn.now) }
+        ensures log { (side : Side) (log : Log) (taken : ℕ) (e : Event) → Follows side self.old log taken → event_of turn.now ≡ Some e → OnOk result (EventTaken side log e self.new taken) }
     {
         self.note_arrival_while_open(turn)?;
         self.record_turn(turn)
     }
 
-    /// One byte of a stream.
-    fn take_byte(&mut self, id: StreamId, byte: u8) -> Result<(), OutOfMemory> {
+    /// Takes in an event, and does the work of its moment.
+    fn take_event(&mut self, turn: &Turn) -> Result<(), OutOfMemory>
+        requires { IsTrue (fits_now self.old.inbox.transport turn.now) }
+        ensures log { (side : Side) (log : Log) (taken : ℕ) (e : Event) → Follows side self.old log taken → event_of turn.now ≡ Some e → OnOk result (Follows side self.new (log_after side log turn.now) taken) }
+    {
+        self.note_turn(turn)?;
+        self.work()
+    }
+
+    /// Takes in one byte of a stream.
+    fn note_byte(&mut self, id: StreamId, byte: u8) -> Result<(), OutOfMemory>
+        ensures log { (side : Side) (log : Log) (stage : ℕ → Stage) (untaken : List Action) → Refines side self.old.inbox log stage untaken → fits side log (turns.Bytes id (byte ∷ [])) ≡ true
+            → OnOk result (Refines side self.new.inbox (log_turn log (turns.Bytes id (byte ∷ []))) stage untaken) }
+        ensures state { OnOk result (self.new.state ≡ record self.old.state { is_open = self.new.inbox.transport.is_open }) }
+        ensures queue { OnOk result (self.new.queue ≡ self.old.queue) }
+    {
         if self.inbox.bytes_fit(id) {
             self.inbox.take_bytes(id, &[byte])?;
         }
+        Ok(())
+    }
+
+    /// One byte of a stream, with the work of its moment.
+    fn take_byte(&mut self, id: StreamId, byte: u8) -> Result<(), OutOfMemory>
+        ensures log { (side : Side) (log : Log) (taken : ℕ) → Follows side self.old log taken → fits side log (turns.Bytes id (byte ∷ [])) ≡ true
+            → OnOk result (Follows side self.new (receive side log id (byte ∷ [])) taken) }
+    {
+        self.note_byte(id, byte)?;
         self.work()
     }
 
     /// Bytes of a stream, one after another.
-    fn take_bytes(&mut self, id: StreamId, bytes: &[u8]) -> Result<(), OutOfMemory> {
-        for byte in bytes {
-            self.take_byte(id, *byte)?;
+    fn take_bytes(&mut self, id: StreamId, bytes: &[u8]) -> Result<(), OutOfMemory>
+        ensures log { (side : Side) (log : Log) (taken : ℕ) → Follows side self.old log taken → fits side log (turns.Bytes id bytes.now) ≡ true
+            → OnOk result (Follows side self.new (receive side log id bytes.now) taken) }
+    {
+        let mut at = 0;
+        while at < bytes.len() {
+            self.take_byte(id, bytes[at])?;
+            at += 1;
         }
         Ok(())
     }
@@ -129,13 +177,11 @@ impl Driver {
     /// Takes a turn of the transport, and does the work of its moments: bytes come one after another.
     pub fn turn(&mut self, turn: &Turn) -> Result<(), OutOfMemory>
         requires { IsTrue (fits_now self.old.inbox.transport turn.now) }
+        ensures log { (side : Side) (log : Log) (taken : ℕ) → Follows side self.old log taken → is_call turn.now ≡ false → OnOk result (Follows side self.new (log_after side log turn.now) taken) }
     {
         match turn {
             Turn::Bytes { id, piece } => self.take_bytes(*id, piece.as_slice()),
-            _ => {
-                self.note_turn(turn)?;
-                self.work()
-            }
+            _ => self.take_event(turn),
         }
     }
 }

@@ -1,9 +1,10 @@
 //! The work of a moment.
-ghost use Rattle.std.specs.Prelude.{◌≡◌, ◌↔◌, None, IsTrue, ◌==◌, ◌&&◌, List, ℕ, Some, IfOk, OnOk, drop, true, not};
+ghost use Rattle.std.specs.Prelude.{◌≡◌, ◌↔◌, None, IsTrue, ◌==◌, ◌&&◌, List, ℕ, Some, IfOk, OnOk, drop, false, true, not};
 ghost use Rattle.wt_driver.specs.DriverValue.{with_state};
 ghost use Rattle.wt_driver.specs.Moving.{HasDatagram, MayCheck, MayScan, Moves, WalkFrom, front_of};
 ghost use Rattle.wt_driver.specs.Scanning.{AllAwait};
 ghost use Rattle.wt_driver.specs.Stages.{bi_stages, check_stages, control_stages, datagram_checked, scanned_stages, session_stage, session_stages, uni_stages, unless_ended_stage};
+ghost use Rattle.wt_driver.specs.Tie.{Follows, TakenIn};
 ghost use Rattle.wt_driver.specs.declared.slot.Half.TheVariants as halves;
 ghost use Rattle.wt_driver_spec.specs.Bounds.{AreDistinct, IsBounded};
 ghost use Rattle.wt_driver_spec.specs.Step.{begin_scan, run_checks, scan_bi_slots, scan_state, scan_uni_slots};
@@ -12,9 +13,9 @@ ghost use Rattle.wt_seam_spec.specs.Reports.{end_of, is_running};
 ghost use Rattle.wt_seam_spec.specs.Streams.{contents};
 ghost use Rattle.wt_proto.specs.ControlWalk.{control_walk_of};
 ghost use Rattle.wt_proto.specs.SessionWalk.{is_over, session_walk_of};
-ghost use Rattle.wt_spec.specs.Driver.{transport_view};
+ghost use Rattle.wt_spec.specs.Driver.{log_and_flush, transport_view};
 ghost use Rattle.wt_spec.specs.Scan.{check_control, check_qpack, check_session, control_read, critical_if, dequeued_datagram, session_ends, session_read, unless_ended};
-ghost use Rattle.wt_turn.specs.Log.{Log, events_of, is_open};
+ghost use Rattle.wt_turn.specs.Log.{Entry, Log, events_of, is_open};
 ghost use Rattle.wt_turn.specs.declared.action.Action.{Action};
 ghost use Rattle.wt_wire.specs.declared.side.Side.{Side};
 
@@ -197,7 +198,7 @@ impl Driver {
 
     /// The peer's end of the session ends the connection.
     fn check_session(&mut self) -> Result<(), OutOfMemory>
-        ensures log { (side : Side) (log : Log) (stage : ℕ → Stage) (untaken : List Action) → Refines side self.old.inbox log stage untaken → WalkFrom session_offset stage self.old.state.session
+        ensures log { (side : Side) (log : Log) (stage : ℕ → Stage) (untaken : List Action) → Refines side self.old.inbox log stage untaken → (self.old.state.progress.ending ≡ None → WalkFrom session_offset stage self.old.state.session)
             → OnOk result (Moves side log untaken self.old self.new (unless_ended_stage self.old.state.progress.ending (session_stages (transport_view side log) self.old.state.session stage) stage)
             (record self.old.state { progress = unless_ended self.old.state.progress.ending (check_session (transport_view side log) self.old.state.session) self.old.state.progress })) }
     {
@@ -343,7 +344,10 @@ impl Driver {
     }
 
     /// The work of a moment, as long as the connection is open: the scan, and what goes out then.
-    pub(super) fn work(&mut self) -> Result<(), OutOfMemory> {
+    pub(super) fn work(&mut self) -> Result<(), OutOfMemory>
+        ensures log { (side : Side) (log : Log) (m : Entry) (taken : ℕ) → TakenIn side log m self.old taken → OnOk result (Follows side self.new (log_and_flush side log m) taken) }
+        ensures closed { OnOk result (self.old.state.is_open ≡ false → self.new ≡ self.old) }
+    {
         if self.inbox.is_open() {
             self.scan()?;
             self.flush()?;

@@ -1,4 +1,4 @@
-use Rattle.std.proofs.Common.{◌≡◌, sym, subst}
+use Rattle.std.proofs.Common.{◌≡◌, ap, sym, subst, ◌∙◌}
 use Rattle.wt_driver.proofs.Checks.{checks-done, control-waits, control_checked_stages, decoder_state, encoder_state, local_state, three-checks}
 use Rattle.wt_driver.proofs.Moved.{state-moves}
 use Rattle.wt_driver.specs.Moving.{WalkFrom, datagram_checked_state, session_checked_stages}
@@ -19,7 +19,7 @@ returns c = record {
       let d5 = c.check_encoder.new.self in
       let d6 = c.check_decoder.new.self in
       let m1 = state-moves side log untaken d0 d1 stage (datagram_checked_state t d0.state) r (c.in_ok-check_datagram.ensures.log side log stage untaken r o h) in
-      let m2 = c.in_ok-check_session.ensures.log side log stage untaken m1.inbox (subst (λ (s : DriverState). WalkFrom session_offset stage s.session) (sym m1.state_is) w.session) in
+      let m2 = c.in_ok-check_session.ensures.log side log stage untaken m1.inbox (λ none. subst (λ (s : DriverState). WalkFrom session_offset stage s.session) (sym m1.state_is) (w.session (ap (λ (s : DriverState). s.progress.ending) (sym m1.state_is) ∙ none))) in
       let st2 = session_checked_stages t d1.state stage in
       let m3 = state-moves side log untaken d2 d3 st2 (local_state t d2.state) m2.inbox (c.check_local_control.ensures.log side log st2 untaken m2.inbox) in
       let a3 = three-checks side log untaken t stage d0 d1 d2 d3 m1 m2 m3 in

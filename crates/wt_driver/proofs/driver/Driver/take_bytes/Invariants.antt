@@ -1,0 +1,15 @@
+use Rattle.std.proofs.Common.{◌≡◌, ◌-◌, ℕ, true, length}
+use Rattle.wt_driver.proofs.Turning.{BytesSoFar}
+use Rattle.wt_driver.specs.Tie.{Follows}
+use Rattle.wt_seam_spec.specs.Arrivals.{fits}
+use Rattle.wt_turn.specs.Log.{Log}
+use Rattle.wt_turn.specs.declared.turn.Turn.TheVariants as turns
+use Rattle.wt_wire.specs.declared.side.Side.{Side}
+use Rattle.wt_driver.proofs.driver.Driver.take_bytes.Given as goal
+
+abbrev pub invariant-loop-at : goal.invariant-loop-at
+invariant-loop-at l = (side : Side) (log : Log) (taken : ℕ) → Follows side l.fn.self log taken → fits side log (turns.Bytes l.id l.bytes) ≡ true
+    → BytesSoFar side log taken l.id l.bytes l.at l.self
+
+abbrev pub decreases-loop-at : goal.decreases-loop-at
+decreases-loop-at l = length l.bytes - l.at
