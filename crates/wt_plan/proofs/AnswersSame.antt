@@ -14,7 +14,7 @@ use Rattle.wt_seam_spec.specs.Reports.{loss_of}
 use Rattle.wt_seam_spec.specs.Unread.{ReadPosition}
 use Rattle.wt_spec.specs.Answers.{is_first}
 use Rattle.wt_spec.specs.Driver.{stream_table}
-use Rattle.wt_spec.specs.Effect.{driver_error, error_of_ending, loss_or_local}
+use Rattle.wt_spec.specs.Effect.{error_of_ending, loss_or_local}
 use Rattle.wt_spec.specs.Handshake.{Connecting, HandshakeState, Requested, Responding, handshake_state, request_end, requested}
 use Rattle.wt_spec.specs.StreamTable.{ByFault, BySession, Ending, verdict_of}
 use Rattle.wt_turn.specs.Log.{Log, calls_of, events_of}

@@ -1,29 +1,27 @@
 -- What a transport that refines a log tells of the facts that calls ask.
-use Rattle.std.specs.Prelude.{[], ◌%◌, ◌&&◌, ◌+◌, ◌*◌, ◌/◌, ◌<◌, ◌==◌, ◌∷◌, ◌≡◌, Bool, List, None, false, if◌then◌else◌, is_some, length, nat_lt, not, suc, true, zero, ℕ}
+use Rattle.std.specs.Prelude.{[], ◌%◌, ◌&&◌, ◌+◌, ◌*◌, ◌==◌, ◌∷◌, ◌≡◌, Bool, List, false, if◌then◌else◌, is_some, length, nat_lt, not, suc, true, zero, ℕ}
 use Rattle.std.proofs.Common.{◌∙◌, ap, arith, refl, sym}
 use Rattle.std.proofs.lemmas.Bool.{lt-ltb, ne_eqb}
 use Rattle.wt_seam.proofs.Asking.{refined_sent_count}
 use Rattle.wt_seam.proofs.Fitting.{at-is, count-is, has-is}
 use Rattle.wt_seam.specs.Rules.{sending_half}
 use Rattle.wt_seam.specs.State.{Refines, TransportState, state_of, stream_of}
-use Rattle.wt_seam.specs.Step.{count_now, end_now, may_open_now, next_id_now, sent_now, streams_allowed_now, unread_now}
+use Rattle.wt_seam.specs.Step.{count_now, end_now, may_open_now, next_id_now, sent_now, unread_now}
 use Rattle.wt_seam_spec.specs.Outgoing.{may_open, next_id, streams_allowed}
-use Rattle.wt_seam_spec.specs.Reports.{datagram_fact, end_of, initial_credit, is_connected}
+use Rattle.wt_seam_spec.specs.Reports.{datagram_fact, end_of, initial_credit}
 use Rattle.wt_seam_spec.specs.Sent.{sent_on}
-use Rattle.wt_seam_spec.specs.Streams.{exists, local_bi, local_count, one_more_if, opens, peer_count, peer_bi, peer_opens, peer_uni, stream_count}
+use Rattle.wt_seam_spec.specs.Streams.{exists, local_bi, local_count, peer_count, peer_bi, peer_uni, stream_count}
 use Rattle.wt_seam_spec.specs.Unread.{ReadPosition}
-use Rattle.wt_streams.specs.HalfRules.{SendingHalf}
 use Rattle.wt_streams.specs.StreamState.{fresh, has_stream, sending_half_of, stream_at}
 use Rattle.wt_streams.specs.declared.stream.Stream.{Stream}
-use Rattle.wt_session_spec.specs.CallFacts.{CallFacts, facts_of}
+use Rattle.wt_session_spec.specs.CallFacts.{facts_of}
 use Rattle.wt_spec.specs.Effect.{loss_or_local, transport_error}
 use Rattle.wt_turn.specs.Log.{Event, Log, PeerBi, PeerUni, actions_of, all_events_of, events_of, is_open}
 use Rattle.wt_turn.specs.declared.action.Action.{Action}
 use Rattle.wt_wire.specs.declared.side.Side.{Side}
 use Rattle.wt_wire.specs.declared.side.Side.TheVariants.{Client, Server}
-use Rattle.wt_wire.specs.declared.side.StreamEnd.{StreamEnd}
 use Rattle.wt_plan.specs.FactsNow.{DriverFacts, facts_now, sending_now}
-use Rattle.wt_plan.specs.Tells.{AnswersLog, LogTells, driver_facts}
+use Rattle.wt_plan.specs.Tells.{AnswersLog, LogTells}
 use Rattle.wt_turn.specs.declared.action.Action.TheVariants as actions
 
 -- ---- streams are counted by four kinds

@@ -1,5 +1,5 @@
 -- What calls ask of every log that lawful turns lead to.
-use Rattle.std.specs.Prelude.{[], ◌%◌, ◌&&◌, ◌+◌, ◌/◌, ◌<◌, ◌==◌, ◌||◌, ◌∷◌, ◌≡◌, ◌≤◌, ◌⊎◌, Bool, List, Some, false, is_some, nat_lt, not, true, ℕ}
+use Rattle.std.specs.Prelude.{[], ◌%◌, ◌&&◌, ◌+◌, ◌/◌, ◌<◌, ◌==◌, ◌||◌, ◌∷◌, ◌≡◌, ◌≤◌, ◌⊎◌, Bool, Some, false, is_some, nat_lt, not, true, ℕ}
 use Rattle.std.proofs.Common.{◌∙◌, ap, arith, inl, inr, refl, sym}
 use Rattle.std.proofs.lemmas.Bool.{and_from, and_parts, eq-eqb, eqb-true, lt-ltb, ltb-true}
 use Rattle.std.specs.List.{list_any}
@@ -11,12 +11,9 @@ use Rattle.wt_laws.proofs.Steps.{Brings, KeepsEntries, by-entries, event_of}
 use Rattle.wt_laws.specs.Reachable.{IsReachable, is_among}
 use Rattle.wt_seam_spec.specs.Arrivals.{fits}
 use Rattle.wt_seam_spec.specs.Reports.{datagram_fact, is_connected, loss_of}
-use Rattle.wt_seam_spec.specs.Streams.{can_receive, can_send, exists, local_count, local_uni, one_more_if, peer_bi, peer_count, peer_opens, peer_uni}
-use Rattle.wt_spec.specs.Connection.{accepts_stream}
-use Rattle.wt_spec.specs.Driver.{stream_table}
-use Rattle.wt_spec.specs.Halves.{gives_up, has_receiving_half, has_sending_half, is_accepted}
-use Rattle.wt_turn.specs.Log.{CallRecord, Called, Connected, DatagramLimit, Entry, Event, Log, Received, Reported, ReportedLate, Sent, actions_of, all_events_of, calls_of, events_of, is_open}
-use Rattle.wt_turn.specs.declared.action.Action.{Action}
+use Rattle.wt_seam_spec.specs.Streams.{exists, local_count, local_uni, one_more_if, peer_bi, peer_count, peer_opens, peer_uni}
+use Rattle.wt_spec.specs.Halves.{gives_up, is_accepted}
+use Rattle.wt_turn.specs.Log.{Called, Connected, DatagramLimit, Event, Log, Received, Reported, ReportedLate, Sent, actions_of, all_events_of, calls_of, events_of, is_open}
 use Rattle.wt_turn.specs.declared.datagram_fact.DatagramFact.{DatagramFact}
 use Rattle.wt_turn.specs.declared.turn.Turn.{Turn}
 use Rattle.wt_wire.specs.declared.side.Side.{Side}

@@ -2,7 +2,7 @@
 use Rattle.std.specs.Prelude.{◌==◌, ◌∷◌, ◌≡◌, Bool, List, None, false, if◌then◌else◌, true, unwrap_or, ℕ}
 use Rattle.std.proofs.Common.{◌∙◌, ap, refl, sym}
 use Rattle.std.proofs.lemmas.Bool.{eq-eqb, eqb-true}
-use Rattle.wt_session_spec.specs.SessionState.{StreamUse, Given, begun, failed, stream_use, use_after}
+use Rattle.wt_session_spec.specs.SessionState.{StreamUse, Given, begun, failed, use_after}
 use Rattle.wt_spec.specs.Handshake.{after_record, handshake_state, requested, requested_by}
 use Rattle.wt_turn.specs.Log.{CallRecord, OpeningFailed, OpeningStarted, Polled, StreamAccepted, StreamGivenUp}
 use Rattle.wt_plan.specs.Table.{HasNoted, HasSet, KeepsCalls, TableValue, use_as, use_now}

@@ -1,17 +1,15 @@
 -- The plans by what is kept are those by the log.
-use Rattle.std.specs.Prelude.{[], ◌++◌, ◌+◌, ◌∷◌, ◌≡◌, Bool, List, None, Option, Some, codes, drop, false, if◌then◌else◌, length, not, true, ℕ}
-use Rattle.std.specs.List.{concat}
+use Rattle.std.specs.Prelude.{[], ◌++◌, ◌∷◌, ◌≡◌, Bool, List, None, Option, Some, codes, false, if◌then◌else◌, length, not, true, ℕ}
 use Rattle.std.proofs.Common.{◌∙◌, ap, refl, sym}
 use Rattle.std.proofs.lemmas.Bool.{and_parts}
 use Rattle.wt_message.specs.FixedBytes.{response_bytes}
 use Rattle.wt_proto.specs.declared.response_walk.ResponseWalk.{ResponseWalk}
 use Rattle.wt_seam.proofs.Fitting.{receive-is, send-is}
 use Rattle.wt_seam.proofs.Refining.{refined_unread}
-use Rattle.wt_seam.specs.State.{Refines, TransportState, state_of, stream_of}
+use Rattle.wt_seam.specs.State.{TransportState}
 use Rattle.wt_seam.specs.Step.{can_receive_now, can_send_now, unread_now}
-use Rattle.wt_seam_spec.specs.Streams.{can_receive, can_send, contents, exists, local_bi}
-use Rattle.wt_seam_spec.specs.Unread.{ReadPosition, from_position}
-use Rattle.wt_seam_spec.specs.Unread as seam
+use Rattle.wt_seam_spec.specs.Streams.{contents, local_bi}
+use Rattle.wt_seam_spec.specs.Unread.{from_position}
 use Rattle.wt_session_spec.proofs.Theorems.{may_call_theorem, planned_theorem}
 use Rattle.wt_session_spec.proofs.Uses.{same-opening, same-receiving, same-sending}
 use Rattle.wt_session_spec.specs.CallFacts.{CallFacts, facts_of}
@@ -22,11 +20,10 @@ use Rattle.wt_session_spec.specs.Plans.{may_call_now, may_respond_now, plan_of, 
 use Rattle.wt_session_spec.specs.SessionState.{SessionState, has_receiving_now, has_sending_now, is_opening_now, session_state}
 use Rattle.wt_spec.specs.Answers.{call_effect, is_client, may_call}
 use Rattle.wt_spec.specs.Connection.{is_opening}
-use Rattle.wt_spec.specs.Driver.{stream_table}
-use Rattle.wt_spec.specs.Halves.{body_offset, has_receiving_half, has_sending_half, total_read, unread}
+use Rattle.wt_spec.specs.Halves.{has_receiving_half, has_sending_half, unread}
 use Rattle.wt_spec.specs.Effect.{is_empty}
-use Rattle.wt_spec.specs.Handshake.{Connecting, HandshakeState, Requested, Responding, awaits_answer, handshake_state, response_head}
-use Rattle.wt_spec.specs.StreamTable.{Classified, verdict_of}
+use Rattle.wt_spec.specs.Handshake.{Connecting, HandshakeState, Requested, Responding, awaits_answer, response_head}
+use Rattle.wt_spec.specs.StreamTable.{Classified}
 use Rattle.wt_streams.specs.HalfRules.{read_answer, read_count, read_exact_answer}
 use Rattle.wt_turn.specs.Log.{CallRecord, Log, Polled, ResponseStarted, calls_of}
 use Rattle.wt_turn.specs.declared.action.Action.{Action}
@@ -35,7 +32,7 @@ use Rattle.wt_wire.specs.declared.side.Side.{Side}
 use Rattle.wt_plan.proofs.FactsSame.{facts-same}
 use Rattle.wt_plan.specs.FactsNow.{DriverFacts, facts_now}
 use Rattle.wt_plan.specs.Table.{KeepsCalls, TableValue}
-use Rattle.wt_plan.specs.Tells.{TellsFacts, driver_facts, is_answering, session_now}
+use Rattle.wt_plan.specs.Tells.{TellsFacts, is_answering, session_now}
 use Rattle.wt_turn.specs.declared.action.Action.TheVariants as actions
 use Rattle.wt_turn.specs.declared.call.Call.TheVariants as calls
 use Rattle.wt_proto.specs.declared.response_walk.ResponseWalk.TheVariants as responses

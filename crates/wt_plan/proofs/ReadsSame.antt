@@ -1,6 +1,5 @@
 -- The readers of the application's streams are as far as its calls read them.
-use Rattle.std.specs.Prelude.{[], ◌+◌, ◌≡◌, List, None, Option, Some, true, ℕ}
-use Rattle.std.proofs.Common.{ap, refl, sym}
+use Rattle.std.specs.Prelude.{◌≡◌, List, Some, ℕ}
 use Rattle.wt_inbox.specs.Stage as inboxes
 use Rattle.wt_inbox.specs.Stage.{Anywhere, BiHeader, Body, ControlBody, GivenUp, IsAt, ResponseHead, SessionBody, Stage, UniHeader, Untouched}
 use Rattle.wt_inbox.specs.State.{InboxState}
@@ -12,7 +11,7 @@ use Rattle.wt_turn.specs.declared.action.Action.{Action}
 use Rattle.wt_wire.specs.declared.side.Side.{Side}
 use Rattle.wt_plan.proofs.LawfulLogs.{log_tells}
 use Rattle.wt_plan.specs.FactsNow.{DriverFacts}
-use Rattle.wt_plan.specs.Tells.{AnswersLog, ReadsAsCalled, TellsFacts}
+use Rattle.wt_plan.specs.Tells.{AnswersLog, TellsFacts}
 use Rattle.wt_plan.specs.Inboxes.{StagesReadAsCalled}
 
 read-at : (x : InboxState) (k : ℕ) (bytes : List ℕ) (position : ReadPosition) (stage : Stage) (n : ℕ) → IsAt x k bytes position stage → inboxes.body_offset stage ≡ Some n → position ≡ AtOffset n

@@ -1,5 +1,5 @@
 -- What a session's table keeps, as data, and which calls it keeps.
-use Rattle.std.specs.Prelude.{[], ◌%◌, ◌/◌, ◌==◌, ◌≡◌, Bool, List, Option, false, if◌then◌else◌, length, slice_index_or, unwrap_or, ℕ}
+use Rattle.std.specs.Prelude.{[], ◌%◌, ◌/◌, ◌==◌, ◌≡◌, List, false, if◌then◌else◌, slice_index_or, unwrap_or, ℕ}
 use Rattle.wt_session_spec.specs.SessionState as session
 use Rattle.wt_spec.specs.Handshake as handshake
 use Rattle.wt_turn.specs.Log.{CallRecord}
