@@ -4,3 +4,9 @@ pub mod Reading
 pub mod Responses
 pub mod Requests
 pub mod Uses
+pub mod Noted
+pub mod LawfulLogs
+pub mod FactsSame
+pub mod PlansSame
+pub mod AnswersSame
+pub mod ReadsSame

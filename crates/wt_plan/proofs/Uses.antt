@@ -1,5 +1,5 @@
 -- A row with one stream more of which nothing was done, and a row with another use of one stream.
-use Rattle.std.specs.Prelude.{[], ◌%◌, ◌++◌, ◌/◌, ◌==◌, ◌∷◌, ◌≡◌, ◌⊎◌, List, false, if◌then◌else◌, length, slice_index_or, slice_set, suc, zero, ℕ}
+use Rattle.std.specs.Prelude.{[], ◌%◌, ◌++◌, ◌/◌, ◌==◌, ◌∷◌, ◌≡◌, ◌⊎◌, List, false, if◌then◌else◌, length, slice_set, suc, zero, ℕ}
 use Rattle.std.proofs.Common.{arith, inl, inr, refl, sym}
 use Rattle.std.proofs.lemmas.Bool.{cases_eq, eq-eqb, ne_eqb}
 use Rattle.std.proofs.lemmas.List.{get_or-set_other, get_or-set_same}

@@ -4,6 +4,7 @@
 pub mod connect_plan;
 pub mod connection_plans;
 pub mod ends;
+pub mod given_halves;
 pub mod half_plans;
 pub mod handshake_plans;
 pub mod heads;
@@ -11,3 +12,4 @@ pub mod plan;
 pub mod read_plans;
 pub mod record;
 pub mod session_table;
+pub mod tells;

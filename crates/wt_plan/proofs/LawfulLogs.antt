@@ -1,0 +1,113 @@
+-- What calls ask of every log that lawful turns lead to.
+use Rattle.std.specs.Prelude.{[], ◌%◌, ◌&&◌, ◌+◌, ◌/◌, ◌<◌, ◌==◌, ◌||◌, ◌∷◌, ◌≡◌, ◌≤◌, ◌⊎◌, Bool, Some, false, is_some, nat_lt, not, true, ℕ}
+use Rattle.std.proofs.Common.{◌∙◌, ap, arith, inl, inr, refl, sym}
+use Rattle.std.proofs.lemmas.Bool.{and_from, and_parts, eq-eqb, eqb-true, lt-ltb, ltb-true}
+use Rattle.std.specs.List.{list_any}
+use Rattle.wt_laws.proofs.Classified.{are-peers, is_peers}
+use Rattle.wt_laws.proofs.Facts.{IsSessions, facts-hold, is_local, open-before}
+use Rattle.wt_laws.proofs.HeaderLaws.{heads-hold}
+use Rattle.wt_laws.proofs.Reached.{reached}
+use Rattle.wt_laws.proofs.Steps.{Brings, KeepsEntries, by-entries, event_of}
+use Rattle.wt_laws.specs.Reachable.{IsReachable, is_among}
+use Rattle.wt_seam_spec.specs.Arrivals.{fits}
+use Rattle.wt_seam_spec.specs.Reports.{datagram_fact, is_connected, loss_of}
+use Rattle.wt_seam_spec.specs.Streams.{exists, local_count, local_uni, one_more_if, peer_bi, peer_count, peer_opens, peer_uni}
+use Rattle.wt_spec.specs.Halves.{gives_up, is_accepted}
+use Rattle.wt_turn.specs.Log.{Called, Connected, DatagramLimit, Event, Log, Received, Reported, ReportedLate, Sent, actions_of, all_events_of, calls_of, events_of, is_open}
+use Rattle.wt_turn.specs.declared.datagram_fact.DatagramFact.{DatagramFact}
+use Rattle.wt_turn.specs.declared.turn.Turn.{Turn}
+use Rattle.wt_wire.specs.declared.side.Side.{Side}
+use Rattle.wt_plan.specs.Tells.{LogTells}
+use Rattle.wt_turn.specs.declared.turn.Turn.TheVariants as turns
+
+-- ---- datagrams are told of from the connection on
+
+record DatagramsTold (log : Log) : Type 0 where
+  same_events : is_open log ≡ true → all_events_of log ≡ events_of log
+  connected : is_some (datagram_fact (events_of log)) ≡ is_connected (events_of log)
+
+-- a limit of datagrams comes on a connection
+limit-connected : (side : Side) (turn : Turn) (log : Log) (fact : DatagramFact) → Brings side turn log (DatagramLimit fact) → is_connected (all_events_of log) ≡ true
+limit-connected side turn log fact b = at turn b.told b.lawful
+  where
+    at : (t : Turn) → event_of t ≡ Some (DatagramLimit fact) → fits side log t ≡ true → is_connected (all_events_of log) ≡ true
+    at (turns.DatagramLimit f) e l = (and_parts (is_connected (all_events_of log)) (not (is_some (loss_of (all_events_of log)))) l).0
+    at _ e l = absurd (cc)
+
+told-event : (side : Side) (turn : Turn) (log : Log) (e : Event) → is_open log ≡ true → Brings side turn log e → DatagramsTold log → is_some (datagram_fact (e ∷ events_of log)) ≡ is_connected (e ∷ events_of log)
+told-event side turn log (Connected uni bi credit fact) o b p = refl
+told-event side turn log (DatagramLimit fact) o b p = sym (ap is_connected (sym (p.same_events o)) ∙ limit-connected side turn log fact b)
+told-event side turn log _ o b p = p.connected
+
+told-entries : (side : Side) (turn : Turn) → KeepsEntries side turn DatagramsTold
+told-entries side turn = record {
+  action = λ log a p. record { same_events = λ o. p.same_events (open-before a log o); connected = p.connected };
+  event = λ log e o b p. record { same_events = λ x. ap (λ es. e ∷ es) (p.same_events o); connected = told-event side turn log e o b p };
+  late = λ log e o b p. record { same_events = λ x. let y : is_open log ≡ true = x in absurd (cc); connected = p.connected };
+  byte = λ log id b o r p. record { same_events = p.same_events; connected = p.connected };
+  record_ = λ log r c p. record { same_events = p.same_events; connected = p.connected };
+}
+
+datagrams-told : (side : Side) (log : Log) → IsReachable side log → DatagramsTold log
+datagrams-told side log r = reached DatagramsTold (record { same_events = λ o. refl; connected = refl }) (λ turn. by-entries (told-entries side turn)) log r
+
+-- ---- a stream that was given was opened
+
+more-if : (b : Bool) (m n : ℕ) → m ≤ n → one_more_if b m ≤ one_more_if b n
+more-if true m n l = omega arith
+more-if false m n l = l
+
+one-if : (b : Bool) (m n : ℕ) → m ≤ n → m ≤ one_more_if b n
+one-if true m n l = omega arith
+one-if false m n l = l
+
+-- the events that counted are among all
+peers-ever : (side : Side) (kind : ℕ) (log : Log) → peer_count side (events_of log) kind ≤ peer_count side (all_events_of log) kind
+peers-ever side kind [] = omega arith
+peers-ever side kind (Reported e ∷ log) = more-if (peer_opens side kind e) _ _ (peers-ever side kind log)
+peers-ever side kind (ReportedLate e ∷ log) = one-if (peer_opens side kind e) _ _ (peers-ever side kind log)
+peers-ever side kind (Received id b ∷ log) = peers-ever side kind log
+peers-ever side kind (Sent a ∷ log) = peers-ever side kind log
+peers-ever side kind (Called r ∷ log) = peers-ever side kind log
+
+among-exists : (side : Side) (log : Log) (kind k : ℕ) → is_among kind (peer_count side (events_of log) kind) k ≡ true → exists side log k ≡ true
+among-exists side log kind k e =
+    let a = and_parts (k % 4 == kind) (nat_lt (k / 4) (peer_count side (events_of log) kind)) e in
+    let same : k % 4 ≡ kind = eqb-true (k % 4) kind a.0 in
+    let l : k / 4 < peer_count side (events_of log) kind = ltb-true (k / 4) _ a.1 in
+    let ever : peer_count side (events_of log) kind ≤ peer_count side (all_events_of log) kind = peers-ever side kind log in
+    rw same (lt-ltb (k / 4) (peer_count side (all_events_of log) kind + local_count (actions_of log) kind) (omega arith))
+
+peers-exist : (side : Side) (log : Log) (k : ℕ) (b : Bool) → is_among (peer_uni side) (peer_count side (events_of log) (peer_uni side)) k ≡ b → is_peers side (events_of log) k ≡ true → exists side log k ≡ true
+peers-exist side log k true u e = among-exists side log (peer_uni side) k u
+peers-exist side log k false u e = among-exists side log (peer_bi side) k (sym (ap (λ b. b || is_among (peer_bi side) (peer_count side (events_of log) (peer_bi side)) k) u) ∙ e)
+
+given-exists : (side : Side) (log : Log) → IsReachable side log → (k : ℕ) → is_accepted log k ≡ true → exists side log k ≡ true
+given-exists side log r k a = at ((facts-hold side log r).accepted k a)
+  where
+    at : (is_local side k ≡ true) ⊎ IsSessions side log k → exists side log k ≡ true
+    at (inl l) =
+        let h = heads-hold side log r in
+        let c : k / 4 < local_count (actions_of log) (k % 4) = h.counted k (h.local_accepted k l a) in
+        lt-ltb (k / 4) (peer_count side (all_events_of log) (k % 4) + local_count (actions_of log) (k % 4)) (omega arith)
+    at (inr s) = peers-exist side log k (is_among (peer_uni side) (peer_count side (events_of log) (peer_uni side)) k) refl (are-peers side log k _ s.verdict)
+
+swap-eq : (m n : ℕ) → (m == n) ≡ (n == m)
+swap-eq m n = at (m == n) (n == m) refl refl
+  where
+    at : (b c : Bool) → (m == n) ≡ b → (n == m) ≡ c → (m == n) ≡ (n == m)
+    at true c e f = e ∙ sym (eq-eqb n m (sym (eqb-true m n e)))
+    at false true e f = let same = eq-eqb m n (sym (eqb-true n m f)) in absurd (cc)
+    at false false e f = e ∙ sym f
+
+pub log_tells : (side : Side) (log : Log) → IsReachable side log → LogTells side log
+log_tells side log r = record {
+  connected = (datagrams-told side log r).connected;
+  sending = λ k e.
+      let a = and_parts (is_accepted log k) (not (k % 4 == peer_uni side)) e in
+      and_from (exists side log k) (not (peer_uni side == k % 4)) (given-exists side log r k a.0) (ap not (swap-eq (peer_uni side) (k % 4)) ∙ a.1);
+  receiving = λ k e.
+      let b = and_parts (is_accepted log k && not (k % 4 == local_uni side)) (not (list_any (gives_up k) (calls_of log))) e in
+      let a = and_parts (is_accepted log k) (not (k % 4 == local_uni side)) b.0 in
+      and_from (exists side log k) (not (local_uni side == k % 4)) (given-exists side log r k a.0) (ap not (swap-eq (local_uni side) (k % 4)) ∙ a.1);
+}

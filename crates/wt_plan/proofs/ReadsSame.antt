@@ -1,0 +1,38 @@
+-- The readers of the application's streams are as far as its calls read them.
+use Rattle.std.specs.Prelude.{◌≡◌, List, Some, ℕ}
+use Rattle.wt_inbox.specs.Stage as inboxes
+use Rattle.wt_inbox.specs.Stage.{Anywhere, BiHeader, Body, ControlBody, GivenUp, IsAt, ResponseHead, SessionBody, Stage, UniHeader, Untouched}
+use Rattle.wt_inbox.specs.State.{InboxState}
+use Rattle.wt_laws.specs.Reachable.{IsReachable}
+use Rattle.wt_seam_spec.specs.Streams.{contents}
+use Rattle.wt_seam_spec.specs.Unread.{AtOffset, ReadPosition}
+use Rattle.wt_turn.specs.Log.{Log}
+use Rattle.wt_turn.specs.declared.action.Action.{Action}
+use Rattle.wt_wire.specs.declared.side.Side.{Side}
+use Rattle.wt_plan.proofs.LawfulLogs.{log_tells}
+use Rattle.wt_plan.specs.FactsNow.{DriverFacts}
+use Rattle.wt_plan.specs.Tells.{AnswersLog, TellsFacts}
+use Rattle.wt_plan.specs.Inboxes.{StagesReadAsCalled}
+
+read-at : (x : InboxState) (k : ℕ) (bytes : List ℕ) (position : ReadPosition) (stage : Stage) (n : ℕ) → IsAt x k bytes position stage → inboxes.body_offset stage ≡ Some n → position ≡ AtOffset n
+read-at x k bytes position Untouched n i e = let p = i.0 in cc
+read-at x k bytes position (Body m) n i e = let p = i.0 in cc
+read-at x k bytes position UniHeader n i e = absurd (cc)
+read-at x k bytes position BiHeader n i e = absurd (cc)
+read-at x k bytes position ResponseHead n i e = absurd (cc)
+read-at x k bytes position (ControlBody at) n i e = absurd (cc)
+read-at x k bytes position (SessionBody at) n i e = absurd (cc)
+read-at x k bytes position GivenUp n i e = absurd (cc)
+read-at x k bytes position Anywhere n i e = absurd (cc)
+
+-- an inbox, whose stages say how far the calls read, tells what a log does
+pub inbox_tells : (side : Side) (log : Log) (x : InboxState) (stage : ℕ → Stage) (untaken : List Action) (d : DriverFacts)
+    → inboxes.Refines side x log stage untaken → StagesReadAsCalled side log stage → AnswersLog side log d → IsReachable side log → TellsFacts side log x.transport d
+inbox_tells side log x stage untaken d r s a reach = record {
+  position = r.position;
+  untaken = untaken;
+  refines = r.transport;
+  reads = λ k h. read-at x k (contents log k) (r.position k) (stage k) _ (r.staged k) (s k h);
+  answers = a;
+  lawful = log_tells side log reach;
+}
