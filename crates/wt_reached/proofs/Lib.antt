@@ -1,0 +1,4 @@
+pub mod Fair
+pub mod Ends
+pub mod There
+pub mod Handshaking
