@@ -112,13 +112,16 @@ module _ (side : Side) (turn : Turn) where
   new-reset log k (actions.ResetOut id code) c e = inl (subst (λ (j : ℕ). is_accepted log j ≡ true) (eqb-true id k e) (and_parts (is_accepted log id) _ c.2).0)
   new-reset log k _ c e = absurd (cc)
 
-  ends-own : (own : List Action) (log : Log) → OwnCauses side turn log own → Ends side log → Ends side (with_actions own log)
-  ends-own [] log c h = h
-  ends-own (a ∷ own) log c h = ends-own own (Sent a ∷ log) c.1 (record {
+  pub ends-action : (log : Log) (a : Action) → ActionCause side turn log a → Ends side log → Ends side (Sent a ∷ log)
+  ends-action log a c h = record {
     given = (given-entries side turn).action log a h.given;
-    finished = λ k f. from-or (finishes k a) (is_finished (actions_of log) k) (new-finished log k a h c.0) (h.finished k) f;
-    reset = λ k f. from-or (resets k (Sent a)) (is_reset log k) (new-reset log k a c.0) (h.reset k) f;
-  })
+    finished = λ k f. from-or (finishes k a) (is_finished (actions_of log) k) (new-finished log k a h c) (h.finished k) f;
+    reset = λ k f. from-or (resets k (Sent a)) (is_reset log k) (new-reset log k a c) (h.reset k) f;
+  }
+
+  pub ends-own : (own : List Action) (log : Log) → OwnCauses side turn log own → Ends side log → Ends side (with_actions own log)
+  ends-own [] log c h = h
+  ends-own (a ∷ own) log c h = ends-own own (Sent a ∷ log) c.1 (ends-action log a c.0 h)
 
   -- ---- a record
 
@@ -138,7 +141,7 @@ module _ (side : Side) (turn : Turn) where
   still-reset log k r h c (inl x) = inl (or_right (accepts_stream k r) _ x)
   still-reset log k r h c (inr s) = inr (still-session log k r h c s)
 
-  ends-record : (log : Log) (r : CallRecord) → RecordCause side turn log r → Ends side log → Ends side (Called r ∷ log)
+  pub ends-record : (log : Log) (r : CallRecord) → RecordCause side turn log r → Ends side log → Ends side (Called r ∷ log)
   ends-record log r c h = record {
     given = (given-entries side turn).record_ log r c h.given;
     finished = λ k f. still-finished log k r (h.finished k f);

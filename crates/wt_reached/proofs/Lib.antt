@@ -2,3 +2,4 @@ pub mod Fair
 pub mod Ends
 pub mod There
 pub mod Handshaking
+pub mod Rejecting
