@@ -27,15 +27,15 @@ use Rattle.wt_laws.proofs.SessionStream.{not-true-so}
 use Rattle.wt_laws.proofs.Steps.{Keeps, KeepsEntries, by-entries, calls-logged, of-record}
 use Rattle.wt_laws.specs.Causes.{ActionCause, ByAcceptance, ByRejection, CallCause, FromBefore, OfHeader, OfRequest, OfResponse, OfWrite, OwnCauses, RecordCause, ResponseFrom, SendCause, frame_of}
 use Rattle.wt_laws.specs.Reachable.{AfterTurn, AtStart, IsReachable}
-use Rattle.wt_reached.proofs.Ends.{Ends, ends-action, ends-own, ends-record, keeps-ends}
+use Rattle.wt_reached.proofs.Ends.{Ends, ends-action, ends-hold, ends-own, ends-record, keeps-ends}
 use Rattle.wt_reached.proofs.Handshaking.{Reached, reached-holds}
 use Rattle.wt_reached.proofs.There.{is-local-uni}
-use Rattle.wt_spec.specs.Answers.{call_effect, is_client, is_lawful, log_after}
+use Rattle.wt_spec.specs.Answers.{call_effect, is_client, is_lawful, log_after, may_respond}
 use Rattle.wt_spec.specs.Connection.{starts_opening}
 use Rattle.wt_spec.specs.Driver.{apply_if, delivers, flush, is_moment, log_and_flush, pending_actions, stream_table}
 use Rattle.wt_spec.specs.Effect.{Effect, closing, head_left, is_covered, is_empty, log_call}
 use Rattle.wt_spec.specs.Halves.{is_accepted}
-use Rattle.wt_spec.specs.Handshake.{Connecting, HandshakeState, Responding, accept_response, continue_by, finish_rejection, handshake_state, is_refused, reject_response, request_end, requested, respond, response_head}
+use Rattle.wt_spec.specs.Handshake.{Connecting, HandshakeState, Requested, Responding, accept_response, awaits_answer, continue_by, finish_rejection, handshake_state, is_refused, reject_response, request_end, requested, respond, response_head, start_response}
 use Rattle.wt_spec.specs.StreamTable.{verdict_of}
 use Rattle.wt_turn.specs.declared.action.Action.TheVariants as actions
 use Rattle.wt_turn.specs.declared.call.Call.TheVariants as calls
@@ -264,3 +264,75 @@ module _ (side : Side) (log : Log) where
   whole-respond : (accepts : Bool) (head : List ℕ) (waiting : CallRecord) → requested (waiting ∷ calls_of log) ≡ requested (calls_of log) → handshake_state (waiting ∷ calls_of log) ≡ Responding accepts head → (local_uni side == requested (calls_of log)) ≡ false → IsWhole (respond side log accepts head waiting)
   whole-respond true head waiting same state other = whole-accept (requested (calls_of log)) (head_left log (requested (calls_of log)) head) waiting (ap is_rejecting state)
   whole-respond false head waiting same state other = whole-reject head waiting same state other
+
+-- ---- a turn
+
+-- the turn connects, or goes on with a response
+abbrev is_answering : Turn → Bool
+is_answering (turns.Call (calls.Connect options lookup outcome)) = true
+is_answering (turns.Call (calls.Accept headers)) = true
+is_answering (turns.Call calls.Forbidden) = true
+is_answering (turns.Call calls.NotFound) = true
+is_answering (turns.Call calls.TooManyRequests) = true
+is_answering (turns.Call calls.Handshake) = true
+is_answering _ = false
+
+frame-answers : (turn : Turn) (head : List ℕ) → frame_of turn ≡ Some head → is_answering turn ≡ true
+frame-answers (turns.Call (calls.Connect options lookup outcome)) head f = refl
+frame-answers (turns.Call (calls.Accept headers)) head f = refl
+frame-answers (turns.Call calls.Forbidden) head f = refl
+frame-answers (turns.Call calls.NotFound) head f = refl
+frame-answers (turns.Call calls.TooManyRequests) head f = refl
+frame-answers (turns.Call _) head f = absurd (cc)
+frame-answers _ head f = absurd (cc)
+
+never-answers : (turn : Turn) → is_answering turn ≡ false → (cs : List CallRecord) (accepts : Bool) (head : List ℕ) → ResponseFrom turn cs accepts head → ⊥
+never-answers turn n cs accepts head (ByAcceptance id headers a t h s) = absurd (let x = ap is_answering t in cc)
+never-answers turn n cs accepts head (ByRejection id a f s) = absurd (let x = frame-answers turn head f in cc)
+never-answers turn n cs accepts head (FromBefore t s) = absurd (let x = ap is_answering t in cc)
+
+asks-one : (s : HandshakeState) → awaits_answer s ≡ true → has_request s ≡ true
+asks-one (Requested id) e = refl
+asks-one _ e = absurd (cc)
+
+module _ (side : Side) (log : Log) (r : IsReachable side log) (w : RejectsWhole log) where
+  started : (accepts : Bool) (head : List ℕ) → may_respond side log ≡ true → RejectsWhole (start_response side log accepts head).log
+  started accepts head m =
+      whole-respond side log accepts head (ResponseStarted accepts head) refl refl
+      (not-control side log (ends-hold side log r).given (asks-one (handshake_state (calls_of log)) (and_parts (not (is_client side)) _ m).1))
+
+  polled : is_lawful side log (turns.Call calls.Handshake) ≡ true → (b : Bool) → is_responding (handshake_state (calls_of log)) ≡ b → RejectsWhole (log_after side log (turns.Call calls.Handshake))
+  unfolding call_effect
+  polled l false n =
+      not-rejecting (log_after side log (turns.Call calls.Handshake)) (rejects-never (handshake_state (calls_of (log_after side log (turns.Call calls.Handshake))))
+      (keeps-turn {P = λ (g : Log). is_responding (handshake_state (calls_of g)) ≡ false} (by-entries (unanswering-entries side)) log l n))
+  polled l true n = at (handshake_state (calls_of log)) refl n
+    where
+      at : (s : HandshakeState) → handshake_state (calls_of log) ≡ s → is_responding s ≡ true → RejectsWhole (continue_by (handshake_state (calls_of log)) side log).log
+      at (Responding accepts head) i n =
+          subst (λ z. RejectsWhole (continue_by z side log).log) (sym i)
+          (whole-respond side log accepts head Polled refl i (not-control side log (ends-hold side log r).given (ap has_request i)))
+      at _ i n = absurd (cc)
+
+  answered : (turn : Turn) → is_lawful side log turn ≡ true → is_answering turn ≡ true → RejectsWhole (log_after side log turn)
+  unfolding call_effect
+  answered (turns.Call (calls.Connect options lookup outcome)) l n = λ head e z.
+      absurd (let x = (reached-holds side (log_after side log (turns.Call (calls.Connect options lookup outcome))) (AfterTurn (turns.Call (calls.Connect options lookup outcome)) r l)).out.asked (ap has_request e) in let y = (and_parts (is_client side) _ l).0 in cc)
+  answered (turns.Call (calls.Accept headers)) l n = started true (response_head (codes "200") headers) l
+  answered (turns.Call calls.Forbidden) l n = started false (response_bytes (codes "403")) l
+  answered (turns.Call calls.NotFound) l n = started false (response_bytes (codes "404")) l
+  answered (turns.Call calls.TooManyRequests) l n = started false (response_bytes (codes "429")) l
+  answered (turns.Call calls.Handshake) l n = polled l (is_responding (handshake_state (calls_of log))) refl
+  answered (turns.Call _) l n = absurd (cc)
+  answered _ l n = absurd (cc)
+
+  rejects-turn : (turn : Turn) → is_lawful side log turn ≡ true → RejectsWhole (log_after side log turn)
+  rejects-turn turn l = at (is_answering turn) refl
+    where
+      at : (b : Bool) → is_answering turn ≡ b → RejectsWhole (log_after side log turn)
+      at true n = answered turn l n
+      at false n = rejected-after side turn (never-answers turn n) log l (ends-hold side log r) w
+
+pub rejects-whole : (side : Side) (log : Log) → IsReachable side log → RejectsWhole log
+rejects-whole side [] AtStart = not-rejecting [] refl
+rejects-whole side log (AfterTurn turn r l) = rejects-turn side _ r (rejects-whole side _ r) turn l
