@@ -41,7 +41,7 @@ pub record Ends (side : Side) (log : Log) : Type 0 where
 -- ---- what the driver sends
 
 -- nothing is finished, and nothing reset but the session's stream
-abbrev Mild : List CallRecord → List Action → Type 0
+abbrev pub Mild : List CallRecord → List Action → Type 0
 Mild cs [] = Unit {0}
 Mild cs (a ∷ later) = (((k : ℕ) → finishes k a ≡ false) × ((k : ℕ) → resets k (Sent a) ≡ true → IsSession cs k)) × Mild cs later
 
@@ -72,7 +72,7 @@ mild-close cs o (Some (BySession code reason false)) i f = (((λ k. refl), (λ k
 mild-close cs None (Some (BySession code reason true)) i f = absurd f
 mild-close cs (Some s) (Some (BySession code reason true)) i f = (((λ k. refl), (λ k e. (s, i, eqb-true s.0 k e))), (((λ k. refl), (λ k e. absurd (cc))), tt))
 
-mild-pending : (side : Side) (log : Log) → Mild (calls_of log) (pending_actions side log)
+pub mild-pending : (side : Side) (log : Log) → Mild (calls_of log) (pending_actions side log)
 mild-pending side log =
     let cs = calls_of log in
     let a = control_actions (nat_lt 0 (unis_allowed (events_of log))) (local_uni side) (credit (events_of log) (local_uni side)) (control_sent side log) in

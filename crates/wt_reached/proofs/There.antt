@@ -28,6 +28,7 @@ use Rattle.wt_laws.proofs.SessionStream.{Out, for-client, for-server, is_unanswe
 use Rattle.wt_laws.specs.Causes.{is_under_way}
 use Rattle.wt_laws.specs.Laws.{is_session_stream, session_frame}
 use Rattle.wt_laws.specs.Reachable.{IsReachable, is_among}
+use Rattle.wt_reached.specs.Reading.{ByCall, ByPeer, Origin}
 use Rattle.wt_reached.proofs.Ends.{Ends, IsSession, ends-hold}
 use Rattle.wt_spec.specs.Answers.{is_client}
 use Rattle.wt_spec.specs.Connection.{ends_opening, is_opening, starts_opening}
@@ -164,6 +165,21 @@ module _ (side : Side) (log : Log) (h : Heads side log) where
       at w (HasUni a v f) = absurd (let x = uni-no-request (contents log k) (end_of (events_of log) k) in let y = ap is_request v in cc)
       at w (HasBi a v f) = and_from (exists side log k) (not (peer_uni side == k % 4)) (peers-exist side log (peer_bi side) k a) (ap not (of-bi (and_parts (k % 4 == peer_bi side) _ a).0 (peer_uni side == k % 4) refl))
 
+  -- its kind is that of the peer's bidirectional streams
+  pub request-bi : (k : ℕ) → list_any (delivers k) (calls_of log) ≡ true → (k % 4 == peer_bi side) ≡ true
+  request-bi k d = let w = h.given.handshakes.delivered k d in at w (h.given.facts_hold.verdicts k _ w.verdict)
+    where
+      at : (w : HadRequest side log k) → HasVerdict side log k (verdicts.Request w.headers w.at) → (k % 4 == peer_bi side) ≡ true
+      at w (HasUni a v f) = absurd (let x = uni-no-request (contents log k) (end_of (events_of log) k) in let y = ap is_request v in cc)
+      at w (HasBi a v f) = (and_parts (k % 4 == peer_bi side) _ a).0
+
+  pub given-origin : (k : ℕ) → is_accepted log k ≡ true → Origin side log k
+  given-origin k a = at (h.given.facts_hold.accepted k a)
+    where
+      at : (is_local side k ≡ true) ⊎ IsSessions side log k → Origin side log k
+      at (inl l) = ByCall l (h.local_accepted k l a)
+      at (inr s) = ByPeer s.session s.at s.verdict
+
   pub not-request : (k : ℕ) → is_local side k ≡ true → list_any (delivers k) (calls_of log) ≡ true → ⊥
   not-request k l d = absurd (let w = (h.given.handshakes.delivered k d).verdict in let n = local-unclassified side log k l in cc)
 
@@ -201,6 +217,27 @@ module _ (side : Side) (frame : Option (List ℕ)) (log : Log) (h : Out side fra
           subst (λ (j : ℕ). can_send side log j ≡ true) (sym e)
           (and_from (exists side log (local_bi side)) (not (peer_uni side == local_bi side % 4)) (client-exists side c (h.opened c (ap is_some s.1))) (ap not (local-sends side (local_bi side) (is-local-bi side))))
       at false c = request-sends side log h.heads k (ap (λ (b : Bool). if b then k == local_bi side else list_any (delivers k) (calls_of log)) (sym c) ∙ session-stream k s)
+
+  pub session-receives : (k : ℕ) → IsSession (calls_of log) k → can_receive side log k ≡ true
+  session-receives k s = and_from (exists side log k) (not (local_uni side == k % 4)) (and_parts (exists side log k) _ (session-sends k s)).0 (ap not (at (is_client side) refl))
+    where
+      of-client : (sd : Side) → (local_uni sd == local_bi sd % 4) ≡ false
+      of-client Client = refl
+      of-client Server = refl
+
+      other : (sd : Side) → local_uni sd ≢ peer_bi sd
+      other Client e = absurd (omega arith)
+      other Server e = absurd (omega arith)
+
+      of-server : (k % 4 == peer_bi side) ≡ true → (b : Bool) → (local_uni side == k % 4) ≡ b → b ≡ false
+      of-server m false e = refl
+      of-server m true e = absurd (other side (eqb-true (local_uni side) (k % 4) e ∙ eqb-true (k % 4) (peer_bi side) m))
+
+      at : (b : Bool) → is_client side ≡ b → (local_uni side == k % 4) ≡ false
+      at true c =
+          let e : k ≡ local_bi side = eqb-true k (local_bi side) (ap (λ (b : Bool). if b then k == local_bi side else list_any (delivers k) (calls_of log)) (sym c) ∙ session-stream k s) in
+          subst (λ (j : ℕ). (local_uni side == j % 4) ≡ false) (sym e) (of-client side)
+      at false c = of-server (request-bi side log h.heads k (ap (λ (b : Bool). if b then k == local_bi side else list_any (delivers k) (calls_of log)) (sym c) ∙ session-stream k s)) (local_uni side == k % 4) refl
 
   -- it isn't one that is opened by a call, nor the control stream
   pub session-not-opening : (k : ℕ) → IsSession (calls_of log) k → list_any (starts_opening k) (calls_of log) ≡ true → ⊥
