@@ -1,0 +1,2 @@
+pub mod SendsMay
+pub mod OwnActions
