@@ -4,3 +4,4 @@ pub mod Reading
 pub mod Responses
 pub mod Requests
 pub mod Uses
+pub mod Noted

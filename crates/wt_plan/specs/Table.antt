@@ -1,5 +1,5 @@
 -- What a session's table keeps, as data, and which calls it keeps.
-use Rattle.std.specs.Prelude.{[], ◌%◌, ◌/◌, ◌==◌, ◌≡◌, Bool, List, Option, false, if◌then◌else◌, length, slice_index_or, ℕ}
+use Rattle.std.specs.Prelude.{[], ◌%◌, ◌/◌, ◌==◌, ◌≡◌, Bool, List, Option, false, if◌then◌else◌, length, slice_index_or, unwrap_or, ℕ}
 use Rattle.wt_session_spec.specs.SessionState as session
 use Rattle.wt_spec.specs.Handshake as handshake
 use Rattle.wt_turn.specs.Log.{CallRecord}
@@ -69,3 +69,9 @@ pub record HasSet (old new : TableValue) (id : ℕ) (to : StreamUse) : Type 0 wh
   pub requested_same : new.requested ≡ old.requested
   pub end_same : new.request_end ≡ old.request_end
   pub uses : (k : ℕ) → use_now new k ≡ (if id == k then to else use_now old k)
+
+-- the table after a call that recorded this
+pub record HasNoted (old new : TableValue) (r : CallRecord) : Type 0 where
+  pub handshake_is : new.handshake ≡ unwrap_or (handshake.after_record r) old.handshake
+  pub requested_is : new.requested ≡ unwrap_or (handshake.requested_by r) old.requested
+  pub uses : (k : ℕ) → use_as (use_now new k) ≡ session.use_after k r (use_as (use_now old k))

@@ -1,8 +1,11 @@
 //! What a session keeps: how far the handshake is, and what the application has of each stream.
-ghost use Rattle.std.specs.Prelude.{◌≡◌, ◌<◌, ◌+◌, [], OnOk, length, ℕ};
-ghost use Rattle.wt_plan.specs.Table.{HasSet, IsSet, KeepsCalls, handshake_as, untouched, use_as, use_in, use_now};
+ghost use Rattle.std.specs.Prelude.{◌≡◌, ◌<◌, ◌+◌, ◌∷◌, [], List, OnOk, length, true, ℕ};
+ghost use Rattle.wt_plan.specs.Table.{HasNoted, HasSet, IsSet, KeepsCalls, handshake_as, untouched, use_as, use_in, use_now};
+ghost use Rattle.wt_plan.specs.Records.{record_of};
+ghost use Rattle.wt_turn.specs.Log.{CallRecord, OpeningFailed, OpeningStarted, StreamAccepted, StreamGivenUp};
 ghost use Rattle.wt_session_spec.specs.SessionState.{begun, failed, is_in_opening, was_given};
 
+use crate::record::Record;
 use std::alloc::Global;
 use std::marker::Model;
 use wt_turn::piece::Piece;
@@ -77,6 +80,16 @@ impl StreamUse {
         match self.giving {
             Giving::Given => self,
             _ => self.with(Giving::Unopened),
+        }
+    }
+
+    /// The receiving half was given up.
+    pub fn given_up(self) -> StreamUse
+        ensures { use_as result ≡ record (use_as self) { given_up = true } }
+    {
+        StreamUse {
+            giving: self.giving,
+            is_given_up: true,
         }
     }
 
@@ -237,5 +250,70 @@ impl SessionTable {
         let id = id.into_u64();
         let row = &mut self.rows[(id % 4) as usize];
         row.set((id / 4) as usize, to)
+    }
+
+    #[tactic(auto, using(crate::proofs::Noted::accepted_noted))]
+    fn accept(&mut self, id: StreamId) -> Result<(), OutOfMemory>
+        ensures { OnOk result (HasNoted self.old self.new (StreamAccepted id)) }
+    {
+        let to = self.stream_use(id).with(Giving::Given);
+        self.set_use(id, to)
+    }
+
+    #[tactic(auto, using(crate::proofs::Noted::started_noted))]
+    fn begin_opening(&mut self, id: StreamId) -> Result<(), OutOfMemory>
+        ensures { (session : ℕ) → OnOk result (HasNoted self.old self.new (OpeningStarted id session)) }
+    {
+        let to = self.stream_use(id).begun();
+        self.set_use(id, to)
+    }
+
+    #[tactic(auto, using(crate::proofs::Noted::failed_noted))]
+    fn fail_opening(&mut self, id: StreamId) -> Result<(), OutOfMemory>
+        ensures { OnOk result (HasNoted self.old self.new (OpeningFailed id)) }
+    {
+        let to = self.stream_use(id).failed();
+        self.set_use(id, to)
+    }
+
+    #[tactic(auto, using(crate::proofs::Noted::given_up_noted))]
+    fn give_up(&mut self, id: StreamId) -> Result<(), OutOfMemory>
+        ensures { OnOk result (HasNoted self.old self.new (StreamGivenUp id)) }
+    {
+        let to = self.stream_use(id).given_up();
+        self.set_use(id, to)
+    }
+
+    fn note_now(&mut self, call: Record) -> Result<(), OutOfMemory>
+        ensures { OnOk result (HasNoted self.old self.new (record_of call)) }
+    {
+        match call {
+            Record::ConnectStarted(reserved, head) => {
+                self.handshake = Handshake::Connecting(reserved, head);
+            }
+            Record::RequestDelivered(id) => {
+                self.handshake = Handshake::Requested(id);
+                self.requested = id;
+            }
+            Record::ResponseStarted(accepts, head) => {
+                self.handshake = Handshake::Responding(accepts, head);
+            }
+            Record::SessionEstablished(id, _) => self.handshake = Handshake::Established(id),
+            Record::HandshakeOver => self.handshake = Handshake::Over,
+            Record::StreamAccepted(id) => return self.accept(id),
+            Record::OpeningStarted(id, _) => return self.begin_opening(id),
+            Record::OpeningFailed(id) => return self.fail_opening(id),
+            Record::StreamGivenUp(id) => return self.give_up(id),
+            _ => {}
+        }
+        Ok(())
+    }
+
+    /// A call recorded this.
+    #[tactic(auto, using(crate::proofs::Noted::noted))]
+    pub fn note(&mut self, call: Record) -> Result<(), OutOfMemory>
+        ensures log { (calls : List CallRecord) → KeepsCalls self.old calls → OnOk result (KeepsCalls self.new (record_of call ∷ calls)) }
+    {
+        self.note_now(call)
     }
 }
