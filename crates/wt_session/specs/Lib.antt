@@ -1,1 +1,4 @@
 pub mod ConnectOptions
+pub mod Datagrams
+pub mod Halves
+pub mod Lending
