@@ -180,7 +180,12 @@ fn a_long_skipped_frame_is_let_go_as_it_comes(rt: HostRuntime) {
     }
     take_bytes(&rt, &mut inbox, id, b"\x40\x41\x00x");
     assert!(rt; has_bi(&rt, &mut inbox, id));
-    assert!(rt; matches!(release_bi(&rt, &mut inbox, id), Verdict::WebTransport(_, 5006)));
+    assert!(rt;
+        matches!(
+            release_bi(&rt, &mut inbox, id),
+            Verdict::WebTransport(_, 5006)
+        )
+    );
     assert_eq!(rt; unread(&inbox, id), 1);
 }
 
@@ -212,6 +217,11 @@ fn a_response_is_read_up_to_its_last_byte(rt: HostRuntime) {
     take_bytes(&rt, &mut inbox, id, &RESPONSE[16..]);
     take_bytes(&rt, &mut inbox, id, b"hi");
     assert!(rt; has_response(&rt, &mut inbox, id));
-    assert!(rt; matches!(release_response(&rt, &mut inbox, id), ResponseWalk::Response(_, 17)));
+    assert!(rt;
+        matches!(
+            release_response(&rt, &mut inbox, id),
+            ResponseWalk::Response(_, 17)
+        )
+    );
     assert_eq!(rt; unread(&inbox, id), 2);
 }

@@ -123,14 +123,25 @@ fair-moment side log calls table f =
     let first = fair-scan calls.session t.ready calls (uni_rule t) (uni_ids t) (record { occupied = 0; table = without_stops table }) f in
     let second = fair-scan calls.session t.ready calls (bi_rule t) (bi_ids t) (record { occupied = 0; table = scan_unis t calls (without_stops table) }) first in
     let d = dispatched calls (scan_bis t calls (scan_unis t calls (without_stops table))).classified in
-    fair-in-order calls.session (checks t calls d) (scan_bis t calls (scan_unis t calls (without_stops table))).progress
-    ((λ p c. fair-datagram calls.session (t.ready && calls.datagrams == p.datagrams) t p c)
-    , ((λ p c. fair-session t calls.session p c)
-    , ((λ p c. fair-critical calls.session t.control_stopped p c)
-    , ((λ p c. fair-control calls.session t d.control p c)
-    , ((λ p c. fair-qpack calls.session t d.encoder p c)
-    , ((λ p c. fair-qpack calls.session t d.decoder p c)
-    , tt)))))) second
+    fair-in-order calls.session (checks t calls d) (scan_bis t calls (scan_unis t calls (without_stops table))).progress (
+      (λ p c. fair-datagram calls.session (t.ready && calls.datagrams == p.datagrams) t p c),
+      (
+        (λ p c. fair-session t calls.session p c),
+        (
+          (λ p c. fair-critical calls.session t.control_stopped p c),
+          (
+            (λ p c. fair-control calls.session t d.control p c),
+            (
+              (λ p c. fair-qpack calls.session t d.encoder p c),
+              (
+                (λ p c. fair-qpack calls.session t d.decoder p c),
+                tt,
+              ),
+            ),
+          ),
+        ),
+      ),
+    ) second
 
 fair-applied : (b : Bool) (side : Side) (log : Log) (calls : CallView) (table : StreamTable) → EndsFairly calls.session table.progress.ending → EndsFairly calls.session (apply_if b (scan_order (transport_view side log) calls) table).progress.ending
 fair-applied true side log calls table f = fair-moment side log calls table f

@@ -92,7 +92,7 @@ module _ (side : Side) (log : Log) where
     where
       by : (b o : Bool) → is_open log ≡ o → MayPlan side log (if b then only_reply replies.ClosedStream else (if o then send_and_reply (actions.ResetOut k code ∷ []) replies.Done else Step [] (ResetUnsent k code) replies.Done))
       by true o e = tt
-      by false true e = ((e , c) , tt)
+      by false true e = ((e, c), tt)
       by false false e = tt
 
   -- ---- openings
@@ -110,7 +110,7 @@ module _ (side : Side) (log : Log) where
 
   pub opening-may : (kind session : ℕ) → local_kind side (next_id side log kind) ≡ kind → MayPlan side log (opening_plan (facts_of side log) kind session)
   opening-may kind session k =
-      plan-if (not (is_open log)) _ _ (λ e. tt) (λ e. plan-if (may_open side log kind) _ _ (λ m. (next-may kind k m , tt)) (λ m. tt))
+      plan-if (not (is_open log)) _ _ (λ e. tt) (λ e. plan-if (may_open side log kind) _ _ (λ m. (next-may kind k m, tt)) (λ m. tt))
 
   header-may : (p : HeadProgress) (k : ℕ) (own : List Action) → MayActAll side log own → MayPlan side log (header_sent p k own)
   header-may Ended k own m = tt
@@ -138,7 +138,7 @@ module _ (side : Side) (log : Log) where
     out-may p m =
         plan-if (not (is_finished (actions_of log) k)) _ _
         (λ e. may-both side (send_of k left) (actions.Finish k ∷ []) log m
-        ((sends-may side k left log ∙ half-may side log k (all-out (is_open log) (sending_half log k) left p).0 there (flip (is_finished (actions_of log) k) e) unreset ((all-out (is_open log) (sending_half log k) left p).1 (λ n. true-false (finished n) (flip (is_finished (actions_of log) k) e)))) , tt))
+        ((sends-may side k left log ∙ half-may side log k (all-out (is_open log) (sending_half log k) left p).0 there (flip (is_finished (actions_of log) k) e) unreset ((all-out (is_open log) (sending_half log k) left p).1 (λ n. true-false (finished n) (flip (is_finished (actions_of log) k) e)))), tt))
         (λ e. plan-if (is_some (stop_of (events_of log) k) || (sending_half log k).acknowledged) (fail_with (closing_with (facts_of side log) 0) replies.Rejected) (Step [] waiting replies.Pending) (λ s. closing-may 0) (λ s. tt))
       where
         flip : (b : Bool) → not b ≡ true → b ≡ false
@@ -241,7 +241,7 @@ module _ (side : Side) (log : Log) where
       (λ e.
       plan-if (may_open side log k) (request_left (facts_of side log) k (actions.Opened (next_id side log k) ∷ []) left) (only_reply replies.Pending)
       (λ m.
-      left-may k (actions.Opened (next_id side log k) ∷ []) (next-may k (bi-kind side (stream_count side log k)) m , tt) refl left
+      left-may k (actions.Opened (next_id side log k) ∷ []) (next-may k (bi-kind side (stream_count side log k)) m, tt) refl left
       (head-may side (Sent (actions.Opened (next_id side log k)) ∷ log) k left
       (λ n. record { there = counted (Sent (actions.Opened (next_id side log k)) ∷ log) (more-counted (next_id side log k % 4 == k) (local_count (actions_of log) k) next-self); unfinished = f; unreset = r })))
       (λ m. tt)))
@@ -296,7 +296,7 @@ module _ (side : Side) (log : Log) where
       by facts.Disabled o = tt
       by facts.Unsupported o = tt
       by (facts.Limit limit) o =
-          plan-if (nat_lt limit (length bytes)) (only_reply (replies.DatagramFailed datagrams.TooLarge)) (send_and_reply (actions.DatagramOut bytes ∷ []) replies.Done) (λ e. tt) (λ e. (o , tt))
+          plan-if (nat_lt limit (length bytes)) (only_reply (replies.DatagramFailed datagrams.TooLarge)) (send_and_reply (actions.DatagramOut bytes ∷ []) replies.Done) (λ e. tt) (λ e. (o, tt))
 
       fact : (f : Option DatagramFact) → is_open log ≡ true → MayPlan side log (datagram_if bytes f)
       fact None o = tt
@@ -310,7 +310,7 @@ module _ (side : Side) (log : Log) where
     where
       unless : (x : Option ConnectingError) (address : Addr) → MayPlan side log (dialled_unless url headers x address)
       unless (Some e) address = tt
-      unless None address = (o , tt)
+      unless None address = (o, tt)
 
       at : (a : Result Addr ConnectingError) → MayPlan side log (dialled_at url headers outcome a)
       at (Err e) = tt
@@ -374,4 +374,4 @@ module _ (side : Side) (log : Log) where
     plan_may (calls.ResetSend id code) m = half-plan-may (has_sending_now side (session_state log) id) (reset_plan (facts_of side log) id code) (λ e. reset-plan-may id code (h.given_sends id e))
     plan_may (calls.Read id size) m = half-plan-may (has_receiving_now side (session_state log) id) (read_plan (facts_of side log) id size) (λ e. tt)
     plan_may (calls.ReadExact id size) m = half-plan-may (has_receiving_now side (session_state log) id) (read_exact_plan (facts_of side log) id size) (λ e. exact-may id size ((facts_of side log).unread id) (read_exact_answer (is_open log) (receiving (facts_of side log) id) size))
-    plan_may (calls.StopRecv id code) m = half-plan-may (has_receiving_now side (session_state log) id) (stop_plan (facts_of side log) id code) (λ e. may-if side log (actions.StopOut id code) (is_open log) (λ o. (o , h.given_receives id e)))
+    plan_may (calls.StopRecv id code) m = half-plan-may (has_receiving_now side (session_state log) id) (stop_plan (facts_of side log) id code) (λ e. may-if side log (actions.StopOut id code) (is_open log) (λ o. (o, h.given_receives id e)))

@@ -25,10 +25,10 @@ use Rattle.wt_wire.specs.declared.side.Side.{Side}
 -- one after another
 pub may-both : (side : Side) (xs ys : List Action) (log : Log) → MayActAll side log xs → MayActAll side (with_actions xs log) ys → MayActAll side log (xs ++ ys)
 may-both side [] ys log a b = b
-may-both side (x ∷ xs) ys log a b = (a.0 , may-both side xs ys (Sent x ∷ log) a.1 b)
+may-both side (x ∷ xs) ys log a b = (a.0, may-both side xs ys (Sent x ∷ log) a.1 b)
 
 pub may-if : (side : Side) (log : Log) (a : Action) (b : Bool) → (b ≡ true → MayAct side log a) → MayActAll side log (if b then a ∷ [] else [])
-may-if side log a true f = (f refl , tt)
+may-if side log a true f = (f refl, tt)
 may-if side log a false f = tt
 
 not-stopped : (s : Bool) (left : List ℕ) → (left ≡ [] → ⊥) → (s && not (is_empty left)) ≡ false → s ≡ false
@@ -63,7 +63,7 @@ with-half o false f r s h e = absurd cc
 -- a head that is all out
 pub all-out : (o : Bool) (half : SendingHalf) (left : List ℕ) → head_progress o half left ≡ AllOut → (o ≡ true) × ((left ≡ [] → ⊥) → is_some half.stop ≡ false)
 all-out false half left e = absurd cc
-all-out true half left e = (refl , (λ n. by (is_some half.stop && not (is_empty left)) refl e n))
+all-out true half left e = (refl, (λ n. by (is_some half.stop && not (is_empty left)) refl e n))
   where
     by : (b : Bool) → (is_some half.stop && not (is_empty left)) ≡ b → (if b then Refused else (if nat_lt half.left (length left) then Short else AllOut)) ≡ AllOut → (left ≡ [] → ⊥) → is_some half.stop ≡ false
     by true f e n = absurd cc
@@ -77,7 +77,7 @@ module _ (side : Side) (log : Log) (k : ℕ) where
   -- so many bytes go out whole
   pub bytes-may : (bytes : List ℕ) → ((bytes ≡ [] → ⊥) → may_send side log k ≡ true) → length bytes ≤ credit_left log k → MayActAll side log (send_of k bytes)
   bytes-may [] m l = tt
-  bytes-may (b ∷ bytes) m l = ((m (λ e. absurd cc) , ap (send_of k) (take_all (credit_left log k) (b ∷ bytes) l)) , tt)
+  bytes-may (b ∷ bytes) m l = ((m (λ e. absurd cc), ap (send_of k) (take_all (credit_left log k) (b ∷ bytes) l)), tt)
 
   -- what goes out of a head
   pub head-may : (left : List ℕ) → ((left ≡ [] → ⊥) → IsSendable side log k) → MayActAll side log (head_actions (head_progress (is_open log) (sending_half log k) left) k (sending_half log k) left)
