@@ -1,8 +1,8 @@
 -- An action of a call that went out: what the driver follows behind it.
 use Rattle.std.proofs.Common.{◌≡◌, ◌+◌, ◌||◌, ℕ, Bool, true, false, List, [], ◌∷◌, refl, sym, ap, subst, ◌∙◌, add-zero}
-use Rattle.std.specs.Prelude.{◌&&◌, if◌then◌else◌, not, Result, OnOk}
+use Rattle.std.specs.Prelude.{◌&&◌, if◌then◌else◌, not}
 use Rattle.std.proofs.lemmas.Bool.{and_parts}
-use Rattle.wt_driver.proofs.Moved.{on_ok, open-is}
+use Rattle.wt_driver.proofs.Moved.{open-is}
 use Rattle.wt_driver.proofs.StageMoments.{out-staged}
 use Rattle.wt_driver.proofs.Turning.{unchanged-follows}
 use Rattle.wt_driver.proofs.Worked.{sends-with, untaken-sent, within-sent}

@@ -1,6 +1,6 @@
 -- A call's record taken in, from what the driver's parts ensure.
-use Rattle.std.proofs.Common.{arith, ◌≡◌, ◌≤◌, ◌+◌, ℕ, zero, suc, Bool, true, false, List, [], ◌∷◌, length, drop, refl, sym, ap, subst, ◌∙◌, add-one}
-use Rattle.std.specs.Prelude.{◌&&◌, ◌==◌, Option, Some, None, not, if◌then◌else◌, ℤ}
+use Rattle.std.proofs.Common.{◌≡◌, ◌≤◌, ◌+◌, ℕ, suc, Bool, true, false, List, ◌∷◌, length, drop, refl, sym, ap, subst, ◌∙◌, add-one}
+use Rattle.std.specs.Prelude.{◌==◌, Option, Some, if◌then◌else◌, ℤ}
 use Rattle.wt_driver.proofs.Early.{early}
 use Rattle.wt_driver.proofs.Moved.{open-is}
 use Rattle.wt_driver.proofs.StageAnswers.{read-staged}
@@ -13,11 +13,11 @@ use Rattle.wt_driver.specs.Records.{record_of}
 use Rattle.wt_driver.specs.declared.record.Record.{Record}
 use Rattle.wt_driver.specs.declared.record.Record.TheVariants as records
 use Rattle.wt_driver.specs.Stages.{ResponseRead, called_stages, read_on}
-use Rattle.wt_driver.specs.Tie.{Follows, Refines, SendsWhileOpen, TakenIn, unsettled, untaken_since}
+use Rattle.wt_driver.specs.Tie.{Follows, TakenIn, unsettled, untaken_since}
 use Rattle.wt_driver_spec.proofs.RestMoments.{open-says}
 use Rattle.wt_driver_spec.specs.DriverState.{DriverState, state_of}
 use Rattle.wt_driver_spec.specs.Moment.{may_release}
-use Rattle.wt_driver_spec.specs.Step.{after_call, after_entry, deliver, release}
+use Rattle.wt_driver_spec.specs.Step.{after_call, deliver, release}
 use Rattle.wt_inbox.proofs.Passing.{goes-called, passes}
 use Rattle.wt_inbox.specs.Stage as inboxes
 use Rattle.wt_inbox.specs.Stage.{Anywhere, Body, IsAt, Stage, body_offset, stage_from, with_stage}
@@ -28,10 +28,10 @@ use Rattle.wt_seam_spec.specs.Sent.{is_reset, priority_of}
 use Rattle.wt_seam_spec.specs.Reports.{initial_credit}
 use Rattle.wt_seam_spec.specs.Streams.{contents, stream_count}
 use Rattle.wt_seam_spec.specs.Unread.{ReadPosition}
-use Rattle.wt_spec.specs.Driver.{stream_table, transport_view}
+use Rattle.wt_spec.specs.Driver.{stream_table}
 use Rattle.wt_spec.specs.Halves as halves
 use Rattle.wt_spec.specs.StreamTable.{verdict_of}
-use Rattle.wt_turn.specs.Log.{BytesRead, CallRecord, Called, ConnectStarted, DatagramPassed, DatagramReceived, HandshakeOver, Log, OpeningFailed, OpeningStarted, Polled, PrioritySet, RequestDelivered, ResetUnsent, ResponseStarted, SessionEstablished, StreamAccepted, StreamGivenUp, StreamPassed, all_events_of, calls_of, is_open}
+use Rattle.wt_turn.specs.Log.{BytesRead, CallRecord, Called, ConnectStarted, DatagramPassed, DatagramReceived, HandshakeOver, Log, OpeningFailed, OpeningStarted, Polled, PrioritySet, RequestDelivered, ResetUnsent, ResponseStarted, SessionEstablished, StreamAccepted, StreamGivenUp, StreamPassed, all_events_of, calls_of}
 use Rattle.wt_turn.specs.declared.action.Action.{Action}
 use Rattle.wt_wire.specs.declared.side.Side.{Side}
 use Rattle.wt_wire.specs.declared.side.Side.TheVariants.{Client, Server}

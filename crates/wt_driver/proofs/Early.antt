@@ -1,7 +1,7 @@
 -- A stream that may be released has its slot among the first few: those behind them only arrived.
-use Rattle.std.proofs.Common.{arith, ◌≡◌, ◌≤◌, ◌+◌, ◌<◌, ℕ, zero, suc, Bool, true, false, List, [], ◌∷◌, ◌++◌, drop, refl, sym, ap, subst, ◌∙◌}
+use Rattle.std.proofs.Common.{arith, ◌≡◌, ◌≤◌, ◌+◌, ℕ, zero, suc, Bool, true, false, List, [], ◌∷◌, ◌++◌, drop, refl, sym, subst, ◌∙◌}
 use Rattle.std.specs.Prelude.{◌==◌, ◌||◌, Option, Some, None, if◌then◌else◌, is_some, nat_lt}
-use Rattle.std.proofs.lemmas.Bool.{eqb-true, ltb-true, lt-ltb}
+use Rattle.std.proofs.lemmas.Bool.{eqb-true, ltb-true}
 use Rattle.wt_driver.specs.Calling.{IsEarly}
 use Rattle.wt_driver.specs.DriverValue.{DriverValue, IsAmong}
 use Rattle.wt_driver_spec.proofs.Bounded.{log-bounded}
@@ -9,13 +9,13 @@ use Rattle.wt_driver_spec.proofs.DistinctSlots.{log-distinct}
 use Rattle.wt_driver_spec.proofs.Following.{named-peer}
 use Rattle.wt_driver_spec.proofs.ScanSlots.{ArePeers}
 use Rattle.wt_driver_spec.proofs.StreamIds.{apart-ids}
-use Rattle.wt_driver_spec.specs.Bounds.{AreDistinct, IsBounded, has_slot}
-use Rattle.wt_driver_spec.specs.DriverState.{Arrived, DriverState, Held, Slot, SlotPlace, slot_by, slots, state_of}
+use Rattle.wt_driver_spec.specs.Bounds.{IsBounded, has_slot}
+use Rattle.wt_driver_spec.specs.DriverState.{Arrived, DriverState, Held, Slot, slot_by, slots, state_of}
 use Rattle.wt_driver_spec.specs.Moment.{Fits, is_local, may_release, names_session}
 use Rattle.wt_proto.specs.declared.verdict.Verdict.{Verdict}
-use Rattle.wt_spec.specs.Driver.{call_view, control_sent, stream_table, transport_view}
+use Rattle.wt_spec.specs.Driver.{call_view, stream_table, transport_view}
 use Rattle.wt_spec.specs.Scan.{bi_ids, has, is_released, uni_ids}
-use Rattle.wt_spec.specs.StreamTable.{CallView, StreamTable, TransportView, verdict_of}
+use Rattle.wt_spec.specs.StreamTable.{CallView, StreamTable, verdict_of}
 use Rattle.wt_turn.specs.Log.{Log}
 use Rattle.wt_wire.specs.declared.side.Side.{Side}
 

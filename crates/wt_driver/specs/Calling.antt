@@ -11,7 +11,7 @@ use Rattle.wt_seam_spec.specs.Sent.{finishes, resets}
 use Rattle.wt_seam_spec.specs.Streams.{can_send, local_uni, opens}
 use Rattle.wt_turn.specs.declared.action.Action.{Action}
 use Rattle.wt_spec.specs.Halves.{has_receiving_half}
-use Rattle.wt_turn.specs.Log.{BytesRead, CallRecord, Called, DatagramPassed, DatagramReceived, Log, PrioritySet, ResetUnsent, Sent, SessionEstablished, StreamAccepted, StreamGivenUp, StreamPassed, is_open}
+use Rattle.wt_turn.specs.Log.{BytesRead, CallRecord, Called, DatagramPassed, DatagramReceived, Log, PrioritySet, ResetUnsent, Sent, SessionEstablished, is_open}
 use Rattle.wt_wire.specs.declared.side.Side.{Side}
 
 -- a stream that has a slot has it among the first few of its kind
