@@ -1,9 +1,10 @@
 -- An action of a call that went out: what the driver follows behind it.
 use Rattle.std.proofs.Common.{◌≡◌, ◌+◌, ◌||◌, ℕ, Bool, true, false, List, [], ◌∷◌, refl, sym, ap, subst, ◌∙◌, add-zero}
-use Rattle.std.specs.Prelude.{◌&&◌, not, Result, OnOk}
+use Rattle.std.specs.Prelude.{◌&&◌, if◌then◌else◌, not}
 use Rattle.std.proofs.lemmas.Bool.{and_parts}
-use Rattle.wt_driver.proofs.Moved.{on_ok, open-is}
+use Rattle.wt_driver.proofs.Moved.{open-is}
 use Rattle.wt_driver.proofs.StageMoments.{out-staged}
+use Rattle.wt_driver.proofs.Turning.{unchanged-follows}
 use Rattle.wt_driver.proofs.Worked.{sends-with, untaken-sent, within-sent}
 use Rattle.wt_driver.specs.Calling.{SparesControl}
 use Rattle.wt_driver.specs.DriverValue.{DriverValue}
@@ -14,10 +15,13 @@ use Rattle.wt_driver_spec.specs.DriverState.{DriverState, state_of}
 use Rattle.wt_driver_spec.specs.Rest.{AtRest, Resting, RestsWhileOpen}
 use Rattle.wt_driver_spec.specs.Step.{begin_scan, control_after, step_actions}
 use Rattle.wt_inbox.specs.Stage as inboxes
+use Rattle.wt_seam_spec.specs.Joined.{newest_first}
+use Rattle.wt_seam_spec.specs.Outgoing.{if_open}
 use Rattle.wt_seam_spec.specs.Streams.{local_uni}
 use Rattle.wt_spec.specs.Driver.{ControlSent, transport_view}
-use Rattle.wt_turn.specs.Log.{Log, Sent, closes, is_open}
+use Rattle.wt_turn.specs.Log.{Log, Sent, closes, is_open, with_actions}
 use Rattle.wt_turn.specs.declared.action.Action.{Action}
+use Rattle.wt_turn.specs.declared.action.Action.TheVariants as actions
 use Rattle.wt_wire.specs.declared.side.Side.{Side}
 
 module _ (side : Side) (log : Log) (a : Action) (s : SparesControl side a) where
@@ -68,3 +72,14 @@ module _ (side : Side) (log : Log) (a : Action) (s : SparesControl side a) where
     rests = acted-rests f.rests;
     sends = acted-sends f.sends;
   }
+
+-- a close goes out where the connection is open
+pub closed-follows : (side : Side) (log : Log) (taken : ℕ) (d new : DriverValue) (code : ℕ) (reason : List ℕ) (f : Follows side d log taken)
+    → inboxes.Refines side new.inbox (with_actions (if_open log (actions.Close code reason)) log) f.refines.stage (newest_first (if_open log (actions.Close code reason)) (untaken_since taken log))
+    → new.state ≡ record d.state { is_open = new.inbox.transport.is_open } → new.queue ≡ d.queue → Follows side new (with_actions (if_open log (actions.Close code reason)) log) taken
+closed-follows side log taken d new code reason f x k q = by (is_open log) x
+  where
+    by : (b : Bool) → inboxes.Refines side new.inbox (with_actions (if b then actions.Close code reason ∷ [] else []) log) f.refines.stage (newest_first (if b then actions.Close code reason ∷ [] else []) (untaken_since taken log))
+        → Follows side new (with_actions (if b then actions.Close code reason ∷ [] else []) log) taken
+    by true y = acted-follows side log (actions.Close code reason) (record { opens = refl; sent = refl; finishes = refl; resets = refl }) taken d new f y k q
+    by false y = unchanged-follows side log taken d f new y k q

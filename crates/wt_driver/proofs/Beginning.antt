@@ -1,12 +1,12 @@
 -- A driver to which nothing was told follows the empty log.
-use Rattle.std.proofs.Common.{arith, ◌≡◌, ◌≤◌, ℕ, true, [], refl, sym, subst, ◌∙◌}
+use Rattle.std.proofs.Common.{arith, ◌≡◌, ℕ, true, [], refl, sym, subst, ◌∙◌}
 use Rattle.std.specs.Prelude.{None, Some}
 use Rattle.wt_driver.proofs.StageMoments.{start-staged}
 use Rattle.wt_driver.specs.DriverValue.{DriverValue, first_state}
 use Rattle.wt_driver.specs.Flushing.{SendFacts}
 use Rattle.wt_driver.specs.Tie.{Follows}
 use Rattle.wt_driver_spec.proofs.RestMoments.{start-rests}
-use Rattle.wt_driver_spec.specs.DriverState.{DriverState, state_of}
+use Rattle.wt_driver_spec.specs.DriverState.{state_of}
 use Rattle.wt_inbox.proofs.Passing.{new_inbox_refines}
 use Rattle.wt_inbox.specs.Stage as inboxes
 use Rattle.wt_inbox.specs.Stage.{all_untouched}

@@ -1,21 +1,23 @@
 -- A call's record taken in, from what the driver's parts ensure.
-use Rattle.std.proofs.Common.{arith, ◌≡◌, ◌≤◌, ◌+◌, ℕ, zero, suc, Bool, true, false, List, [], ◌∷◌, length, drop, refl, sym, ap, subst, ◌∙◌, add-one}
-use Rattle.std.specs.Prelude.{◌&&◌, ◌==◌, Option, Some, None, not, if◌then◌else◌, ℤ}
+use Rattle.std.proofs.Common.{◌≡◌, ◌≤◌, ◌+◌, ℕ, suc, Bool, true, false, List, ◌∷◌, length, drop, refl, sym, ap, subst, ◌∙◌, add-one}
+use Rattle.std.specs.Prelude.{◌==◌, Option, Some, if◌then◌else◌, ℤ}
+use Rattle.wt_driver.proofs.Early.{early}
 use Rattle.wt_driver.proofs.Moved.{open-is}
 use Rattle.wt_driver.proofs.StageAnswers.{read-staged}
 use Rattle.wt_driver.proofs.StageEntries.{called-fits}
 use Rattle.wt_driver.proofs.StageTables.{is-own}
 use Rattle.wt_driver.proofs.StageWork.{passed-waits, received-waits}
-use Rattle.wt_driver.specs.Calling.{HalfAsks, MayBeCalled, called_queue}
+use Rattle.wt_driver.specs.Calling.{HalfAsks, IsEarly, MayBeCalled, called_queue}
 use Rattle.wt_driver.specs.DriverValue.{DriverValue, IsAmong, with_state, without_first}
 use Rattle.wt_driver.specs.Records.{record_of}
 use Rattle.wt_driver.specs.declared.record.Record.{Record}
 use Rattle.wt_driver.specs.declared.record.Record.TheVariants as records
 use Rattle.wt_driver.specs.Stages.{ResponseRead, called_stages, read_on}
-use Rattle.wt_driver.specs.Tie.{Follows, Refines, SendsWhileOpen, TakenIn, unsettled, untaken_since}
+use Rattle.wt_driver.specs.Tie.{Follows, TakenIn, unsettled, untaken_since}
 use Rattle.wt_driver_spec.proofs.RestMoments.{open-says}
 use Rattle.wt_driver_spec.specs.DriverState.{DriverState, state_of}
-use Rattle.wt_driver_spec.specs.Step.{after_call, after_entry, deliver, release}
+use Rattle.wt_driver_spec.specs.Moment.{may_release}
+use Rattle.wt_driver_spec.specs.Step.{after_call, deliver, release}
 use Rattle.wt_inbox.proofs.Passing.{goes-called, passes}
 use Rattle.wt_inbox.specs.Stage as inboxes
 use Rattle.wt_inbox.specs.Stage.{Anywhere, Body, IsAt, Stage, body_offset, stage_from, with_stage}
@@ -26,10 +28,10 @@ use Rattle.wt_seam_spec.specs.Sent.{is_reset, priority_of}
 use Rattle.wt_seam_spec.specs.Reports.{initial_credit}
 use Rattle.wt_seam_spec.specs.Streams.{contents, stream_count}
 use Rattle.wt_seam_spec.specs.Unread.{ReadPosition}
-use Rattle.wt_spec.specs.Driver.{stream_table, transport_view}
+use Rattle.wt_spec.specs.Driver.{stream_table}
 use Rattle.wt_spec.specs.Halves as halves
 use Rattle.wt_spec.specs.StreamTable.{verdict_of}
-use Rattle.wt_turn.specs.Log.{BytesRead, CallRecord, Called, ConnectStarted, DatagramPassed, DatagramReceived, HandshakeOver, Log, OpeningFailed, OpeningStarted, Polled, PrioritySet, RequestDelivered, ResetUnsent, ResponseStarted, SessionEstablished, StreamAccepted, StreamGivenUp, StreamPassed, all_events_of, calls_of, is_open}
+use Rattle.wt_turn.specs.Log.{BytesRead, CallRecord, Called, ConnectStarted, DatagramPassed, DatagramReceived, HandshakeOver, Log, OpeningFailed, OpeningStarted, Polled, PrioritySet, RequestDelivered, ResetUnsent, ResponseStarted, SessionEstablished, StreamAccepted, StreamGivenUp, StreamPassed, all_events_of, calls_of}
 use Rattle.wt_turn.specs.declared.action.Action.{Action}
 use Rattle.wt_wire.specs.declared.side.Side.{Side}
 use Rattle.wt_wire.specs.declared.side.Side.TheVariants.{Client, Server}
@@ -169,6 +171,9 @@ module _ (side : Side) (log : Log) (taken : ℕ) (d : DriverValue) (f : Follows 
   nothing-taken DatagramReceived n a = absurd n
   nothing-taken DatagramPassed n a = absurd n
 
+  first : (id : ℕ) → may_release side (stream_table side log).classified id ≡ true → IsEarly d id
+  first id may = early side log id f.refines.fits may d f.refines.state_is
+
   module _ (new : DriverValue) where
     pub delivered-taken : (id : ℕ) → new ≡ with_state d (deliver id d.state) → Asks (RequestDelivered id) → TakenIn side log (Called (RequestDelivered id)) new taken
     delivered-taken id e a = subst (λ (v : DriverValue). TakenIn side log (Called (RequestDelivered id)) v taken) (sym e)
@@ -179,7 +184,7 @@ module _ (side : Side) (log : Log) (taken : ℕ) (d : DriverValue) (f : Follows 
         (call-taken side log taken d f (SessionEstablished id at) a (with_state d (record d.state { session = Some (id, at) })) d.state.is_open (kept (SessionEstablished id at) tt) refl opened refl)
 
     pub accepted-taken : (id : ℕ) → (IsAmong 4 id d.state.unis → IsAmong 1 id d.state.bis → new ≡ with_state d (release id d.state)) → Asks (StreamAccepted id) → TakenIn side log (Called (StreamAccepted id)) new taken
-    accepted-taken id e a = subst (λ (v : DriverValue). TakenIn side log (Called (StreamAccepted id)) v taken) (sym (e a.half.unis a.half.bis))
+    accepted-taken id e a = subst (λ (v : DriverValue). TakenIn side log (Called (StreamAccepted id)) v taken) (sym (e (first id a.may).unis (first id a.may).bis))
         (call-taken side log taken d f (StreamAccepted id) a (with_state d (release id d.state)) d.state.is_open (kept (StreamAccepted id) tt) refl opened refl)
 
     abbrev settled_value : DriverValue
@@ -197,7 +202,7 @@ module _ (side : Side) (log : Log) (taken : ℕ) (d : DriverValue) (f : Follows 
         → (IsAmong 4 id d.state.unis → IsAmong 1 id d.state.bis → new.state ≡ record (release id d.state) { is_open = new.inbox.transport.is_open }) → new.queue ≡ d.queue → Asks (StreamPassed id) → TakenIn side log (Called (StreamPassed id)) new taken
     passed-taken id x s q a =
         let y = inbox-kept side new.inbox log (with_stage f.refines.stage id Anywhere) (untaken_since taken log) (StreamPassed id) tt x in
-        call-taken side log taken d f (StreamPassed id) a new new.inbox.transport.is_open y (s a.half.unis a.half.bis) (behind (StreamPassed id) new.inbox (with_stage f.refines.stage id Anywhere) y) q
+        call-taken side log taken d f (StreamPassed id) a new new.inbox.transport.is_open y (s (first id a.may).unis (first id a.may).bis) (behind (StreamPassed id) new.inbox (with_stage f.refines.stage id Anywhere) y) q
 
     pub given-up-taken : (id : ℕ) → inboxes.Refines side new.inbox log (with_stage f.refines.stage id Anywhere) (untaken_since taken log)
         → new.state ≡ record d.state { is_open = new.inbox.transport.is_open } → new.queue ≡ d.queue → Asks (StreamGivenUp id) → TakenIn side log (Called (StreamGivenUp id)) new taken

@@ -1,14 +1,12 @@
 -- The steps of a moment one after another: the checks, then the whole scan.
-use Rattle.std.proofs.Common.{◌≡◌, ℕ, List, sym, ap, subst, ◌∙◌}
-use Rattle.std.specs.Prelude.{Option, ◌==◌, ◌&&◌}
+use Rattle.std.proofs.Common.{ℕ, List, sym, subst}
 use Rattle.wt_driver.proofs.Moved.{moves-on}
 use Rattle.wt_driver.specs.DriverValue.{DriverValue}
-use Rattle.wt_driver.specs.Moving.{HasDatagram, Moves, WalkFrom, datagram_checked_state, front_of, session_checked_stages}
+use Rattle.wt_driver.specs.Moving.{Moves, WalkFrom, datagram_checked_state, session_checked_stages}
 use Rattle.wt_driver.specs.Stages.{check_stages, control_stages, unless_ended_stage}
 use Rattle.wt_driver_spec.specs.DriverState.{DriverState}
 use Rattle.wt_driver_spec.specs.Step.{run_checks}
 use Rattle.wt_inbox.specs.Stage.{Stage, control_offset}
-use Rattle.wt_spec.specs.Driver.{transport_view}
 use Rattle.wt_spec.specs.Scan.{check_control, check_qpack, check_session, critical_if, unless_ended}
 use Rattle.wt_spec.specs.StreamTable.{TransportView}
 use Rattle.wt_turn.specs.Log.{Log}

@@ -1,10 +1,10 @@
 -- What goes out at a moment may go out: the streams that are stopped are the peer's, and once this end's control stream was
 -- stopped nothing is left to send on it.
-use Rattle.std.proofs.Common.{arith, ◌≡◌, ◌<◌, ◌≤◌, ◌+◌, ◌*◌, ◌/◌, ◌%◌, ℕ, zero, suc, Bool, true, false, List, [], ◌∷◌, ◌++◌, refl, sym, ap, subst, ◌∙◌, add-one, add-zero}
+use Rattle.std.proofs.Common.{arith, ◌≡◌, ◌<◌, ◌≤◌, ◌+◌, ◌*◌, ◌/◌, ◌%◌, ℕ, zero, suc, Bool, true, false, List, [], ◌∷◌, ◌++◌, refl, sym, ap, subst, ◌∙◌}
 use Rattle.std.specs.Prelude.{Option, Some, None, Result, Ok, Err, drop, is_some, nat_lt, not, ◌==◌, ◌&&◌, ◌||◌}
 use Rattle.std.proofs.lemmas.Bool.{and_parts, lt-ltb, ltb-true}
-use Rattle.wt_driver.proofs.Flushed.{exists-later, receive-later}
-use Rattle.wt_driver.specs.Flushing.{CanReset, CanStop, ControlRuns, MayFlush, SendFacts}
+use Rattle.wt_driver.proofs.Flushed.{receive-later}
+use Rattle.wt_driver.specs.Flushing.{CanReset, CanStop, MayFlush, SendFacts}
 use Rattle.wt_driver_spec.proofs.Following.{open-more}
 use Rattle.wt_driver_spec.specs.Step.{with_no_stops}
 use Rattle.wt_wire.specs.declared.error.ErrorCode.TheVariants as h3
@@ -20,13 +20,12 @@ use Rattle.wt_proto.specs.declared.session_walk.SessionWalk.TheVariants as walks
 use Rattle.wt_message.specs.Datagram.{datagram_of}
 use Rattle.wt_seam_spec.specs.Reports.{is_running}
 use Rattle.wt_wire.specs.declared.error.ErrorCode.{ErrorCode}
-use Rattle.wt_seam_spec.specs.Reports.{credit, stop_of, unis_allowed}
-use Rattle.wt_seam_spec.specs.Sent.{is_finished, is_reset}
-use Rattle.wt_seam_spec.specs.Streams.{can_receive, can_send, exists, local_count, local_uni, one_more_if, peer_bi, peer_count, peer_opens, peer_uni, stream_count}
-use Rattle.wt_spec.specs.Driver.{ControlSent, apply_if, call_view, close_actions, control_actions, control_sent, established, is_moment, reset_if, session_id, stop_actions, stream_table, transport_view}
-use Rattle.wt_spec.specs.Scan.{Scan, SlotRule, bi_ids, bi_rule, check_control, check_datagram, check_qpack, check_session, checks, classify, critical_if, dequeued_datagram, fault_ending, parsed_datagram, session_ends, with_consequence, with_dequeued, with_fault, dequeue, has, in_order, listed, scan, scan_bis, scan_order, scan_unis, stream_ids, uni_ids, uni_rule, unless_ended, visit, with_classified, without_stops}
-use Rattle.wt_spec.specs.StreamTable.{ByFault, BySession, CallView, Classified, Consequence, Dispatched, Ending, Progress, Stopped, StreamTable, TransportView, bi_consequence, dispatched, only_once, queued_behind, uni_consequence, verdict_of}
-use Rattle.wt_turn.specs.Log.{CallRecord, Called, Entry, Event, Log, Received, Reported, ReportedLate, Sent, Stop, ends_by, actions_of, all_events_of, calls_of, events_of, is_open}
+use Rattle.wt_seam_spec.specs.Reports.{stop_of}
+use Rattle.wt_seam_spec.specs.Streams.{can_receive, can_send, exists, local_count, local_uni, one_more_if, peer_bi, peer_count, peer_opens, peer_uni}
+use Rattle.wt_spec.specs.Driver.{apply_if, call_view, close_actions, control_actions, control_sent, established, is_moment, reset_if, session_id, stream_table, transport_view}
+use Rattle.wt_spec.specs.Scan.{Scan, SlotRule, bi_ids, bi_rule, check_control, check_datagram, check_qpack, check_session, checks, classify, critical_if, dequeued_datagram, fault_ending, parsed_datagram, session_ends, with_consequence, with_dequeued, with_fault, dequeue, has, in_order, listed, scan, scan_bis, scan_order, scan_unis, stream_ids, uni_ids, uni_rule, unless_ended, visit, without_stops}
+use Rattle.wt_spec.specs.StreamTable.{ByFault, BySession, CallView, Classified, Dispatched, Ending, Progress, Stopped, StreamTable, TransportView, bi_consequence, dispatched, only_once, queued_behind, uni_consequence, verdict_of}
+use Rattle.wt_turn.specs.Log.{Called, Entry, Log, Received, Reported, ReportedLate, Sent, Stop, ends_by, actions_of, all_events_of, calls_of, events_of, is_open}
 use Rattle.wt_turn.specs.declared.action.Action.{Action}
 use Rattle.wt_wire.specs.declared.side.Side.{Side}
 use Rattle.wt_wire.specs.declared.side.Side.TheVariants.{Client, Server}

@@ -1,23 +1,21 @@
 -- What goes out at a moment or for a call leads to, from what the inbox's calls ensure.
-use Rattle.std.proofs.Common.{arith, ◌≡◌, ◌<◌, ◌≤◌, ◌+◌, ◌-◌, ◌/◌, ◌%◌, ℕ, zero, suc, Bool, true, false, List, [], ◌∷◌, ◌++◌, length, get_or, take, drop, refl, sym, ap, subst, ◌∙◌, length-drop, length-take, add-zero}
+use Rattle.std.proofs.Common.{arith, ◌≡◌, ◌<◌, ◌≤◌, ◌+◌, ◌-◌, ◌/◌, ◌%◌, ℕ, zero, suc, Bool, true, false, List, [], ◌∷◌, ◌++◌, length, get_or, take, drop, refl, sym, ap, subst, ◌∙◌, length-take, add-zero}
 use Rattle.std.specs.Prelude.{Option, Some, None, is_some, min, nat_lt, not, ◌==◌, ◌&&◌, if◌then◌else◌}
-use Rattle.std.proofs.lemmas.Bool.{lt-ltb, ltb-true, eqb-true, eqb-false, and_parts}
+use Rattle.std.proofs.lemmas.Bool.{lt-ltb, ltb-true, and_parts}
 use Rattle.std.proofs.lemmas.List.{drop_more, drop_all}
-use Rattle.wt_driver.specs.Flushing.{CanReset, CanStop, ControlRuns, Flushes, MayAct, MayFlush, OpensControl, Sends, SendsControl, local_kind}
+use Rattle.wt_driver.specs.Flushing.{CanReset, CanStop, ControlRuns, OpensControl, Sends, SendsControl, local_kind}
 use Rattle.wt_driver_spec.proofs.ControlStream.{control-opens, control-sends, take-behind}
 use Rattle.wt_driver_spec.proofs.Following.{open-more}
-use Rattle.wt_driver_spec.specs.AtOnce.{control_flushed}
 use Rattle.wt_inbox.specs.Stage.{Refines, Stage}
 use Rattle.wt_inbox.specs.State.{InboxState}
 use Rattle.wt_message.specs.FixedBytes.{local_control_bytes}
 use Rattle.wt_seam_spec.specs.Joined.{newest_first, send_of}
 use Rattle.wt_seam_spec.specs.Outgoing.{credit_left, if_open, may_open, may_send, next_id, opened_id, opening, reset_entry, sending}
 use Rattle.wt_seam_spec.specs.Reports.{credit, stop_of}
-use Rattle.wt_seam_spec.specs.Sent.{is_finished, is_reset, sent_on}
-use Rattle.wt_seam_spec.specs.Streams.{can_receive, can_send, exists, local_bi, local_count, local_uni, one_more_if, opens, peer_bi, peer_count, peer_uni, stream_count}
-use Rattle.wt_spec.specs.Driver.{ControlSent, actions_after, close_actions, control_actions, control_sent, opened_if, reset_if, session_id, stop_actions, transport_view}
-use Rattle.wt_spec.specs.StreamTable.{ByFault, BySession, Ending, Progress, Stopped}
-use Rattle.wt_turn.specs.Log.{Entry, Event, Log, Sent, actions_of, all_events_of, closes, ends_by, events_of, is_open, with_actions}
+use Rattle.wt_seam_spec.specs.Streams.{can_receive, can_send, exists, local_bi, local_count, local_uni, one_more_if, opens, peer_count, peer_uni}
+use Rattle.wt_spec.specs.Driver.{ControlSent, close_actions, control_actions, control_sent, opened_if, reset_if, session_id, stop_actions, transport_view}
+use Rattle.wt_spec.specs.StreamTable.{ByFault, BySession, Ending, Stopped}
+use Rattle.wt_turn.specs.Log.{Event, Log, Sent, actions_of, all_events_of, closes, events_of, is_open, with_actions}
 use Rattle.wt_turn.specs.declared.action.Action.{Action}
 use Rattle.wt_turn.specs.declared.action.Action.TheVariants as actions
 use Rattle.wt_wire.specs.declared.error.ErrorCode.TheVariants as h3

@@ -1,8 +1,8 @@
 -- All that goes out at a moment, from its parts.
-use Rattle.std.proofs.Common.{◌≡◌, ◌+◌, ℕ, Bool, true, false, List, [], ◌∷◌, ◌++◌, length, take, drop, refl, sym, ap, subst, ◌∙◌, add-zero}
-use Rattle.std.specs.Prelude.{Option, Some, None, is_some, nat_lt, not}
+use Rattle.std.proofs.Common.{◌≡◌, ◌+◌, ℕ, Bool, true, false, List, [], ◌∷◌, ◌++◌, length, take, drop, sym, ap, subst, ◌∙◌, add-zero}
+use Rattle.std.specs.Prelude.{Option, not}
 use Rattle.wt_driver.proofs.Flushed.{control-none, newest-both, reset-after, stop-after, stays-open, stops-none, then_sends, with-both}
-use Rattle.wt_driver.specs.Flushing.{CanReset, CanStop, ControlRuns, Flushes, MayFlush, OpensControl, Sends, SendsControl}
+use Rattle.wt_driver.specs.Flushing.{CanReset, CanStop, ControlRuns, Flushes, MayFlush, Sends, SendsControl}
 use Rattle.wt_driver_spec.proofs.Following.{open-more, sent-control}
 use Rattle.wt_driver_spec.specs.AtOnce.{control_flushed}
 use Rattle.wt_driver_spec.specs.Step.{control_after}
@@ -12,8 +12,8 @@ use Rattle.wt_message.specs.FixedBytes.{local_control_bytes}
 use Rattle.wt_seam_spec.specs.Joined.{newest_first, send_of}
 use Rattle.wt_seam_spec.specs.Streams.{local_uni}
 use Rattle.wt_spec.specs.Driver.{ControlSent, actions_after, close_actions, control_actions, control_sent, opened_if, session_id, stop_actions, transport_view}
-use Rattle.wt_spec.specs.StreamTable.{Ending, Progress, Stopped}
-use Rattle.wt_turn.specs.Log.{Log, Sent, actions_of, events_of, is_open, with_actions}
+use Rattle.wt_spec.specs.StreamTable.{Progress}
+use Rattle.wt_turn.specs.Log.{Log, Sent, is_open, with_actions}
 use Rattle.wt_turn.specs.declared.action.Action.{Action}
 use Rattle.wt_turn.specs.declared.action.Action.TheVariants as actions
 use Rattle.wt_wire.specs.declared.side.Side.{Side}

@@ -25,3 +25,4 @@ pub mod Turning
 pub mod Calling
 pub mod Acting
 pub mod Beginning
+pub mod Early

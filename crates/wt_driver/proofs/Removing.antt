@@ -1,9 +1,9 @@
 -- Removing the slot of a stream that has one among the first few.
-use Rattle.std.proofs.Common.{arith, ◌≡◌, ℕ, zero, suc, ◌+◌, ◌<◌, ◌≤◌, Bool, true, false, cond, List, [], ◌∷◌, ◌++◌, length, take, drop, get_or, refl, sym, ap, subst, ◌∙◌, add-one, append_assoc}
+use Rattle.std.proofs.Common.{arith, ◌≡◌, ℕ, zero, suc, ◌+◌, ◌<◌, ◌≤◌, Bool, true, false, cond, List, [], ◌∷◌, ◌++◌, length, take, drop, get_or, refl, sym, ap, subst, ◌∙◌, add-one}
 use Rattle.std.specs.Prelude.{◌==◌, ◌||◌}
 use Rattle.std.specs.List.{remove}
 use Rattle.std.proofs.lemmas.Bool.{eq-eqb}
-use Rattle.std.proofs.lemmas.List.{drop_more, drop_all, take-append-drop, append-nil}
+use Rattle.std.proofs.lemmas.List.{drop_more, take-append-drop}
 use Rattle.wt_driver.specs.DriverValue.{IsAmong}
 use Rattle.wt_driver_spec.proofs.ClassifiedOnce.{turned-round}
 use Rattle.wt_driver_spec.specs.Bounds.{AreDistinct, has_slot}

@@ -1,23 +1,21 @@
 -- The loop of a scan in place, with the stages of the streams.
-use Rattle.std.proofs.Common.{arith, ◌≡◌, ℕ, zero, suc, ◌+◌, ◌<◌, ◌≤◌, Bool, true, false, List, [], ◌∷◌, length, take, drop, get_or, set, refl, sym, ap, subst, ◌∙◌, add-one}
-use Rattle.std.specs.Prelude.{if◌then◌else◌, ◌==◌, ◌||◌, ◌&&◌, nat_lt, Option, Some, None}
-use Rattle.std.proofs.lemmas.Bool.{and_right, eqb-true, le-ltb, ltb-false}
+use Rattle.std.proofs.Common.{arith, ◌≡◌, ℕ, zero, suc, ◌+◌, ◌<◌, ◌≤◌, Bool, true, false, List, [], ◌∷◌, length, drop, get_or, set, refl, sym, ap, subst, ◌∙◌, add-one}
+use Rattle.std.specs.Prelude.{◌==◌, ◌||◌, nat_lt, Option, Some, None}
+use Rattle.std.proofs.lemmas.Bool.{and_right, le-ltb, ltb-false}
 use Rattle.std.specs.List.{remove}
 use Rattle.std.proofs.lemmas.List.{drop_more, drop-set-lt, drop_all}
 use Rattle.wt_driver.proofs.Restaged.{stage-again}
 use Rattle.wt_driver.specs.Rules.{slots_of}
-use Rattle.wt_driver.specs.Scanning.{AllAwait, AwaitsAt, Leaves, Scans, known_by, rule_of, scan_stages, stages_on, unless_ended_stages, visit_stage}
+use Rattle.wt_driver.specs.Scanning.{AllAwait, AwaitsAt, Leaves, Scans, rule_of, scan_stages, stages_on, visit_stage}
 use Rattle.wt_driver.specs.declared.slot.Half.{Half}
 use Rattle.wt_driver.specs.declared.slot.Half.TheVariants.{Bi, Uni}
-use Rattle.wt_driver_spec.proofs.Bounded.{sooner}
 use Rattle.wt_driver_spec.proofs.ClassifiedOnce.{turned-round}
 use Rattle.wt_driver_spec.proofs.ScanLoop.{SoFar, scan-begins, scan-few, scan-halted, scan-whole, slot-removed, slot-written}
 use Rattle.wt_driver_spec.specs.Bounds.{AreDistinct, IsBounded, has_slot}
 use Rattle.wt_driver_spec.specs.DriverState.{Arrived, Dequeued, Held, Slot, SlotPlace}
-use Rattle.wt_driver_spec.specs.Step.{Known, Scanned, Visited, keep_slot, scan_slots, visit_slot, visited_as}
+use Rattle.wt_driver_spec.specs.Step.{Known, Visited, keep_slot, scan_slots, visit_slot}
 use Rattle.wt_inbox.specs.Stage.{Refines, Stage, with_stage}
 use Rattle.wt_inbox.specs.State.{InboxState}
-use Rattle.wt_proto.specs.Uni.{is_final}
 use Rattle.wt_spec.specs.Scan.{SlotRule}
 use Rattle.wt_spec.specs.StreamTable.{Ending, TransportView}
 use Rattle.wt_turn.specs.Log.{Log}

@@ -1,5 +1,5 @@
 -- What a scan and its checks ask, in the words of their contracts.
-use Rattle.std.proofs.Common.{◌≡◌, ℕ, List, refl}
+use Rattle.std.proofs.Common.{◌≡◌, ℕ, refl}
 use Rattle.std.specs.Prelude.{None, Option, Some}
 use Rattle.wt_driver.proofs.StageAsks.{ChecksAsk, ScanAsks}
 use Rattle.wt_driver.specs.Moving.{MayCheck, MayScan, WalkFrom, datagram_checked_state, session_checked_stages}

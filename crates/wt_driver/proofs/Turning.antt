@@ -1,23 +1,21 @@
 -- Turns of the transport, from what the driver's parts ensure: what it follows once it took one in.
-use Rattle.std.proofs.Common.{arith, ◌≡◌, ◌≤◌, ◌<◌, ◌-◌, ◌+◌, ◌*◌, ◌%◌, ◌/◌, ℕ, zero, suc, Bool, true, false, List, [], ◌∷◌, ◌++◌, length, get_or, take, drop, refl, sym, ap, subst, ◌∙◌}
-use Rattle.std.specs.Prelude.{◌&&◌, ◌||◌, ◌==◌, Option, Some, None, Result, Ok, Err, IsTrue, OnOk, not, is_some, if◌then◌else◌}
+use Rattle.std.proofs.Common.{◌≡◌, ◌≤◌, ◌<◌, ◌+◌, ◌*◌, ◌%◌, ◌/◌, ℕ, Bool, true, false, List, [], ◌∷◌, ◌++◌, length, get_or, drop, refl, sym, ap, subst, ◌∙◌}
+use Rattle.std.specs.Prelude.{◌&&◌, ◌==◌, Option, Some, None, Result, Ok, Err, IsTrue, OnOk, not, is_some, if◌then◌else◌}
 use Rattle.std.proofs.lemmas.Bool.{and_parts}
 use Rattle.std.proofs.lemmas.List.{drop_more, drop_all}
-use Rattle.wt_driver.proofs.Flushed.{send-later}
 use Rattle.wt_driver.proofs.FlushFacts.{counts-more, receives-on}
 use Rattle.wt_driver.proofs.Moved.{on_ok, open-is}
 use Rattle.wt_driver.proofs.StageMoments.{late-staged}
 use Rattle.wt_driver.proofs.StageWork.{datagram-waits}
-use Rattle.wt_driver.proofs.Worked.{within-with}
 use Rattle.wt_driver.specs.Arriving.{EventTaken, arrived, event_of, is_call}
 use Rattle.wt_driver.specs.DriverValue.{DriverValue, with_state}
 use Rattle.wt_driver.specs.Flushing.{SendFacts}
 use Rattle.wt_driver.specs.Stages.{Uses}
-use Rattle.wt_driver.specs.Tie.{Follows, Refines, SendsWhileOpen, TakenIn, unsettled, untaken_since}
+use Rattle.wt_driver.specs.Tie.{Follows, TakenIn, unsettled, untaken_since}
 use Rattle.wt_driver_spec.proofs.Following.{open-more}
 use Rattle.wt_driver_spec.proofs.RestMoments.{late-followed, open-says}
 use Rattle.wt_driver_spec.specs.DriverState.{DriverState, state_of}
-use Rattle.wt_driver_spec.specs.Step.{after_entry, after_event, new_slot}
+use Rattle.wt_driver_spec.specs.Step.{after_event, new_slot}
 use Rattle.wt_inbox.specs.Stage as inboxes
 use Rattle.wt_inbox.specs.Stage.{Stage}
 use Rattle.wt_inbox.proofs.Passing.{peer-bis-are, peer-unis-are}
@@ -28,11 +26,10 @@ use Rattle.wt_seam.specs.State.{TransportState}
 use Rattle.wt_seam.specs.Step.{fits_now}
 use Rattle.wt_seam_spec.specs.Arrivals.{event_entry, fits, log_bytes_if, log_turn, may_receive}
 use Rattle.wt_seam_spec.specs.Reports.{end_of, is_connected, is_running, loss_of, with_datagram}
-use Rattle.wt_seam_spec.specs.Streams.{can_receive, can_send, exists, local_count, local_uni, peer_bi, peer_count, peer_opens, peer_uni}
+use Rattle.wt_seam_spec.specs.Streams.{can_receive, can_send, exists, local_count, peer_bi, peer_count, peer_opens, peer_uni}
 use Rattle.wt_spec.specs.Answers.{log_after, receive}
-use Rattle.wt_spec.specs.Driver.{apply_if, flush, is_moment, log_and_flush, pending_actions, stream_table, transport_view}
-use Rattle.wt_spec.specs.StreamTable.{TransportView}
-use Rattle.wt_turn.specs.Log.{Datagram, Entry, Event, Log, PeerBi, PeerUni, Received, Reported, ReportedLate, Sent, actions_of, all_events_of, calls_of, ends_by, is_open, with_actions}
+use Rattle.wt_spec.specs.Driver.{apply_if, flush, is_moment, log_and_flush, pending_actions, transport_view}
+use Rattle.wt_turn.specs.Log.{Datagram, Entry, Event, Log, PeerBi, PeerUni, Received, Reported, ReportedLate, Sent, actions_of, all_events_of, ends_by, is_open, with_actions}
 use Rattle.wt_turn.specs.declared.action.Action.{Action}
 use Rattle.wt_turn.specs.declared.turn.Turn.{Turn}
 use Rattle.wt_turn.specs.declared.turn.Turn.TheVariants as turns

@@ -1,6 +1,6 @@
 -- What a visit of a slot leaves, from what its calls ensure.
-use Rattle.std.proofs.Common.{arith, ◌≡◌, ℕ, suc, ◌<◌, ◌≤◌, Bool, true, false, List, [], ◌∷◌, refl, sym, ap, subst, ◌∙◌}
-use Rattle.std.specs.Prelude.{◌==◌, ◌||◌, ◌&&◌, nat_lt, if◌then◌else◌, Option, Some, None, Result, Ok, Err, IfOk, OnOk}
+use Rattle.std.proofs.Common.{◌≡◌, ℕ, suc, Bool, true, false, List, [], ◌∷◌, refl, sym, ap, subst, ◌∙◌}
+use Rattle.std.specs.Prelude.{◌||◌, ◌&&◌, nat_lt, if◌then◌else◌, Option, Some, Result, Ok, Err, IfOk}
 use Rattle.std.proofs.lemmas.Bool.{eq-eqb}
 use Rattle.wt_driver.proofs.Restaged.{stage-again, twice}
 use Rattle.wt_driver.specs.Rules.{consequence_of}
@@ -8,7 +8,7 @@ use Rattle.wt_driver.specs.Scanning.{Leaves, awaits, classified_stage, header_st
 use Rattle.wt_driver.specs.declared.slot.Half.{Half}
 use Rattle.wt_driver.specs.declared.slot.Half.TheVariants.{Bi, Uni}
 use Rattle.wt_driver_spec.specs.DriverState.{Arrived, Held, Slot}
-use Rattle.wt_driver_spec.specs.Step.{Known, Visited, classify_as, dispatch, known_after, visit_slot, visited_as}
+use Rattle.wt_driver_spec.specs.Step.{Known, Visited, classify_as, dispatch, visit_slot, visited_as}
 use Rattle.wt_inbox.specs.Stage.{Refines, Stage, stage_from, verdict_offset, with_stage}
 use Rattle.wt_inbox.specs.State.{InboxState}
 use Rattle.wt_proto.specs.declared.verdict.Verdict.{Verdict}

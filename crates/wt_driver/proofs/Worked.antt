@@ -1,5 +1,5 @@
 -- The work of a moment, from its parts: the log that the driver follows behind it.
-use Rattle.std.proofs.Common.{arith, ◌≡◌, ◌≤◌, ◌-◌, ◌+◌, ℕ, zero, suc, Bool, true, false, List, [], ◌∷◌, ◌++◌, length, take, drop, refl, sym, ap, subst, ◌∙◌}
+use Rattle.std.proofs.Common.{arith, ◌≡◌, ◌≤◌, ◌-◌, ℕ, suc, Bool, true, false, List, [], ◌∷◌, ◌++◌, length, take, drop, refl, sym, ap, subst, ◌∙◌}
 use Rattle.std.specs.Prelude.{◌&&◌, ◌||◌, Option, Some, None, not}
 use Rattle.wt_driver.proofs.Flushed.{send-later}
 use Rattle.wt_driver.proofs.FlushFacts.{may_flush}
@@ -9,22 +9,22 @@ use Rattle.wt_driver.specs.DriverValue.{DriverValue}
 use Rattle.wt_driver.specs.Flushing.{Flushes, MayFlush, SendFacts}
 use Rattle.wt_driver.specs.Moving.{HasDatagram, MayScan, Moves}
 use Rattle.wt_driver.specs.Stages.{scanned_stages}
-use Rattle.wt_driver.specs.Tie.{Follows, Refines, SendsWhileOpen, TakenIn, unsettled, untaken_since}
-use Rattle.wt_driver_spec.proofs.Following.{entry-followed, open-more, scanned-out, sound}
+use Rattle.wt_driver.specs.Tie.{Follows, Refines, SendsWhileOpen, TakenIn, untaken_since}
+use Rattle.wt_driver_spec.proofs.Following.{entry-followed, scanned-out, sound}
 use Rattle.wt_driver_spec.proofs.RestMoments.{flushed-state, moment-rests-open, open-says, still-open}
 use Rattle.wt_driver_spec.proofs.Sending.{sent_at_once}
-use Rattle.wt_driver_spec.specs.AtOnce.{control_flushed, flushed, open_after}
+use Rattle.wt_driver_spec.specs.AtOnce.{control_flushed, flushed}
 use Rattle.wt_driver_spec.specs.DriverState.{DriverState, state_of}
-use Rattle.wt_driver_spec.specs.Step.{after_entry, scan_state, step_actions}
+use Rattle.wt_driver_spec.specs.Step.{scan_state, step_actions}
 use Rattle.wt_inbox.specs.Stage as inboxes
 use Rattle.wt_inbox.specs.Stage.{Stage}
 use Rattle.wt_message.specs.FixedBytes.{local_control_bytes}
 use Rattle.wt_seam.specs.State.{TransportState}
 use Rattle.wt_seam_spec.specs.Joined.{newest_first, send_of}
-use Rattle.wt_seam_spec.specs.Sent.{finishes, is_finished, is_reset, resets}
-use Rattle.wt_seam_spec.specs.Streams.{can_send, local_uni}
+use Rattle.wt_seam_spec.specs.Sent.{finishes, resets}
+use Rattle.wt_seam_spec.specs.Streams.{local_uni}
 use Rattle.wt_spec.specs.Driver.{ControlSent, actions_after, apply_if, close_actions, control_actions, control_sent, established, flush, is_moment, log_and_flush, opened_if, pending_actions, session_id, stop_actions, stream_table, transport_view}
-use Rattle.wt_spec.specs.StreamTable.{Ending, Progress, Stopped, TransportView}
+use Rattle.wt_spec.specs.StreamTable.{Ending, Stopped, TransportView}
 use Rattle.wt_turn.specs.Log.{Entry, Log, Sent, actions_of, calls_of, is_open, with_actions}
 use Rattle.wt_turn.specs.declared.action.Action.{Action}
 use Rattle.wt_wire.specs.declared.side.Side.{Side}

@@ -1,5 +1,5 @@
 -- What a turn of the transport brings, and what a driver is once it took it in.
-use Rattle.std.specs.Prelude.{◌∷◌, ◌≡◌, Bool, List, None, Option, Some, false, true, ℕ}
+use Rattle.std.specs.Prelude.{◌≡◌, Bool, None, Option, Some, false, true, ℕ}
 use Rattle.wt_driver.specs.DriverValue.{DriverValue}
 use Rattle.wt_driver.specs.Tie.{Follows, TakenIn}
 use Rattle.wt_driver_spec.specs.Step.{after_event}

@@ -11,7 +11,7 @@ use Rattle.wt_seam_spec.specs.Sent.{finishes, resets}
 use Rattle.wt_seam_spec.specs.Streams.{can_send, local_uni, opens}
 use Rattle.wt_turn.specs.declared.action.Action.{Action}
 use Rattle.wt_spec.specs.Halves.{has_receiving_half}
-use Rattle.wt_turn.specs.Log.{BytesRead, CallRecord, Called, DatagramPassed, DatagramReceived, Log, PrioritySet, ResetUnsent, Sent, SessionEstablished, StreamAccepted, StreamGivenUp, StreamPassed, is_open}
+use Rattle.wt_turn.specs.Log.{BytesRead, CallRecord, Called, DatagramPassed, DatagramReceived, Log, PrioritySet, ResetUnsent, Sent, SessionEstablished, is_open}
 use Rattle.wt_wire.specs.declared.side.Side.{Side}
 
 -- a stream that has a slot has it among the first few of its kind
@@ -22,8 +22,6 @@ pub record IsEarly (d : DriverValue) (id : ℕ) : Type 0 where
 -- by what the call did: the stream has the half that it is about, a priority has 32 bits, a reset that isn't sent comes after
 -- the end, and a client read the response before its session is established
 abbrev pub HalfAsks : Side → Log → DriverValue → (ℕ → Stage) → CallRecord → Type 0
-HalfAsks side log d stage (StreamAccepted id) = IsEarly d id
-HalfAsks side log d stage (StreamPassed id) = IsEarly d id
 HalfAsks side log d stage (BytesRead id count) = has_receiving_half side log id ≡ true
 HalfAsks side log d stage (PrioritySet id priority) = (can_send side log id ≡ true) × FitsSigned w32 priority
 HalfAsks side log d stage (ResetUnsent id code) = (is_open log ≡ false) × (can_send side log id ≡ true)

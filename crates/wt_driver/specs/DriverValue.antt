@@ -1,10 +1,9 @@
 -- What contracts see of a driver.
-use Rattle.std.specs.Prelude.{[], ◌∷◌, Bool, List, None, Option, Some, drop, false, ℕ, ◌≡◌}
+use Rattle.std.specs.Prelude.{[], ◌∷◌, Bool, List, None, Option, drop, false, ℕ, ◌≡◌}
 use Rattle.wt_driver_spec.specs.Bounds.{AreDistinct, has_slot}
 use Rattle.wt_driver_spec.specs.DriverState.{DriverState, Slot}
-use Rattle.wt_inbox.specs.State.{InboxState, nothing_read}
+use Rattle.wt_inbox.specs.State.{InboxState}
 use Rattle.wt_message.specs.declared.settings.Settings.{Settings}
-use Rattle.wt_wire.specs.declared.side.Side.{Side}
 
 -- the inbox, what is kept of the log, the datagrams that came and aren't settled, and the peer's SETTINGS
 pub record DriverValue : Type 0 where

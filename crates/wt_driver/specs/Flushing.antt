@@ -1,5 +1,5 @@
 -- What goes out at a moment and for a call, and under which conditions it may.
-use Rattle.std.specs.Prelude.{◌==◌, ◌≡◌, [], ◌∷◌, Bool, List, None, Option, Some, false, if◌then◌else◌, is_some, length, true, ℕ}
+use Rattle.std.specs.Prelude.{◌≡◌, [], ◌∷◌, Bool, List, Option, Some, false, if◌then◌else◌, is_some, true, ℕ}
 use Rattle.wt_driver_spec.specs.AtOnce.{control_flushed}
 use Rattle.wt_inbox.specs.Stage.{Refines, Stage}
 use Rattle.wt_inbox.specs.State.{InboxState}
@@ -8,8 +8,8 @@ use Rattle.wt_seam_spec.specs.Outgoing.{may_send, opened_id, sending}
 use Rattle.wt_seam_spec.specs.Reports.{stop_of}
 use Rattle.wt_seam_spec.specs.Sent.{is_finished, is_reset}
 use Rattle.wt_seam_spec.specs.Streams.{can_receive, can_send, local_bi, local_uni}
-use Rattle.wt_spec.specs.Driver.{ControlSent, actions_after, control_actions, control_sent, established, session_id, transport_view}
-use Rattle.wt_spec.specs.StreamTable.{ByFault, BySession, Ending, Progress, Stopped}
+use Rattle.wt_spec.specs.Driver.{ControlSent, control_actions, control_sent, established, session_id, transport_view}
+use Rattle.wt_spec.specs.StreamTable.{BySession, Ending, Progress, Stopped}
 use Rattle.wt_turn.specs.Log.{Log, Sent, actions_of, calls_of, events_of, is_open, with_actions}
 use Rattle.wt_turn.specs.declared.action.Action.{Action}
 use Rattle.wt_turn.specs.declared.action.Action.TheVariants as actions

@@ -1,6 +1,5 @@
 -- What a visit of a slot leaves of a stream: at which stage of its reading it is then.
-use Rattle.std.specs.Prelude.{[], ◌&&◌, ◌++◌, ◌==◌, ◌||◌, ◌∷◌, ◌≡◌, Bool, List, None, Option, Some, false, nat_lt, true, ℕ}
-use Rattle.wt_driver.specs.Rules.{consequence_of}
+use Rattle.std.specs.Prelude.{[], ◌&&◌, ◌||◌, ◌∷◌, ◌≡◌, Bool, List, None, Option, Some, false, nat_lt, true, ℕ}
 use Rattle.wt_driver.specs.declared.slot.Half.{Half}
 use Rattle.wt_driver.specs.declared.slot.Half.TheVariants.{Bi, Uni}
 use Rattle.wt_driver_spec.specs.DriverState.{Arrived, Dequeued, Held, Slot, SlotPlace}

@@ -1,7 +1,10 @@
 //! Calls that give the session's next stream or datagram, and pass those of others.
 ghost use Rattle.std.specs.Prelude.{◌≡◌, List, suc, OnOk, ℕ};
 ghost use Rattle.wt_inbox.specs.Stage.{Anywhere, Refines, Stage, with_stage};
-ghost use Rattle.wt_turn.specs.Log.{Log};
+ghost use Rattle.wt_driver.specs.Calling.{MayBeCalled};
+ghost use Rattle.wt_driver.specs.Tie.{Follows};
+ghost use Rattle.wt_spec.specs.Driver.{log_and_flush};
+ghost use Rattle.wt_turn.specs.Log.{Called, Log, StreamAccepted};
 ghost use Rattle.wt_turn.specs.declared.action.Action.{Action};
 ghost use Rattle.wt_wire.specs.declared.side.Side.{Side};
 ghost use Rattle.wt_driver_spec.specs.Due.{due_stream, state_next_due};
@@ -94,7 +97,10 @@ impl Driver {
     }
 
     /// A stream of the session is given, and the work of that moment is done.
-    fn give_stream(&mut self, id: StreamId) -> Result<(), OutOfMemory> {
+    fn give_stream(&mut self, id: StreamId) -> Result<(), OutOfMemory>
+        ensures log { (side : Side) (log : Log) (taken : ℕ) (f : Follows side self.old log taken) → MayBeCalled side log self.old f.refines.stage (StreamAccepted id)
+            → OnOk result (Follows side self.new (log_and_flush side log (Called (StreamAccepted id))) taken) }
+    {
         self.release(id);
         self.work()
     }

@@ -6,11 +6,13 @@ ghost use Rattle.wt_driver.specs.Flushing.{MayAct};
 ghost use Rattle.wt_driver.specs.Records.{record_of};
 ghost use Rattle.wt_driver.specs.Tie.{Follows, TakenIn, untaken_since};
 ghost use Rattle.wt_inbox.specs.Stage.{Body, Refines, Stage, body_offset, with_stage};
-ghost use Rattle.wt_seam_spec.specs.Joined.{joined};
+ghost use Rattle.wt_seam_spec.specs.Joined.{joined, newest_first};
+ghost use Rattle.wt_seam_spec.specs.Outgoing.{if_open};
 ghost use Rattle.wt_seam_spec.specs.Streams.{can_send, contents};
 ghost use Rattle.wt_spec.specs.Driver.{log_and_flush};
-ghost use Rattle.wt_turn.specs.Log.{Called, Log, actions_of, PrioritySet, ResetUnsent, Sent, is_open};
+ghost use Rattle.wt_turn.specs.Log.{Called, Log, actions_of, PrioritySet, ResetUnsent, Sent, is_open, with_actions};
 ghost use Rattle.wt_turn.specs.declared.action.Action.{Action};
+ghost use Rattle.wt_turn.specs.declared.action.Action.TheVariants as actions;
 ghost use Rattle.wt_wire.specs.declared.side.Side.{Side};
 ghost use Rattle.wt_driver.specs.DriverValue.{with_state};
 ghost use Rattle.wt_driver.specs.Results.{error_of, result_of};
@@ -71,7 +73,18 @@ impl Driver {
 
     /// The application, the endpoint or the handshake closes the connection where it is open. The moment
     /// of the call comes after it.
-    pub fn close(&mut self, code: VarInt, reason: Piece) -> Result<(), OutOfMemory> {
+    pub fn close(&mut self, code: VarInt, reason: Piece) -> Result<(), OutOfMemory>
+        ensures log { (side : Side) (log : Log) (taken : ℕ) → Follows side self.old log taken → OnOk result (Follows side self.new (with_actions (if_open log (actions.Close code reason)) log) taken) }
+    {
+        self.put_close(code, reason)
+    }
+
+    fn put_close(&mut self, code: VarInt, reason: Piece) -> Result<(), OutOfMemory>
+        ensures log { (side : Side) (log : Log) (stage : ℕ → Stage) (untaken : List Action) → Refines side self.old.inbox log stage untaken
+            → OnOk result (Refines side self.new.inbox (with_actions (if_open log (actions.Close code reason)) log) stage (newest_first (if_open log (actions.Close code reason)) untaken)) }
+        ensures state { OnOk result (self.new.state ≡ record self.old.state { is_open = self.new.inbox.transport.is_open }) }
+        ensures queue { OnOk result (self.new.queue ≡ self.old.queue) }
+    {
         self.inbox.close(code, reason)
     }
 

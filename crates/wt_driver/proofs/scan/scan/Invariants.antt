@@ -1,4 +1,4 @@
-use Rattle.std.proofs.Common.{◌≡◌, ◌-◌, ◌+◌, ℕ, List, true, length}
+use Rattle.std.proofs.Common.{◌≡◌, ◌-◌, ℕ, List, true, length}
 use Rattle.wt_driver.proofs.ScanSteps.{ScansSoFar}
 use Rattle.wt_driver.specs.Rules.{slots_of}
 use Rattle.wt_driver.specs.Scanning.{AllAwait, known_by, rule_of}

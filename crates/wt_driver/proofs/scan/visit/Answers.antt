@@ -1,8 +1,8 @@
-use Rattle.std.proofs.Common.{◌≡◌, refl, sym, ◌∙◌}
+use Rattle.std.proofs.Common.{◌≡◌, sym, ◌∙◌}
 use Rattle.wt_driver.proofs.Visits.{keeps-arrived}
 use Rattle.wt_driver.specs.Scanning.{known_by, rule_of}
 use Rattle.wt_spec.specs.Driver.{is_ready, transport_view}
-use Rattle.wt_driver_spec.specs.DriverState.{Arrived, Dequeued, Held}
+use Rattle.wt_driver_spec.specs.DriverState.{Arrived, Dequeued}
 use Rattle.wt_driver.proofs.scan.visit.Goals as goal
 
 pub returns-in-Dequeued : goal.returns-in-Dequeued

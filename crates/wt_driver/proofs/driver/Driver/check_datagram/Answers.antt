@@ -1,4 +1,4 @@
-use Rattle.std.proofs.Common.{◌≡◌, refl, sym, ap, ◌∙◌}
+use Rattle.std.proofs.Common.{◌≡◌, sym, ap, ◌∙◌}
 use Rattle.std.specs.Prelude.{None}
 use Rattle.wt_driver.proofs.Moved.{datagram-due, datagram-not-due}
 use Rattle.wt_driver.specs.DriverValue.{DriverValue, with_state}

@@ -1,4 +1,4 @@
-use Rattle.std.proofs.Common.{refl, sym, ap}
+use Rattle.std.proofs.Common.{sym, ap}
 use Rattle.wt_driver.proofs.Moved.{unless-same}
 use Rattle.wt_driver.specs.DriverValue.{with_state}
 use Rattle.wt_spec.specs.StreamTable.{Progress}

@@ -1,4 +1,4 @@
-use Rattle.std.proofs.Common.{◌≡◌, refl, sym, ap, ◌∙◌}
+use Rattle.std.proofs.Common.{refl, ap}
 use Rattle.wt_driver.proofs.Moved.{noted}
 use Rattle.wt_driver.specs.DriverValue.{DriverValue}
 use Rattle.wt_inbox.specs.Stage.{Anywhere, with_stage}

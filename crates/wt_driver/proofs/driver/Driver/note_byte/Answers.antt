@@ -1,4 +1,4 @@
-use Rattle.std.proofs.Common.{◌≡◌, ◌∷◌, [], sym, subst, ◌∙◌}
+use Rattle.std.proofs.Common.{◌∷◌, [], sym, subst, ◌∙◌}
 use Rattle.std.proofs.lemmas.Bool.{true≢false}
 use Rattle.wt_driver.specs.DriverValue.{DriverValue}
 use Rattle.wt_inbox.specs.Stage.{Refines}

@@ -1,5 +1,4 @@
-use Rattle.std.proofs.Common.{◌≡◌, ◌∷◌, sym, subst}
-use Rattle.wt_driver.proofs.Moved.{on_ok}
+use Rattle.std.proofs.Common.{sym, subst}
 use Rattle.wt_driver.proofs.Turning.{event-noted, on-three}
 use Rattle.wt_driver.specs.Tie.{untaken_since}
 use Rattle.wt_inbox.specs.Stage.{Refines}

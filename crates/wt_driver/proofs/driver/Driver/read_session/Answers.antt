@@ -1,4 +1,4 @@
-use Rattle.std.proofs.Common.{◌≡◌, refl, sym, ap, drop, ◌∙◌}
+use Rattle.std.proofs.Common.{sym, ap, drop, ◌∙◌}
 use Rattle.wt_driver.proofs.Moved.{moves-on, not-over, session-there}
 use Rattle.wt_driver.proofs.Restaged.{twice}
 use Rattle.wt_driver_spec.specs.DriverState.{DriverState}

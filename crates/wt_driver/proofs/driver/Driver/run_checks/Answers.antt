@@ -1,4 +1,4 @@
-use Rattle.std.proofs.Common.{◌≡◌, ap, sym, subst, ◌∙◌}
+use Rattle.std.proofs.Common.{ap, sym, subst, ◌∙◌}
 use Rattle.wt_driver.proofs.Checks.{checks-done, control-waits, control_checked_stages, decoder_state, encoder_state, local_state, three-checks}
 use Rattle.wt_driver.proofs.Moved.{state-moves}
 use Rattle.wt_driver.specs.Moving.{WalkFrom, datagram_checked_state, session_checked_stages}

@@ -1,4 +1,4 @@
-use Rattle.std.proofs.Common.{◌≡◌, ◌∷◌, refl, sym, ap, subst, ◌∙◌}
+use Rattle.std.proofs.Common.{◌∷◌, refl, sym, ap, subst, ◌∙◌}
 use Rattle.std.proofs.lemmas.Bool.{true≢false}
 use Rattle.wt_driver.proofs.Worked.{flush-control, flush-may, idle-follows, scan-datagram, scan-may, work-follows}
 use Rattle.wt_driver.specs.DriverValue.{DriverValue}

@@ -1,5 +1,4 @@
-use Rattle.std.proofs.Common.{◌≡◌, ◌-◌, ◌++◌, take, drop, vec_len}
-use Rattle.wt_driver.specs.DriverValue.{IsAmong}
+use Rattle.std.proofs.Common.{◌≡◌, ◌-◌, ◌++◌, take, drop}
 use Rattle.wt_driver_spec.specs.Step.{without_slot}
 use Rattle.wt_driver.proofs.driver.accepts.remove_slot.Given as goal
 

@@ -1,4 +1,3 @@
-use Rattle.wt_driver.proofs.FlushFacts.{may_flush}
 use Rattle.std.proofs.Common.{sym, ◌∙◌}
 use Rattle.wt_driver.proofs.Flushed.{open_bi_opens, open_uni_opens}
 use Rattle.wt_driver.proofs.driver.acting.open.Goals as goal

@@ -1,7 +1,5 @@
-use Rattle.std.proofs.Common.{sym}
 use Rattle.wt_driver.proofs.FlushedWhole.{all-sent, log_sent, log_stopped, sent-open, sent-stops, stopped-open, stopped-reset, untaken_sent, untaken_stopped}
 use Rattle.wt_driver.proofs.Moved.{on_ok}
-use Rattle.wt_driver.specs.Flushing.{CanReset, CanStop}
 use Rattle.wt_driver.proofs.driver.flush.flush.Goals as goal
 
 pub returns : goal.returns
