@@ -41,7 +41,7 @@ exists-later side a log k e = at (opens (k % 4) a)
     at true = lt-ltb (k / 4) (peer_count side (all_events_of log) (k % 4) + (local_count (actions_of log) (k % 4) + 1)) (let l = ltb-true (k / 4) (peer_count side (all_events_of log) (k % 4) + local_count (actions_of log) (k % 4)) e in omega arith)
     at false = e
 
-half-later : (side : Side) (a : Action) (log : Log) (k kind : ℕ) → (exists side log k && not (kind == k % 4)) ≡ true → (exists side (Sent a ∷ log) k && not (kind == k % 4)) ≡ true
+pub half-later : (side : Side) (a : Action) (log : Log) (k kind : ℕ) → (exists side log k && not (kind == k % 4)) ≡ true → (exists side (Sent a ∷ log) k && not (kind == k % 4)) ≡ true
 half-later side a log k kind c = let p = and_parts (exists side log k) (not (kind == k % 4)) c in and_from (exists side (Sent a ∷ log) k) (not (kind == k % 4)) (exists-later side a log k p.0) p.1
 
 -- the session's stream isn't this end's control stream
