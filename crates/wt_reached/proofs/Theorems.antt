@@ -1,6 +1,6 @@
 -- The laws, as the functions' contracts say them.
 use Rattle.std.specs.Prelude.{[], ◌∷◌, ◌≡◌, List, Some, false, true, ℕ}
-use Rattle.std.proofs.Common.{◌∙◌}
+use Rattle.std.proofs.Common.{◌∙◌, sym}
 use Rattle.wt_laws.specs.Reachable.{IsReachable}
 use Rattle.wt_reached.proofs.Driving.{driver-facts, facts-flushed, facts-unflushed}
 use Rattle.wt_reached.proofs.Halves.{half-facts, read-origin}
@@ -12,7 +12,10 @@ use Rattle.wt_reached.specs.Driving.{DriverFacts, leaves_driver}
 use Rattle.wt_reached.specs.Reading.{Origin}
 use Rattle.wt_seam_spec.specs.Sent.{is_finished, is_reset}
 use Rattle.wt_seam_spec.specs.Streams.{can_receive, can_send, local_uni}
-use Rattle.wt_session_acts.specs.OwnActions.{HalfFacts}
+use Rattle.wt_session_acts.proofs.OwnActions.{plan_may}
+use Rattle.wt_session_acts.specs.Acting.{MayActAll}
+use Rattle.wt_session_acts.specs.OwnActions.{HalfFacts, own_of}
+use Rattle.wt_session_spec.proofs.Theorems.{may_call_theorem}
 use Rattle.wt_session_spec.specs.CallFacts.{facts_of}
 use Rattle.wt_session_spec.specs.Plan.{Establish, Step}
 use Rattle.wt_session_spec.specs.Plans.{plan_of}
@@ -31,6 +34,9 @@ use Rattle.wt_wire.specs.declared.side.Side.{Side}
 
 pub half_facts_theorem : (side : Side) (log : Log) → IsReachable side log → HalfFacts side log
 half_facts_theorem side log r = half-facts side log r
+
+pub actions_theorem : (side : Side) (log : Log) (call : Call) → IsReachable side log → is_lawful side log (turns.Call call) ≡ true → MayActAll side log (own_of (plan_of (facts_of side log) (session_state log) call))
+actions_theorem side log call r l = plan_may side log (half-facts side log r) call (sym (may_call_theorem side log call) ∙ l)
 
 pub sends_theorem : (side : Side) (log : Log) (k : ℕ) → IsReachable side log → has_sending_half side log k ≡ true → can_send side log k ≡ true
 sends_theorem side log k r g = given-sends side log (reached-holds side log r).out.heads k g

@@ -5,7 +5,8 @@ ghost use Rattle.wt_reached.specs.Driving.{DriverFacts, leaves_driver};
 ghost use Rattle.wt_reached.specs.Reading.{Origin};
 ghost use Rattle.wt_seam_spec.specs.Sent.{is_finished, is_reset};
 ghost use Rattle.wt_seam_spec.specs.Streams.{can_receive, can_send, local_uni};
-ghost use Rattle.wt_session_acts.specs.OwnActions.{HalfFacts};
+ghost use Rattle.wt_session_acts.specs.Acting.{MayActAll};
+ghost use Rattle.wt_session_acts.specs.OwnActions.{HalfFacts, own_of};
 ghost use Rattle.wt_session_spec.specs.CallFacts.{facts_of};
 ghost use Rattle.wt_session_spec.specs.Plan.{Establish, Step};
 ghost use Rattle.wt_session_spec.specs.Plans.{plan_of};
@@ -27,6 +28,12 @@ ghost use Rattle.wt_wire.specs.declared.side.Side.{Side};
 #[tactic(auto, using(crate::proofs::Theorems::half_facts_theorem))]
 pub fn calls_may_send()
     ensures { (side : Side) (log : Log) → IsReachable side log → HalfFacts side log }
+{}
+
+/// So each action of a lawful call's plan may go out, behind those before it.
+#[tactic(auto, using(crate::proofs::Theorems::actions_theorem))]
+pub fn own_actions_go_out()
+    ensures { (side : Side) (log : Log) (call : Call) → IsReachable side log → is_lawful side log (turns.Call call) ≡ true → MayActAll side log (own_of (plan_of (facts_of side log) (session_state log) call)) }
 {}
 
 /// A stream whose half the application has is there, with that half; it is the peer's and was
