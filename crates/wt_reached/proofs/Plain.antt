@@ -1,9 +1,9 @@
 -- What lets the driver send holds after each entry that leaves it alone, and at the moments of turns.
-use Rattle.std.specs.Prelude.{[], ◌%◌, ◌&&◌, ◌+◌, ◌/◌, ◌<◌, ◌==◌, ◌||◌, ◌∷◌, ◌≡◌, Bool, List, None, Option, Some, false, nat_lt, not, true, ℕ}
+use Rattle.std.specs.Prelude.{◌%◌, ◌&&◌, ◌+◌, ◌/◌, ◌==◌, ◌||◌, ◌∷◌, ◌≡◌, Bool, List, false, nat_lt, not, true, ℕ}
 use Rattle.std.proofs.Common.{◌∙◌, ap, arith, refl, subst, sym}
 use Rattle.std.proofs.lemmas.Bool.{and_from, and_parts, lt-ltb, ltb-true, not-true}
 use Rattle.wt_seam_spec.specs.Sent.{finishes, is_finished, is_reset, resets}
-use Rattle.wt_seam_spec.specs.Streams.{can_receive, can_send, exists, local_count, local_uni, one_more_if, peer_count, peer_opens, peer_uni}
+use Rattle.wt_seam_spec.specs.Streams.{exists, local_count, local_uni, one_more_if, peer_count, peer_opens, peer_uni}
 use Rattle.wt_turn.specs.Log.{CallRecord, Called, Entry, Event, Log, Polled, Received, Reported, ReportedLate, ResetUnsent, Sent, SessionEstablished, actions_of, all_events_of, calls_of, with_actions}
 use Rattle.wt_turn.specs.declared.action.Action.{Action}
 use Rattle.wt_turn.specs.declared.action.Action.TheVariants as actions
@@ -19,7 +19,7 @@ use Rattle.wt_session_spec.specs.CallFacts.{facts_of}
 use Rattle.wt_session_spec.specs.Plan.{Establish, Plan, Step, perform}
 use Rattle.wt_session_spec.specs.Plans.{plan_of}
 use Rattle.wt_session_spec.specs.SessionState.{session_state}
-use Rattle.wt_spec.specs.Answers.{call_effect, is_lawful, log_after}
+use Rattle.wt_spec.specs.Answers.{is_lawful, log_after}
 use Rattle.wt_spec.specs.Driver.{established}
 use Rattle.wt_spec.specs.Effect.{Effect, log_call}
 

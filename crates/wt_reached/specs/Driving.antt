@@ -1,5 +1,5 @@
 -- What lets the driver send at a moment.
-use Rattle.std.specs.Prelude.{◌==◌, ◌≡◌, Bool, Option, Some, false, not, true, ℕ}
+use Rattle.std.specs.Prelude.{◌==◌, ◌≡◌, Bool, Some, false, not, true, ℕ}
 use Rattle.wt_seam_spec.specs.Sent.{is_finished, is_reset}
 use Rattle.wt_seam_spec.specs.Streams.{can_receive, can_send, local_uni}
 use Rattle.wt_spec.specs.Driver.{established}
