@@ -1,13 +1,13 @@
 -- What lets the driver send holds before and after what it sends.
-use Rattle.std.specs.Prelude.{[], ◌%◌, ◌&&◌, ◌+◌, ◌++◌, ◌/◌, ◌<◌, ◌==◌, ◌||◌, ◌∷◌, ◌≡◌, Bool, List, None, Option, Some, drop, false, nat_lt, not, take, true, ℕ}
+use Rattle.std.specs.Prelude.{[], ◌%◌, ◌&&◌, ◌+◌, ◌++◌, ◌/◌, ◌==◌, ◌||◌, ◌∷◌, ◌≡◌, Bool, List, None, Option, Some, drop, false, nat_lt, not, take, true, ℕ}
 use Rattle.std.proofs.Common.{◌∙◌, ap, arith, refl, subst, sym}
 use Rattle.std.proofs.lemmas.Bool.{and_from, and_parts, lt-ltb, ltb-true, not-true, or_parts}
 use Rattle.wt_message.specs.FixedBytes.{local_control_bytes}
 use Rattle.wt_seam_spec.specs.Joined.{send_of}
 use Rattle.wt_seam_spec.specs.Reports.{credit, unis_allowed}
 use Rattle.wt_seam_spec.specs.Sent.{finishes, is_finished, is_reset, resets}
-use Rattle.wt_seam_spec.specs.Streams.{can_receive, can_send, exists, local_count, local_uni, one_more_if, opens, peer_count, peer_uni}
-use Rattle.wt_turn.specs.Log.{CallRecord, Entry, Log, Sent, actions_of, all_events_of, calls_of, events_of, is_open, with_actions}
+use Rattle.wt_seam_spec.specs.Streams.{can_receive, exists, local_count, local_uni, one_more_if, opens, peer_count, peer_uni}
+use Rattle.wt_turn.specs.Log.{Log, Sent, actions_of, all_events_of, calls_of, events_of, is_open, with_actions}
 use Rattle.wt_turn.specs.declared.action.Action.{Action}
 use Rattle.wt_wire.specs.declared.side.Side.{Side}
 use Rattle.wt_wire.specs.declared.side.Side.TheVariants.{Client, Server}
@@ -15,12 +15,11 @@ use Rattle.wt_laws.proofs.Looks.{from-or}
 use Rattle.wt_laws.proofs.SessionStream.{not-true-so}
 use Rattle.wt_laws.specs.Reachable.{IsReachable}
 use Rattle.wt_reached.proofs.Ends.{IsSession, Mild, mild-pending}
-use Rattle.wt_reached.proofs.Handshaking.{Reached, control-unfinished, control-unreset, established-sends, reached-holds}
+use Rattle.wt_reached.proofs.Handshaking.{control-unfinished, control-unreset, established-sends, reached-holds}
 use Rattle.wt_reached.proofs.There.{session-receives}
 use Rattle.wt_reached.specs.Driving.{DriverFacts}
 use Rattle.wt_spec.specs.Driver.{ControlSent, apply_if, close_actions, control_actions, control_sent, established, flush, is_moment, opened_if, pending_actions, session_id, stop_actions, stream_table}
 use Rattle.wt_spec.specs.StreamTable.{ByFault, BySession, Ending, Stopped}
-use Rattle.wt_turn.specs.declared.action.Action.TheVariants as actions
 
 pub driver-facts : (side : Side) (log : Log) → IsReachable side log → DriverFacts side log
 driver-facts side log r =
@@ -41,7 +40,7 @@ exists-later side a log k e = at (opens (k % 4) a)
     at true = lt-ltb (k / 4) (peer_count side (all_events_of log) (k % 4) + (local_count (actions_of log) (k % 4) + 1)) (let l = ltb-true (k / 4) (peer_count side (all_events_of log) (k % 4) + local_count (actions_of log) (k % 4)) e in omega arith)
     at false = e
 
-half-later : (side : Side) (a : Action) (log : Log) (k kind : ℕ) → (exists side log k && not (kind == k % 4)) ≡ true → (exists side (Sent a ∷ log) k && not (kind == k % 4)) ≡ true
+pub half-later : (side : Side) (a : Action) (log : Log) (k kind : ℕ) → (exists side log k && not (kind == k % 4)) ≡ true → (exists side (Sent a ∷ log) k && not (kind == k % 4)) ≡ true
 half-later side a log k kind c = let p = and_parts (exists side log k) (not (kind == k % 4)) c in and_from (exists side (Sent a ∷ log) k) (not (kind == k % 4)) (exists-later side a log k p.0) p.1
 
 -- the session's stream isn't this end's control stream

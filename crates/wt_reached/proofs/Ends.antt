@@ -1,14 +1,14 @@
 -- Which sending halves end: those of streams that were given, a request's, and by a reset the session's.
-use Rattle.std.specs.Prelude.{[], ◌&&◌, ◌++◌, ◌==◌, ◌||◌, ◌∷◌, ◌≡◌, ◌⊎◌, Bool, List, None, Option, Some, drop, false, is_some, nat_lt, not, take, true, ℕ}
+use Rattle.std.specs.Prelude.{[], ◌&&◌, ◌++◌, ◌==◌, ◌∷◌, ◌≡◌, ◌⊎◌, Bool, List, None, Option, Some, drop, false, is_some, nat_lt, not, take, true, ℕ}
 use Rattle.std.proofs.Common.{◌∙◌, ap, inl, inr, refl, subst, sym}
-use Rattle.std.proofs.lemmas.Bool.{and_parts, eqb-true, or_left, or_right}
+use Rattle.std.proofs.lemmas.Bool.{and_parts, eqb-true, or_right}
 use Rattle.std.specs.List.{list_any}
 use Rattle.wt_message.specs.FixedBytes.{local_control_bytes}
 use Rattle.wt_seam_spec.specs.Joined.{send_of}
 use Rattle.wt_seam_spec.specs.Reports.{credit, unis_allowed}
 use Rattle.wt_seam_spec.specs.Sent.{finishes, is_finished, is_reset, resets}
 use Rattle.wt_seam_spec.specs.Streams.{local_uni}
-use Rattle.wt_turn.specs.Log.{CallRecord, Called, Entry, Log, Received, Reported, ReportedLate, ResetUnsent, Sent, SessionEstablished, actions_of, calls_of, events_of, is_open, with_actions}
+use Rattle.wt_turn.specs.Log.{CallRecord, Called, Entry, Log, Received, Reported, ResetUnsent, Sent, SessionEstablished, actions_of, calls_of, events_of, is_open, with_actions}
 use Rattle.wt_turn.specs.declared.action.Action.{Action}
 use Rattle.wt_turn.specs.declared.turn.Turn.{Turn}
 use Rattle.wt_wire.specs.declared.side.Side.{Side}
@@ -24,7 +24,6 @@ use Rattle.wt_laws.specs.Reachable.{IsReachable}
 use Rattle.wt_reached.proofs.Fair.{EndsFairly, ends-fairly}
 use Rattle.wt_spec.specs.Driver.{ControlSent, apply_if, close_actions, control_actions, control_sent, delivers, established, flush, is_moment, log_and_flush, opened_if, pending_actions, session_id, stop_actions, stream_table}
 use Rattle.wt_spec.specs.Halves.{is_accepted}
-use Rattle.wt_spec.specs.Handshake.{requested}
 use Rattle.wt_spec.specs.StreamTable.{ByFault, BySession, Ending, Stopped}
 use Rattle.wt_turn.specs.declared.action.Action.TheVariants as actions
 use Rattle.wt_spec.specs.Connection.{accepts_stream}

@@ -1,17 +1,13 @@
 -- The peer ends a session only where one is established, whatever the log.
-use Rattle.std.specs.Prelude.{[], ◌&&◌, ◌==◌, ◌∷◌, ◌≡◌, ◌||◌, Bool, Err, List, None, Ok, Option, Result, Some, drop, false, is_some, nat_lt, not, suc, true, ℕ}
-use Rattle.std.proofs.Common.{◌∙◌, refl, subst, sym}
+use Rattle.std.specs.Prelude.{[], ◌&&◌, ◌==◌, ◌∷◌, ◌||◌, Bool, Err, List, None, Ok, Option, Result, Some, drop, false, nat_lt, not, suc, true, ℕ}
 use Rattle.wt_message.specs.Datagram.{datagram_of}
 use Rattle.wt_proto.specs.ControlWalk.{control_walk_of}
-use Rattle.wt_proto.specs.SessionWalk.{session_walk_of}
 use Rattle.wt_proto.specs.Uni.{is_final}
-use Rattle.wt_proto.specs.declared.session_walk.SessionWalk.{SessionWalk}
-use Rattle.wt_proto.specs.declared.session_walk.SessionWalk.TheVariants as walks
 use Rattle.wt_proto.specs.declared.verdict.Verdict.{Verdict}
 use Rattle.wt_seam_spec.specs.Reports.{is_running}
 use Rattle.wt_spec.specs.Driver.{apply_if, call_view, established, is_moment, stream_table, transport_view}
-use Rattle.wt_spec.specs.Scan.{Scan, SlotRule, bi_ids, bi_rule, check_control, check_datagram, check_qpack, check_session, checks, classify, critical_if, dequeue, dequeued_datagram, fault_ending, has, in_order, parsed_datagram, scan, scan_bis, scan_order, scan_unis, session_ends, uni_ids, uni_rule, unless_ended, visit, with_dequeued, with_fault, without_stops}
-use Rattle.wt_spec.specs.StreamTable.{ByFault, BySession, CallView, Consequence, Dispatched, Ending, Progress, StreamTable, TransportView, bi_consequence, dispatched, uni_consequence, verdict_of}
+use Rattle.wt_spec.specs.Scan.{Scan, SlotRule, bi_ids, bi_rule, check_control, check_datagram, check_qpack, check_session, checks, classify, critical_if, dequeue, dequeued_datagram, fault_ending, has, in_order, parsed_datagram, scan, scan_bis, scan_order, scan_unis, uni_ids, uni_rule, unless_ended, visit, with_dequeued, with_fault, without_stops}
+use Rattle.wt_spec.specs.StreamTable.{ByFault, BySession, CallView, Ending, Progress, StreamTable, TransportView, dispatched, verdict_of}
 use Rattle.wt_turn.specs.Log.{CallRecord, Called, Entry, Log, Received, Reported, ReportedLate, Sent, SessionEstablished, calls_of, is_open}
 use Rattle.wt_wire.specs.declared.error.ErrorCode.{ErrorCode}
 use Rattle.wt_wire.specs.declared.error.ErrorCode.TheVariants as h3

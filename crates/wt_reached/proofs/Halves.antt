@@ -1,7 +1,6 @@
 -- What lets a session's calls send holds of each log that lawful turns lead to.
-use Rattle.std.specs.Prelude.{[], ◌&&◌, ◌≡◌, Bool, List, None, Option, Some, false, true, ℕ}
+use Rattle.std.specs.Prelude.{[], ◌≡◌, Bool, List, false, true, ℕ}
 use Rattle.std.proofs.Common.{◌∙◌, ap, refl, sym}
-use Rattle.std.proofs.lemmas.Bool.{and_parts}
 use Rattle.wt_turn.specs.Log.{Log, calls_of}
 use Rattle.wt_wire.specs.declared.side.Side.{Side}
 use Rattle.wt_laws.proofs.SessionLaws.{has_request}
@@ -12,9 +11,8 @@ use Rattle.wt_reached.proofs.There.{given-origin, given-receives, given-sends}
 use Rattle.wt_reached.specs.Reading.{Origin}
 use Rattle.wt_session_acts.specs.OwnActions.{HalfFacts, RespondsWell}
 use Rattle.wt_session_spec.proofs.Uses.{same-opening, same-receiving, same-sending}
-use Rattle.wt_session_spec.specs.SessionState.{has_receiving_now, has_sending_now, is_opening_now, session_state}
-use Rattle.wt_spec.specs.Halves.{has_receiving_half, is_accepted}
-use Rattle.wt_spec.specs.Handshake.{Responding, awaits_answer, handshake_state, requested}
+use Rattle.wt_spec.specs.Halves.{is_accepted}
+use Rattle.wt_spec.specs.Handshake.{Responding, awaits_answer, handshake_state}
 
 module _ (side : Side) (log : Log) (r : IsReachable side log) where
   holds : Reached side log

@@ -1,14 +1,13 @@
 -- What holds of the streams that calls send on: given ones, those that are being opened, a request's, a connect's.
-use Rattle.std.specs.Prelude.{[], ◌%◌, ◌&&◌, ◌==◌, ◌||◌, ◌∷◌, ◌≡◌, ◌⊎◌, Bool, List, None, Option, Some, drop, false, is_some, length, not, suc, take, true, unwrap_or, zero, ℕ}
-use Rattle.std.proofs.Common.{◌∙◌, ap, arith, inl, inr, refl, subst, sym}
+use Rattle.std.specs.Prelude.{[], ◌≡◌, ◌⊎◌, Bool, List, None, Option, Some, drop, false, length, not, suc, take, true, unwrap_or, zero, ℕ}
+use Rattle.std.proofs.Common.{◌∙◌, ap, arith, inl, inr, refl}
 use Rattle.std.proofs.lemmas.Bool.{and_parts, not-true}
 use Rattle.std.proofs.lemmas.List.{drop_all}
 use Rattle.std.specs.List.{list_any}
 use Rattle.wt_seam_spec.specs.Sent.{is_finished, is_reset, sent_on}
-use Rattle.wt_seam_spec.specs.Streams.{can_receive, can_send, local_bi, local_uni}
+use Rattle.wt_seam_spec.specs.Streams.{can_send, local_bi, local_uni}
 use Rattle.wt_turn.specs.Log.{Log, actions_of, calls_of}
 use Rattle.wt_wire.specs.declared.side.Side.{Side}
-use Rattle.wt_laws.proofs.HeaderLaws.{Heads}
 use Rattle.wt_laws.proofs.SendLaws.{accepted-ends}
 use Rattle.wt_laws.proofs.SessionLaws.{has_request}
 use Rattle.wt_laws.proofs.SessionStream.{Out, for-client, for-server, is_unanswered, not-given, not-true-so, so-far-reached}

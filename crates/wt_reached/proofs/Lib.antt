@@ -5,3 +5,5 @@ pub mod Handshaking
 pub mod Rejecting
 pub mod Driving
 pub mod Halves
+pub mod Plain
+pub mod Theorems

@@ -1,5 +1,5 @@
 -- A rejection whose response is out is finished, in the same turn.
-use Rattle.std.specs.Prelude.{[], ◌&&◌, ◌++◌, ◌==◌, ◌||◌, ◌∷◌, ◌≡◌, ◌⊎◌, Bool, List, None, Option, Some, codes, drop, false, if◌then◌else◌, is_some, length, not, suc, true, zero, ℕ}
+use Rattle.std.specs.Prelude.{[], ◌&&◌, ◌++◌, ◌==◌, ◌||◌, ◌∷◌, ◌≡◌, ◌⊎◌, Bool, List, Some, codes, drop, false, if◌then◌else◌, is_some, length, not, suc, true, zero, ℕ}
 use Rattle.std.proofs.Common.{◌∙◌, ap, inl, inr, refl, subst, sym}
 use Rattle.std.proofs.lemmas.Bool.{and_parts, eq-eqb, eqb-true, or_left, or_right}
 use Rattle.std.proofs.lemmas.List.{append-nil}
@@ -10,32 +10,31 @@ use Rattle.wt_seam_spec.specs.Outgoing.{covered}
 use Rattle.wt_seam_spec.specs.Reports.{is_acknowledged, stop_of}
 use Rattle.wt_seam_spec.specs.Sent.{finishes, is_finished, sent_on}
 use Rattle.wt_seam_spec.specs.Streams.{local_uni}
-use Rattle.wt_turn.specs.Log.{CallRecord, Called, ConnectStarted, Entry, HandshakeOver, Log, Polled, Received, Reported, ReportedLate, RequestDelivered, ResponseStarted, Sent, SessionEstablished, actions_of, calls_of, events_of, is_open, with_actions}
+use Rattle.wt_turn.specs.Log.{CallRecord, Called, ConnectStarted, Entry, HandshakeOver, Log, Polled, Received, Reported, RequestDelivered, ResponseStarted, Sent, SessionEstablished, actions_of, calls_of, events_of, is_open, with_actions}
 use Rattle.wt_turn.specs.declared.action.Action.{Action}
 use Rattle.wt_turn.specs.declared.turn.Turn.{Turn}
 use Rattle.wt_wire.specs.Codes.{code_of}
 use Rattle.wt_wire.specs.declared.side.Side.{Side}
 use Rattle.wt_laws.proofs.Caused.{sent-send}
 use Rattle.wt_laws.proofs.Facts.{IsSessions, is_local}
-use Rattle.wt_laws.proofs.Looks.{from-or}
 use Rattle.wt_laws.proofs.Reached.{keeps-turn}
 use Rattle.wt_laws.proofs.ReadLaws.{local-unclassified}
 use Rattle.wt_laws.proofs.SendLaws.{Given, flush-other, pending-other}
-use Rattle.wt_laws.proofs.SessionLaws.{from-request, has_request}
+use Rattle.wt_laws.proofs.SessionLaws.{has_request}
 use Rattle.wt_laws.proofs.Sends.{piece_on, sends_of, with-piece}
 use Rattle.wt_laws.proofs.SessionStream.{not-true-so}
 use Rattle.wt_laws.proofs.Steps.{Keeps, KeepsEntries, by-entries, calls-logged, of-record}
-use Rattle.wt_laws.specs.Causes.{ActionCause, ByAcceptance, ByRejection, CallCause, FromBefore, OfHeader, OfRequest, OfResponse, OfWrite, OwnCauses, RecordCause, ResponseFrom, SendCause, frame_of}
+use Rattle.wt_laws.specs.Causes.{ActionCause, ByAcceptance, ByRejection, FromBefore, OfHeader, OfRequest, OfResponse, OfWrite, OwnCauses, RecordCause, ResponseFrom, SendCause, frame_of}
 use Rattle.wt_laws.specs.Reachable.{AfterTurn, AtStart, IsReachable}
 use Rattle.wt_reached.proofs.Ends.{Ends, ends-action, ends-hold, ends-own, ends-record, keeps-ends}
-use Rattle.wt_reached.proofs.Handshaking.{Reached, reached-holds}
+use Rattle.wt_reached.proofs.Handshaking.{reached-holds}
 use Rattle.wt_reached.proofs.There.{is-local-uni}
 use Rattle.wt_spec.specs.Answers.{call_effect, is_client, is_lawful, log_after, may_respond}
 use Rattle.wt_spec.specs.Connection.{starts_opening}
 use Rattle.wt_spec.specs.Driver.{apply_if, delivers, flush, is_moment, log_and_flush, pending_actions, stream_table}
 use Rattle.wt_spec.specs.Effect.{Effect, closing, head_left, is_covered, is_empty, log_call}
 use Rattle.wt_spec.specs.Halves.{is_accepted}
-use Rattle.wt_spec.specs.Handshake.{Connecting, HandshakeState, Requested, Responding, accept_response, awaits_answer, continue_by, finish_rejection, handshake_state, is_refused, reject_response, request_end, requested, respond, response_head, start_response}
+use Rattle.wt_spec.specs.Handshake.{HandshakeState, Requested, Responding, accept_response, awaits_answer, continue_by, finish_rejection, handshake_state, is_refused, reject_response, request_end, requested, respond, response_head, start_response}
 use Rattle.wt_spec.specs.StreamTable.{verdict_of}
 use Rattle.wt_turn.specs.declared.action.Action.TheVariants as actions
 use Rattle.wt_turn.specs.declared.call.Call.TheVariants as calls

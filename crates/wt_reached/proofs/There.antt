@@ -1,17 +1,15 @@
 -- The streams of calls are there, and have their halves.
-use Rattle.std.specs.Prelude.{[], ◌%◌, ◌&&◌, ◌+◌, ◌/◌, ◌<◌, ◌==◌, ◌||◌, ◌∷◌, ◌≡◌, ◌≢◌, ◌≤◌, ◌⊎◌, Bool, List, None, Option, Some, drop, false, if◌then◌else◌, is_some, length, nat_lt, not, suc, take, true, unwrap_or, zero, ℕ}
+use Rattle.std.specs.Prelude.{[], ◌%◌, ◌&&◌, ◌+◌, ◌/◌, ◌<◌, ◌==◌, ◌∷◌, ◌≡◌, ◌≢◌, ◌≤◌, ◌⊎◌, Bool, List, None, Option, Some, drop, false, if◌then◌else◌, is_some, nat_lt, not, suc, true, zero, ℕ}
 use Rattle.std.proofs.Common.{◌∙◌, ap, arith, inl, inr, refl, subst, sym}
-use Rattle.std.proofs.lemmas.Bool.{and_from, and_parts, eqb-true, lt-ltb, ltb-true, not-true, or_right}
-use Rattle.std.proofs.lemmas.List.{drop_all}
+use Rattle.std.proofs.lemmas.Bool.{and_from, and_parts, eqb-true, lt-ltb, ltb-true, not-true}
 use Rattle.std.specs.List.{list_any}
-use Rattle.wt_proto.specs.Uni.{at_stream_end, header_by_type, or_at_stream_end, session_header_at, session_verdict, typed_header_at, uni_header_at, uni_verdict_of}
+use Rattle.wt_proto.specs.Uni.{at_stream_end, or_at_stream_end, session_header_at, session_verdict, typed_header_at, uni_verdict_of}
 use Rattle.wt_proto.specs.declared.verdict.Verdict.{Verdict}
 use Rattle.wt_proto.specs.declared.verdict.Verdict.TheVariants as verdicts
 use Rattle.wt_message.specs.StreamTypes.{control_type, decoder_type, encoder_type, webtransport_type}
 use Rattle.wt_seam_spec.specs.Reports.{end_of}
-use Rattle.wt_seam_spec.specs.Sent.{is_finished, is_reset, sent_on}
 use Rattle.wt_seam_spec.specs.Streams.{can_receive, can_send, contents, exists, local_bi, local_count, local_uni, one_more_if, peer_bi, peer_count, peer_opens, peer_uni}
-use Rattle.wt_turn.specs.Log.{CallRecord, Called, Entry, Log, Received, Reported, ReportedLate, Sent, actions_of, all_events_of, calls_of, events_of}
+use Rattle.wt_turn.specs.Log.{Called, Log, Received, Reported, ReportedLate, Sent, actions_of, all_events_of, calls_of, events_of}
 use Rattle.wt_wire.specs.Varint.{varint_at}
 use Rattle.wt_wire.specs.declared.side.Side.{Side}
 use Rattle.wt_wire.specs.declared.side.Side.TheVariants.{Client, Server}
@@ -22,21 +20,17 @@ use Rattle.wt_laws.proofs.Facts.{HasBi, HasUni, HasVerdict, IsSessions, is_local
 use Rattle.wt_laws.proofs.HeaderLaws.{Heads}
 use Rattle.wt_laws.proofs.Looks.{from-or}
 use Rattle.wt_laws.proofs.ReadLaws.{local-unclassified}
-use Rattle.wt_laws.proofs.SendLaws.{accepted-ends}
-use Rattle.wt_laws.proofs.SessionLaws.{HadRequest, has_request}
-use Rattle.wt_laws.proofs.SessionStream.{Out, for-client, for-server, is_unanswered, not-given, not-true-so, so-far-reached}
-use Rattle.wt_laws.specs.Causes.{is_under_way}
-use Rattle.wt_laws.specs.Laws.{is_session_stream, session_frame}
-use Rattle.wt_laws.specs.Reachable.{IsReachable, is_among}
+use Rattle.wt_laws.proofs.SessionLaws.{HadRequest}
+use Rattle.wt_laws.proofs.SessionStream.{Out}
+use Rattle.wt_laws.specs.Laws.{is_session_stream}
+use Rattle.wt_laws.specs.Reachable.{is_among}
 use Rattle.wt_reached.specs.Reading.{ByCall, ByPeer, Origin}
-use Rattle.wt_reached.proofs.Ends.{Ends, IsSession, ends-hold}
+use Rattle.wt_reached.proofs.Ends.{IsSession}
 use Rattle.wt_spec.specs.Answers.{is_client}
-use Rattle.wt_spec.specs.Connection.{ends_opening, is_opening, starts_opening}
-use Rattle.wt_spec.specs.Driver.{delivers, established, stream_table}
-use Rattle.wt_spec.specs.Effect.{head_left}
+use Rattle.wt_spec.specs.Connection.{starts_opening}
+use Rattle.wt_spec.specs.Driver.{delivers}
 use Rattle.wt_spec.specs.Halves.{has_receiving_half, has_sending_half, is_accepted}
-use Rattle.wt_spec.specs.Handshake.{Connecting, HandshakeState, Requested, Responding, awaits_answer, handshake_state, requested}
-use Rattle.wt_spec.specs.StreamTable.{is_request, verdict_of}
+use Rattle.wt_spec.specs.StreamTable.{is_request}
 
 -- ---- streams that the peer opened
 

@@ -1,5 +1,5 @@
 -- Where the streams come from that the application reads.
-use Rattle.std.specs.Prelude.{◌%◌, ◌==◌, ◌||◌, ◌≡◌, Option, Some, true, ℕ}
+use Rattle.std.specs.Prelude.{◌%◌, ◌==◌, ◌||◌, ◌≡◌, Some, true, ℕ}
 use Rattle.std.specs.List.{list_any}
 use Rattle.wt_proto.specs.declared.verdict.Verdict.TheVariants as verdicts
 use Rattle.wt_seam_spec.specs.Streams.{local_bi, local_uni}
