@@ -25,8 +25,8 @@ use Rattle.wt_wire.specs.declared.side.Side.TheVariants.{Client, Server}
 use Rattle.wt_wire.specs.declared.side.StreamEnd.{StreamEnd}
 use Rattle.wt_laws.proofs.Caused.{Caused, caused-accept, caused-connect-to, caused-continue, caused-deliver, caused-receive, caused-start, covered-whole, either, head-out, leaf, not-stopped, own-if, own-send, polled}
 use Rattle.wt_laws.proofs.Steps.{Brings, ByByte, ByEvent, ByLate, Nothing, Steps, blind-actions, blind-flush, calls-with, event_of}
-use Rattle.wt_laws.specs.Causes.{ByAcceptance, ByOpening, ByRejection, CloseCause, DatagramOf, FoundStream, OfCall, OfEndpoint, OfHeader, OfWrite, OwnCauses, accepted_kind, bytes_for, is_accept, is_receive, polls_opening, reads_from}
-use Rattle.wt_laws.specs.ReplyCauses.{AtFinish, AtOpening, AtWrite, GivenStream, HeadUnsent, NoStreamToOpen, NoWriteCredit, NotClosed, NotEnded, NothingUnread, OfTheStream, ReplyCause, StoppedCause, TooFewUnread, WrittenCause, asks_for_session, half_of, is_closed_error, needs_half, opened_kind, waits_for_end}
+use Rattle.wt_laws.specs.Causes.{ByAcceptance, ByOpening, ByRejection, CloseCause, DatagramOf, FoundStream, OfCall, OfEndpoint, OfHeader, OfWrite, OwnCauses, accepted_kind, bytes_for, frame_of, is_accept, is_receive, polls_opening, reads_from}
+use Rattle.wt_laws.specs.ReplyCauses.{AtClose, AtDatagram, AtEndpointClose, AtEvent, AtFinish, AtOpening, AtPriority, AtReset, AtStop, AtWrite, DoneCause, GivenStream, HeadUnsent, NoStreamToOpen, NoWriteCredit, NotClosed, NotEnded, NothingUnread, OfTheStream, ReplyCause, StoppedCause, TooFewUnread, WrittenCause, asks_for_session, half_of, is_call, is_closed_error, needs_half, opened_kind, waits_for_end}
 use Rattle.wt_laws.specs.Told.{NoRecord, NonePassed, given_stream, is_quiet, read_piece}
 use Rattle.wt_spec.specs.Answers.{call_effect, in_session, is_client, is_first, is_lawful, may_call, may_respond, on_session, receive, turn_effect}
 use Rattle.wt_spec.specs.Connection.{accept_stream, close_connection, closed_reply, continue_opening, datagram_allowed, datagram_within, is_opening, open_stream, payload_limit, poll_opening, receive_datagram, send_datagram, stream_header}
@@ -106,7 +106,7 @@ module _ (side : Side) (turn : Turn) where
   caused-within log bytes facts.Disabled t o e = polled side turn log _ refl (bytes, t, e)
   caused-within log bytes facts.Unsupported t o e = polled side turn log _ refl (bytes, t, e)
   caused-within log bytes (facts.Limit limit) t o e =
-      either side turn (nat_lt limit (length bytes)) _ _ (λ b. polled side turn log _ refl (bytes, t, (limit, e, b))) (λ b. leaf side turn log (actions.DatagramOut bytes ∷ []) Polled replies.Done ((o, t, limit, e, b), tt) tt refl tt)
+      either side turn (nat_lt limit (length bytes)) _ _ (λ b. polled side turn log _ refl (bytes, t, (limit, e, b))) (λ b. leaf side turn log (actions.DatagramOut bytes ∷ []) Polled replies.Done ((o, t, limit, e, b), tt) tt refl (AtDatagram bytes limit o t e b))
 
   caused-allowed : (log : Log) (bytes : List ℕ) (fact : Option DatagramFact) → DatagramOf turn log bytes → is_open log ≡ true → datagram_fact (events_of log) ≡ fact → Caused side turn log (datagram_allowed side log bytes fact)
   caused-allowed log bytes None t o e = polled side turn log _ refl (bytes, t, inr e)
@@ -119,8 +119,8 @@ module _ (side : Side) (turn : Turn) where
 
   -- ---- the rest of a session's calls
 
-  caused-close : (log : Log) (code : ℕ) (reason : List ℕ) → CloseCause side turn log code reason → Caused side turn log (close_connection side log code reason)
-  caused-close log code reason c = leaf side turn log (if_open log (actions.Close code reason)) Polled replies.Done (own-if side turn log (actions.Close code reason) (is_open log) (λ o. (o, c))) tt refl tt
+  caused-close : (log : Log) (code : ℕ) (reason : List ℕ) → CloseCause side turn log code reason → DoneCause side turn log → Caused side turn log (close_connection side log code reason)
+  caused-close log code reason c d = leaf side turn log (if_open log (actions.Close code reason)) Polled replies.Done (own-if side turn log (actions.Close code reason) (is_open log) (λ o. (o, c))) tt refl d
 
   closed-so : (log : Log) (b : Bool) → turn ≡ turns.Call calls.Closed → is_open log ≡ b → ReplyCause side turn log (if b then replies.Pending else replies.Closed (transport_error log))
   closed-so log true t o = (o, NotClosed t)
@@ -270,8 +270,8 @@ module _ (side : Side) (turn : Turn) where
   small-local Client = (refl, refl)
   small-local Server = (refl, refl)
 
-  rejects : (log : Log) (head : List ℕ) → may_respond side log ≡ true → Caused side turn log (start_response side log false head)
-  rejects log head l = let r = responding log l in caused-start side turn log r.0 false head r.1 (ByRejection r.0 refl r.1)
+  rejects : (log : Log) (head : List ℕ) → frame_of turn ≡ Some head → may_respond side log ≡ true → Caused side turn log (start_response side log false head)
+  rejects log head f l = let r = responding log l in caused-start side turn log r.0 false head r.1 (ByRejection r.0 refl f r.1)
 
   own-id : (k : ℕ) (t : (id : ℕ) → Turn) → turn ≡ t k → (f : ℕ → Turn → Bool) → f k (t k) ≡ true → f k turn ≡ true
   own-id k t e f p = ap (f k) e ∙ p
@@ -291,13 +291,13 @@ module _ (side : Side) (turn : Turn) where
       let f = and_parts (is_client side) (is_first log) l in
       caused-connect-to side turn log options.0 (parse_url None options.0) options.1 lookup outcome (first-log log f.1) f.0 t refl
   caused-call log calls.Incoming t l =
-      caused-deliver side turn log (queued_requests side log) t (awaiting (handshake_state (calls_of log)) (and_parts (not (is_client side) && not (is_first log)) _ l).1) refl
+      caused-deliver side turn log (queued_requests side log) t (not-true _ (and_parts (not (is_client side)) _ (and_parts (not (is_client side) && not (is_first log)) _ l).0).0) (awaiting (handshake_state (calls_of log)) (and_parts (not (is_client side) && not (is_first log)) _ l).1) refl
   caused-call log (calls.Accept headers) t l = let r = responding log l in caused-start side turn log r.0 true (response_head (codes "200") headers) r.1 (ByAcceptance r.0 headers refl t refl r.1)
-  caused-call log calls.Forbidden t l = rejects log (response_bytes (codes "403")) l
-  caused-call log calls.NotFound t l = rejects log (response_bytes (codes "404")) l
-  caused-call log calls.TooManyRequests t l = rejects log (response_bytes (codes "429")) l
+  caused-call log calls.Forbidden t l = rejects log (response_bytes (codes "403")) (ap frame_of t) l
+  caused-call log calls.NotFound t l = rejects log (response_bytes (codes "404")) (ap frame_of t) l
+  caused-call log calls.TooManyRequests t l = rejects log (response_bytes (codes "429")) (ap frame_of t) l
   caused-call log calls.Handshake t l = caused-continue side turn log (handshake_state (calls_of log)) t refl l
-  caused-call log (calls.EndpointClose code reason) t l = caused-close log code reason (OfEndpoint t)
+  caused-call log (calls.EndpointClose code reason) t l = caused-close log code reason (OfEndpoint t) (AtEndpointClose code reason t)
   caused-call log calls.AcceptUni t l = accepts log replies.Uni (peer_uni side) (ap is_accept t) (ap asks_for_session t) (ap (accepted_kind side) t) (λ k. refl) (λ g k f. given-stream g (peer_uni side) k (ap (accepted_kind side) t) f)
   caused-call log calls.AcceptBi t l = accepts log replies.Bi (peer_bi side) (ap is_accept t) (ap asks_for_session t) (ap (accepted_kind side) t) (λ k. refl) (λ g k f. given-stream g (peer_bi side) k (ap (accepted_kind side) t) f)
   caused-call log calls.ReceiveDatagram t l =
@@ -314,7 +314,7 @@ module _ (side : Side) (turn : Turn) where
       caused-session log (send_datagram side log payload) (established (calls_of log)) (ap asks_for_session t) refl (λ s at d. caused-send-datagram log payload s at d t)
   caused-call log calls.MaxDatagramSize t l = caused-session log _ (established (calls_of log)) (ap asks_for_session t) refl (λ s at d. polled side turn log (replies.Size (payload_limit s (datagram_fact (events_of log)))) refl (t, s, at, d, refl))
   caused-call log calls.SessionId t l = caused-session log _ (established (calls_of log)) (ap asks_for_session t) refl (λ s at d. polled side turn log (replies.Id s) refl (t, at, d))
-  caused-call log (calls.Close code reason) t l = caused-session log _ (established (calls_of log)) (ap asks_for_session t) refl (λ s at d. caused-close log code reason (OfCall t))
+  caused-call log (calls.Close code reason) t l = caused-session log _ (established (calls_of log)) (ap asks_for_session t) refl (λ s at d. caused-close log code reason (OfCall t) (AtClose code reason t (ap is_some d)))
   caused-call log calls.Closed t l = caused-session log _ (established (calls_of log)) (ap asks_for_session t) refl (λ s at d. polled side turn log (closed_reply log) (quiet-if (is_open log) replies.Pending (replies.Closed (transport_error log)) refl refl) (closed-so log (is_open log) t refl))
   caused-call log (calls.Write id bytes) t l =
       let h = ap (bytes_for id) t ∙ rw (same-id id) refl in
@@ -345,11 +345,11 @@ module _ (side : Side) (turn : Turn) where
       at false d = (id, t, d, refl)
   caused-call log (calls.SetPriority id p) t l =
       caused-half log _ id (has_sending_half side log id) (ap (half_of side log) t)
-      (λ c. either side turn (is_done log id) _ _ (λ d. polled side turn log replies.Done refl tt) (λ d. leaf side turn log [] (PrioritySet id p) replies.Done tt c refl tt))
+      (λ c. either side turn (is_done log id) _ _ (λ d. polled side turn log replies.Done refl (AtPriority id p t c)) (λ d. leaf side turn log [] (PrioritySet id p) replies.Done tt c refl (AtPriority id p t c)))
   caused-call log (calls.ResetSend id code) t l =
       caused-half log _ id (has_sending_half side log id) (ap (half_of side log) t)
       (λ c. either side turn (is_done log id) _ _ (λ d. polled side turn log replies.ClosedStream refl (id, ap (needs_half id) t ∙ same-id id, d)) (λ d.
-      either side turn (is_open log) _ _ (λ o. leaf side turn log (actions.ResetOut id code ∷ []) Polled replies.Done ((o, t, c, d), tt) tt refl tt) (λ o. leaf side turn log [] (ResetUnsent id code) replies.Done tt (c, o) refl tt)))
+      either side turn (is_open log) _ _ (λ o. leaf side turn log (actions.ResetOut id code ∷ []) Polled replies.Done ((o, t, c, d), tt) tt refl (AtReset id code t c d)) (λ o. leaf side turn log [] (ResetUnsent id code) replies.Done tt (c, o) refl (AtReset id code t c d))))
   caused-call log (calls.Read id size) t l =
       caused-half log _ id (has_receiving_half side log id) (ap (half_of side log) t) (λ c. caused-read log id size t (ap (reads_from id) t ∙ same-id id) c)
   caused-call log (calls.ReadExact id size) t l =
@@ -357,14 +357,14 @@ module _ (side : Side) (turn : Turn) where
   caused-call log (calls.StopRecv id code) t l =
       caused-half log _ id (has_receiving_half side log id) (ap (half_of side log) t)
       (λ c. leaf side turn log (if_open log (actions.StopOut id code)) (StreamGivenUp id) replies.Done (own-if side turn log (actions.StopOut id code) (is_open log) (λ o. (o, OfCall t c)))
-      (blind-actions (λ g. has_receiving_half side g id) (λ a g. refl) (if_open log (actions.StopOut id code)) log ∙ c) refl tt)
+      (blind-actions (λ g. has_receiving_half side g id) (λ a g. refl) (if_open log (actions.StopOut id code)) log ∙ c) refl (AtStop id code t c))
 
   -- ---- a turn of the transport
 
-  caused-event : (log : Log) (e : Event) (b : Bool) → is_open log ≡ b → Brings side turn log e → Caused side turn log (reply_with (flush side (event_entry b e ∷ log)) replies.Done)
+  caused-event : (log : Log) (e : Event) (b : Bool) → is_call turn ≡ false → is_open log ≡ b → Brings side turn log e → Caused side turn log (reply_with (flush side (event_entry b e ∷ log)) replies.Done)
   unfolding flush
-  caused-event log e true o x = record { decided = log; before = Nothing; after = ByEvent e o x Nothing; why = tt; passed = NonePassed; logged = NoRecord (blind-flush calls_of (λ a g. refl) side (Reported e) log) refl; at_once = λ z. refl }
-  caused-event log e false o x = record { decided = log; before = Nothing; after = ByLate e o x Nothing; why = tt; passed = NonePassed; logged = NoRecord refl refl; at_once = λ z. refl }
+  caused-event log e true n o x = record { decided = log; before = Nothing; after = ByEvent e o x Nothing; why = AtEvent n; passed = NonePassed; logged = NoRecord (blind-flush calls_of (λ a g. refl) side (Reported e) log) refl; at_once = λ z. refl }
+  caused-event log e false n o x = record { decided = log; before = Nothing; after = ByLate e o x Nothing; why = AtEvent n; passed = NonePassed; logged = NoRecord refl refl; at_once = λ z. refl }
 
   one-byte : {last : Log} (log : Log) (id b : ℕ) (o : Bool) → is_open log ≡ o → is_running (end_of (all_events_of log) id) ≡ true → Steps side turn last (if o then log_and_flush side log (Received id b) else log) → Steps side turn last log
   one-byte log id b true o r s = ByByte id b o r s
@@ -394,20 +394,20 @@ module _ (side : Side) (turn : Turn) where
 
   caused-turn : (log : Log) (t : Turn) → turn ≡ t → is_lawful side log t ≡ true → Caused side turn log (turn_effect side log t)
   caused-turn log (turns.Call c) t l = caused-call log c t l
-  caused-turn log (turns.Bytes id piece) t l = record { decided = log; before = Nothing; after = byte-steps log id piece (may-run log id piece l); why = tt; passed = NonePassed; logged = NoRecord (same-calls log id piece) refl; at_once = λ z. refl }
-  caused-turn log (turns.Connected uni bi credit fact) t l = caused-event log (Connected uni bi credit fact) (is_open log) refl (record { told = ap event_of t; lawful = rw t l })
-  caused-turn log turns.PeerUni t l = caused-event log PeerUni (is_open log) refl (record { told = ap event_of t; lawful = rw t l })
-  caused-turn log turns.PeerBi t l = caused-event log PeerBi (is_open log) refl (record { told = ap event_of t; lawful = rw t l })
-  caused-turn log (turns.End id) t l = caused-event log (End id) (is_open log) refl (record { told = ap event_of t; lawful = rw t l })
-  caused-turn log (turns.Reset id code) t l = caused-event log (Reset id code) (is_open log) refl (record { told = ap event_of t; lawful = rw t l })
-  caused-turn log (turns.Stop id code) t l = caused-event log (Stop id code) (is_open log) refl (record { told = ap event_of t; lawful = rw t l })
-  caused-turn log (turns.Acked id) t l = caused-event log (Acked id) (is_open log) refl (record { told = ap event_of t; lawful = rw t l })
-  caused-turn log (turns.Datagram piece) t l = caused-event log (Datagram piece) (is_open log) refl (record { told = ap event_of t; lawful = rw t l })
-  caused-turn log (turns.MaxUni total) t l = caused-event log (MaxUni total) (is_open log) refl (record { told = ap event_of t; lawful = rw t l })
-  caused-turn log (turns.MaxBi total) t l = caused-event log (MaxBi total) (is_open log) refl (record { told = ap event_of t; lawful = rw t l })
-  caused-turn log (turns.MaxData id total) t l = caused-event log (MaxData id total) (is_open log) refl (record { told = ap event_of t; lawful = rw t l })
-  caused-turn log (turns.DatagramLimit fact) t l = caused-event log (DatagramLimit fact) (is_open log) refl (record { told = ap event_of t; lawful = rw t l })
-  caused-turn log (turns.Loss reason) t l = caused-event log (Loss reason) (is_open log) refl (record { told = ap event_of t; lawful = rw t l })
+  caused-turn log (turns.Bytes id piece) t l = record { decided = log; before = Nothing; after = byte-steps log id piece (may-run log id piece l); why = AtEvent (ap is_call t); passed = NonePassed; logged = NoRecord (same-calls log id piece) refl; at_once = λ z. refl }
+  caused-turn log (turns.Connected uni bi credit fact) t l = caused-event log (Connected uni bi credit fact) (is_open log) (ap is_call t) refl (record { told = ap event_of t; lawful = rw t l })
+  caused-turn log turns.PeerUni t l = caused-event log PeerUni (is_open log) (ap is_call t) refl (record { told = ap event_of t; lawful = rw t l })
+  caused-turn log turns.PeerBi t l = caused-event log PeerBi (is_open log) (ap is_call t) refl (record { told = ap event_of t; lawful = rw t l })
+  caused-turn log (turns.End id) t l = caused-event log (End id) (is_open log) (ap is_call t) refl (record { told = ap event_of t; lawful = rw t l })
+  caused-turn log (turns.Reset id code) t l = caused-event log (Reset id code) (is_open log) (ap is_call t) refl (record { told = ap event_of t; lawful = rw t l })
+  caused-turn log (turns.Stop id code) t l = caused-event log (Stop id code) (is_open log) (ap is_call t) refl (record { told = ap event_of t; lawful = rw t l })
+  caused-turn log (turns.Acked id) t l = caused-event log (Acked id) (is_open log) (ap is_call t) refl (record { told = ap event_of t; lawful = rw t l })
+  caused-turn log (turns.Datagram piece) t l = caused-event log (Datagram piece) (is_open log) (ap is_call t) refl (record { told = ap event_of t; lawful = rw t l })
+  caused-turn log (turns.MaxUni total) t l = caused-event log (MaxUni total) (is_open log) (ap is_call t) refl (record { told = ap event_of t; lawful = rw t l })
+  caused-turn log (turns.MaxBi total) t l = caused-event log (MaxBi total) (is_open log) (ap is_call t) refl (record { told = ap event_of t; lawful = rw t l })
+  caused-turn log (turns.MaxData id total) t l = caused-event log (MaxData id total) (is_open log) (ap is_call t) refl (record { told = ap event_of t; lawful = rw t l })
+  caused-turn log (turns.DatagramLimit fact) t l = caused-event log (DatagramLimit fact) (is_open log) (ap is_call t) refl (record { told = ap event_of t; lawful = rw t l })
+  caused-turn log (turns.Loss reason) t l = caused-event log (Loss reason) (is_open log) (ap is_call t) refl (record { told = ap event_of t; lawful = rw t l })
 
   -- every lawful turn
   pub caused : (log : Log) → is_lawful side log turn ≡ true → Caused side turn log (turn_effect side log turn)

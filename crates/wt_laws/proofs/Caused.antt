@@ -29,7 +29,7 @@ use Rattle.wt_wire.specs.declared.side.Side.TheVariants.{Client, Server}
 use Rattle.wt_laws.proofs.Classified.{next-is-due}
 use Rattle.wt_laws.proofs.Looks.{at-first, events-logged, left_to_release, next-within, pass-drops}
 use Rattle.wt_laws.proofs.Steps.{ByCall, Nothing, Steps, blind-actions, calls-logged, calls-with}
-use Rattle.wt_laws.specs.Causes.{ActionCause, ByAccept, ByAnswer, ByResponse, CallCause, ConnectTo, EstablishedBy, FoundDatagram, FoundStream, FromBefore, HandshakeCode, OfHandshake, OfPass, OfRejection, OfRequest, OfResponse, OwnCauses, Plain, ResponseFrom, SendCause, StoppedEarly, accepted_kind, is_accept, is_receive, is_under_way}
+use Rattle.wt_laws.specs.Causes.{ActionCause, ByAccept, ByAnswer, ByResponse, CallCause, ConnectTo, EstablishedBy, FoundDatagram, FoundStream, FromBefore, HandshakeCode, OfHandshake, OfPass, OfRejection, OfRequest, OfResponse, OwnCauses, Plain, ResponseFrom, SendCause, StoppedEarly, accepted_kind, frame_of, is_accept, is_receive, is_under_way, request_to, reserved_in}
 use Rattle.wt_laws.specs.ReplyCauses.{AfterSuccess, AsDriver, AtResponse, BeforeConnection, BeforeRequest, BeforeResponse, BeforeSettings, BeforeStream, ByRefusal, ByReserved, ByResponseFault, ByStatus, ByStop, ByStreamEnd, ConnectFailedCause, ConnectionEnded, Dialling, Finishing, HeadUnsent, NoAddress, NoConnection, NoDatagramLeft, NoRequest, NoResponse, NoSessionStream, NoSettings, NoStreamLeft, NoUrl, NotHttps, NotProceeding, OfTheRequest, OfTheResponse, PendingCause, RejectionOver, RejectionRefused, ReplyCause, Unacknowledged, is_incoming}
 use Rattle.wt_laws.specs.Told.{Logged, NonePassed, OnePassed, OneRecord, Passed, Tells, ThenPolled, given_stream, is_pass, is_quiet}
 use Rattle.wt_spec.specs.Answers.{is_client}
@@ -234,10 +234,10 @@ module _ (side : Side) (turn : Turn) where
   under-way : (log : Log) (s : HandshakeState) → handshake_state (calls_of log) ≡ s → is_under_way s ≡ true → is_under_way (handshake_state (calls_of log)) ≡ true
   under-way log s e u = ap is_under_way e ∙ u
 
-  pub caused-deliver : (log : Log) (cs : List Classified) → turn ≡ turns.Call calls.Incoming → handshake_state (calls_of log) ≡ AwaitingRequest → queued_requests side log ≡ cs → Caused side turn log (deliver side log cs)
-  caused-deliver log (c ∷ later) t s e =
-      leaf log [] (RequestDelivered c.id) (replies.Request c.id (request_fields_of c.verdict)) tt (record { under_way = s; queued = c; later = later; first = e; same = refl }) refl (c, later, e, refl, refl)
-  caused-deliver log [] t s e =
+  pub caused-deliver : (log : Log) (cs : List Classified) → turn ≡ turns.Call calls.Incoming → is_client side ≡ false → handshake_state (calls_of log) ≡ AwaitingRequest → queued_requests side log ≡ cs → Caused side turn log (deliver side log cs)
+  caused-deliver log (c ∷ later) t v s e =
+      leaf log [] (RequestDelivered c.id) (replies.Request c.id (request_fields_of c.verdict)) tt (record { by_server = v; under_way = s; queued = c; later = later; first = e; same = refl }) refl (c, later, e, refl, refl)
+  caused-deliver log [] t v s e =
       either (is_open log) _ _ (λ o. polled log replies.Pending refl (o, NoRequest t e)) (λ o. failed-so log [] (replies.Failed (driver_error side log)) (under-way log AwaitingRequest s refl) tt refl (AsDriver (or_right (is_accept turn || is_receive turn) (is_incoming turn) (ap is_incoming t)) o refl))
 
   -- a response goes on, and what a call that doesn't finish it records
@@ -337,22 +337,22 @@ module _ (side : Side) (turn : Turn) where
   walk_of : Log → ResponseWalk
   walk_of log = response_walk_of (contents log (local_bi side)) (end_of (events_of log) (local_bi side))
 
-  caused-response : (log : Log) (own : List Action) (r : ResponseWalk) → OwnCauses side turn log own → is_open (with_actions own log) ≡ is_open log → (w : Onward log) → head_left (with_actions own log) (local_bi side) w.head ≡ [] → walk_of log ≡ r → Caused side turn log (read_response side log (local_bi side) own r)
+  caused-response : (log : Log) (own : List Action) (r : ResponseWalk) → OwnCauses side turn log own → is_open (with_actions own log) ≡ is_open log → (w : Onward log) → local_count (actions_of (with_actions own log)) (local_bi side) ≢ 0 → head_left (with_actions own log) (local_bi side) w.head ≡ [] → walk_of log ≡ r → Caused side turn log (read_response side log (local_bi side) own r)
   unfolding walk_of
-  caused-response log own (responses.Fault code) o s w h e = failed log own (code_of code) _ (OfResponse code (blind-actions walk_of (λ a g. refl) own log ∙ e) refl) s (going log w) o refl (ByResponseFault code e refl)
-  caused-response log own responses.Ended o s w h e = failed log own 0 _ (Plain refl) s (going log w) o refl (ByStreamEnd e refl)
-  caused-response log own responses.Waiting o s w h e = either (is_open log) _ _ (λ b. leaf log own Polled replies.Pending o tt refl (b, NoResponse w.reserved w.head w.call w.state e)) (λ b. failed-so log own _ (going log w) o refl (BeforeResponse e b refl))
-  caused-response log own (responses.Response fields at) o s w h e =
+  caused-response log own (responses.Fault code) o s w n h e = failed log own (code_of code) _ (OfResponse code (blind-actions walk_of (λ a g. refl) own log ∙ e) refl) s (going log w) o refl (ByResponseFault code e refl)
+  caused-response log own responses.Ended o s w n h e = failed log own 0 _ (Plain refl) s (going log w) o refl (ByStreamEnd e refl)
+  caused-response log own responses.Waiting o s w n h e = either (is_open log) _ _ (λ b. leaf log own Polled replies.Pending o tt refl (b, NoResponse w.reserved w.head w.call w.state e)) (λ b. failed-so log own _ (going log w) o refl (BeforeResponse e b refl))
+  caused-response log own (responses.Response fields at) o s w n h e =
       either (not (has_success fields)) _ _ (λ c. failed log own 0 _ (Plain refl) s (going log w) o refl (ByStatus fields at e (not-true _ c) refl)) (λ c.
       either (is_open log) _ _
       (λ b. let by : EstablishedBy side turn (with_actions own log) (local_bi side) at =
-      record { before = log; own = own; is = refl; was_open = b; under_way = going log w; how = ByResponse w.reserved w.head fields w.state w.settings e (not-false _ c) refl h } in
+      record { before = log; own = own; is = refl; was_open = b; under_way = going log w; how = ByResponse w.reserved w.head fields w.state w.settings e (not-false _ c) refl n h } in
       settled log own (SessionEstablished (local_bi side) at) (replies.Session (local_bi side)) o by refl (own, at, by))
       (λ b. failed-so log own _ (going log w) o refl (AfterSuccess fields at e (not-false _ c) b refl)))
 
-  caused-await : (log : Log) (own : List Action) → OwnCauses side turn log own → is_open (with_actions own log) ≡ is_open log → (w : Onward log) → head_left (with_actions own log) (local_bi side) w.head ≡ [] → Caused side turn log (await_response side log (local_bi side) own)
+  caused-await : (log : Log) (own : List Action) → OwnCauses side turn log own → is_open (with_actions own log) ≡ is_open log → (w : Onward log) → local_count (actions_of (with_actions own log)) (local_bi side) ≢ 0 → head_left (with_actions own log) (local_bi side) w.head ≡ [] → Caused side turn log (await_response side log (local_bi side) own)
   unfolding walk_of
-  caused-await log own o s w h = caused-response log own (walk_of log) o s w h refl
+  caused-await log own o s w n h = caused-response log own (walk_of log) o s w n h refl
 
   -- the head is sent behind these actions, which open its stream or do nothing
   record Opens (log : Log) (own : List Action) (left head : List ℕ) : Type 0 where
@@ -376,6 +376,13 @@ module _ (side : Side) (turn : Turn) where
   stays-open : (log : Log) (own piece : List ℕ) (as_ : List Action) → is_open (with_actions as_ log) ≡ is_open log → is_open (with_actions (as_ ++ send_of (local_bi side) piece) log) ≡ is_open log
   stays-open log own piece as_ s = ap is_open (with-appended as_ (send_of (local_bi side) piece) log) ∙ open-send (with_actions as_ log) (local_bi side) piece ∙ s
 
+  still-counted : (log : Log) (own : List Action) (piece : List ℕ) → local_count (actions_of (with_actions own log)) (local_bi side) ≢ 0 → local_count (actions_of (with_actions (own ++ send_of (local_bi side) piece) log)) (local_bi side) ≢ 0
+  still-counted log own piece n = λ z. n (sym (ap (λ g. local_count (actions_of g) (local_bi side)) (with-appended own (send_of (local_bi side) piece) log) ∙ same piece) ∙ z)
+    where
+      same : (piece : List ℕ) → local_count (actions_of (with_actions (send_of (local_bi side) piece) (with_actions own log))) (local_bi side) ≡ local_count (actions_of (with_actions own log)) (local_bi side)
+      same [] = refl
+      same (b ∷ piece) = refl
+
   when-empty : (xs : List ℕ) → is_empty xs ≡ true → xs ≡ []
   when-empty [] e = refl
   when-empty (x ∷ xs) e = absurd (cc)
@@ -387,11 +394,11 @@ module _ (side : Side) (turn : Turn) where
 
   caused-send-request : (log : Log) (own : List Action) (left : List ℕ) (w : Onward log) → Opens log own left w.head → Caused side turn log (send_request side log (local_bi side) own left)
   caused-send-request log own left w x =
-      either (is_empty left) _ _ (λ c. caused-await log own x.causes x.stays w (x.left_is ∙ when-empty left c)) (λ c.
+      either (is_empty left) _ _ (λ c. caused-await log own x.causes x.stays w x.counted (x.left_is ∙ when-empty left c)) (λ c.
       either (not (is_open log)) _ _ (λ o. failed-so log own _ (going log w) x.causes refl (BeforeRequest w.reserved w.head w.state (ap is_empty x.left_at ∙ c) (not-true _ o) refl)) (λ o.
       either (is_some (stop_of (events_of log) (local_bi side))) _ _ (λ b. failed log own 0 _ (Plain refl) x.stays (going log w) x.causes refl (ByRefusal w.reserved w.head w.state (rw x.left_at (rw (b, c) refl)) refl)) (λ b.
       either (is_covered log (local_bi side) left) _ _
-      (λ z. caused-await log (own ++ send_of (local_bi side) left) (sends-request log own left left w x (not-false _ o) (sym (covered-whole log (local_bi side) left z))) (stays-open log left left own x.stays) w (all-out log own left w.head x.left_is))
+      (λ z. caused-await log (own ++ send_of (local_bi side) left) (sends-request log own left left w x (not-false _ o) (sym (covered-whole log (local_bi side) left z))) (stays-open log left left own x.stays) w (still-counted log own left x.counted) (all-out log own left w.head x.left_is))
       (λ z. leaf log (own ++ send_of (local_bi side) (covered log (local_bi side) left)) Polled replies.Pending (sends-request log own left (covered log (local_bi side) left) w x (not-false _ o) refl) tt refl (not-false _ o, HeadUnsent (local_bi side) w.head (OfTheRequest w.reserved w.call w.state refl) (rw x.left_at z) (none-there _ b))))))
 
   -- the request's stream is opened
@@ -463,7 +470,7 @@ module _ (side : Side) (turn : Turn) where
   caused-outcome log to address (Some e) l c a q = failed-so log [] _ (ap (λ (g : Log). is_under_way (handshake_state (calls_of g))) l) tt refl (NotProceeding to address a q)
   caused-outcome log to address None l c a q =
       leaf log (actions.Dial address (server_name (host_or_empty to.url)) ∷ []) (ConnectStarted (reserved_name to.headers) (request_head (authority_of to.url) (path_of to.url) to.headers)) replies.Pending
-      ((l, c, record { to = to; found = a; named = refl; proceeds = q }), tt) (ap calls_of l, c) refl (ap is_open l, Dialling to.text to.headers to.lookup to.outcome to.connects_to)
+      ((l, c, record { to = to; found = a; named = refl; proceeds = q }), tt) (ap calls_of l, c, ap frame_of to.connects_to ∙ ap (request_to to.headers) to.parsed, sym (ap reserved_in to.connects_to)) refl (ap is_open l, Dialling to.text to.headers to.lookup to.outcome to.connects_to)
 
   caused-address : (log : Log) (to : ConnectTo turn) (a : Result Addr ConnectingError) → log ≡ [] → is_client side ≡ true → address_of (host_or_empty to.url) (port_of to.url) to.lookup ≡ a
       → Caused side turn log (with_address side log to.url to.headers to.outcome a)

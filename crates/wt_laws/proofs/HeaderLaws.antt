@@ -5,9 +5,10 @@ use Rattle.std.proofs.lemmas.Bool.{and_parts, eq-eqb, eqb-true, ltb-true, not-tr
 use Rattle.std.proofs.lemmas.List.{append-nil, append_assoc}
 use Rattle.std.specs.List.{list_any}
 use Rattle.wt_seam_spec.specs.Outgoing.{covered, credit_left, next_id}
+use Rattle.wt_seam_spec.specs.Reports.{end_of, is_running}
 use Rattle.wt_seam_spec.specs.Sent.{sent_on}
 use Rattle.wt_seam_spec.specs.Streams.{local_bi, local_count, local_uni, one_more_if, opens, peer_count, stream_count}
-use Rattle.wt_turn.specs.Log.{CallRecord, Called, Entry, Event, Log, OpeningFailed, OpeningStarted, PeerBi, PeerUni, Received, Reported, Sent, SessionEstablished, StreamAccepted, actions_of, all_events_of, calls_of, is_open, with_actions}
+use Rattle.wt_turn.specs.Log.{CallRecord, Called, Entry, Event, Log, OpeningFailed, OpeningStarted, PeerBi, PeerUni, Received, Reported, ReportedLate, Sent, SessionEstablished, StreamAccepted, actions_of, all_events_of, calls_of, is_open, with_actions}
 use Rattle.wt_turn.specs.declared.action.Action.{Action}
 use Rattle.wt_turn.specs.declared.turn.Turn.{Turn}
 use Rattle.wt_wire.specs.declared.side.Side.{Side}
@@ -33,7 +34,7 @@ use Rattle.wt_spec.specs.Handshake.{handshake_state, requested}
 use Rattle.wt_spec.specs.StreamTable.{verdict_of}
 use Rattle.wt_turn.specs.declared.action.Action.TheVariants as actions
 
-record Heads (side : Side) (log : Log) : Type 0 where
+pub record Heads (side : Side) (log : Log) : Type 0 where
   pub given : Given side log
   pub no_control : list_any (starts_opening (local_uni side)) (calls_of log) ≡ false
   pub counted : (k : ℕ) → list_any (starts_opening k) (calls_of log) ≡ true → k / 4 < local_count (actions_of log) (k % 4)
@@ -79,7 +80,7 @@ take-more (suc m) c (x ∷ xs) l = ap (λ ys. x ∷ ys) (take-more m c xs (omega
     suc-more : (m c : ℕ) → suc (m + c) ≡ suc m + c
     suc-more m c = omega arith
 
-further : (c n : ℕ) (xs : List ℕ) → take n xs ++ take c (drop (length (take n xs)) xs) ≡ take (length (take n xs) + c) xs
+pub further : (c n : ℕ) (xs : List ℕ) → take n xs ++ take c (drop (length (take n xs)) xs) ≡ take (length (take n xs) + c) xs
 further c n xs =
     ap (λ ys. ys ++ take c (drop (length (take n xs)) xs)) (sym (take-same n xs)) ∙ take-more (length (take n xs)) c xs (omega (arith, length-take n xs))
 
@@ -111,7 +112,7 @@ begun-piece side turn log k s t (actions.Send id piece) h o d c = at (id == k) r
     at true e (OfRequest reserved head i j z q) = absurd (let x = h.given.handshakes.none_yet (ap is_under_way i) in cc)
 begun-piece side turn log k s t _ h o d c = ((h.begun k s t o d).0, append-nil (sent_on (actions_of log) k) ∙ (h.begun k s t o d).1)
 
-heads-action : (side : Side) (turn : Turn) (log : Log) (a : Action) → ActionCause side turn log a → Heads side log → Heads side (Sent a ∷ log)
+pub heads-action : (side : Side) (turn : Turn) (log : Log) (a : Action) → ActionCause side turn log a → Heads side log → Heads side (Sent a ∷ log)
 heads-action side turn log a c h = record {
   given = (given-entries side turn).action log a h.given;
   no_control = h.no_control;
@@ -141,7 +142,7 @@ nil-parts (x ∷ xs) ys e = absurd (cc)
 not-local-uni : (side : Side) (log : Log) (k : ℕ) → Heads side log → list_any (starts_opening k) (calls_of log) ≡ true → k ≢ local_uni side
 not-local-uni side log k h o e = absurd (let x = ap (λ j. list_any (starts_opening j) (calls_of log)) e in let y = h.no_control in cc)
 
-heads-other : (side : Side) (turn : Turn) (log : Log) (a : Action) → ((k : ℕ) → k ≢ local_uni side → piece_on k a ≡ []) → Heads side log → Heads side (Sent a ∷ log)
+pub heads-other : (side : Side) (turn : Turn) (log : Log) (a : Action) → ((k : ℕ) → k ≢ local_uni side → piece_on k a ≡ []) → Heads side log → Heads side (Sent a ∷ log)
 heads-other side turn log a n h = record {
   given = (given-entries side turn).action log a h.given;
   no_control = h.no_control;
@@ -161,7 +162,7 @@ heads-driver side turn [] log n h = h
 heads-driver side turn (a ∷ as_) log n h =
     heads-driver side turn as_ (Sent a ∷ log) (λ k c. (nil-parts (piece_on k a) (sends_of k as_) (n k c)).1) (heads-other side turn log a (λ k c. (nil-parts (piece_on k a) (sends_of k as_) (n k c)).0) h)
 
-heads-flush : (side : Side) (turn : Turn) (e : Entry) (log : Log) → Heads side (e ∷ log) → Heads side (log_and_flush side log e)
+pub heads-flush : (side : Side) (turn : Turn) (e : Entry) (log : Log) → Heads side (e ∷ log) → Heads side (log_and_flush side log e)
 unfolding flush
 heads-flush side turn e log h = at (is_moment e && is_open (e ∷ log))
   where
@@ -195,7 +196,7 @@ no-peers side es kind l = at (kind == local_uni side) refl (kind == local_bi sid
     at false e true f l = subst (λ (n : ℕ). peer_count side es n ≡ 0) (sym (eqb-true kind (local_bi side) f)) (no-peers-bi side es)
     at false e false f l = absurd (cc)
 
-starts : (side : Side) (log : Log) (own : List Action) (k s : ℕ) → NewOpening side log own k s → k / 4 ≡ local_count (actions_of log) (k % 4)
+pub starts : (side : Side) (log : Log) (own : List Action) (k s : ℕ) → NewOpening side log own k s → k / 4 ≡ local_count (actions_of log) (k % 4)
 starts side log own k s c =
     let f : c.kind < 4 = ltb-true c.kind 4 c.small in
     let e : k ≡ 4 * stream_count side log c.kind + c.kind = c.next in
@@ -248,7 +249,7 @@ module _ (side : Side) (turn : Turn) (log : Log) (own : List Action) where
   new-begun (OpeningFailed id) p b h c k s t o d = h.begun k s t (still (list_any (starts_opening k) (calls_of then_)) (id == k) (list_any (ends_opening k) (calls_of then_)) o) d
   new-begun _ p b h c k s t o d = h.begun k s t o d
 
-  all-of-it : (n : ℕ) (xs sent : List ℕ) → sent ≡ take n xs → drop (length sent) xs ≡ [] → sent ≡ xs
+  pub all-of-it : (n : ℕ) (xs sent : List ℕ) → sent ≡ take n xs → drop (length sent) xs ≡ [] → sent ≡ xs
   all-of-it n xs sent e d = e ∙ whole-covered n xs (ap is_empty (ap (λ ys. drop (length ys) xs) (sym e) ∙ d))
 
   new-whole : (r : CallRecord) → Heads side then_ → RecordCause side turn then_ r → (k s t : ℕ) → is_local side k ≡ true → is_accepted (Called r ∷ then_) k ≡ true → established (r ∷ calls_of then_) ≡ Some (s, t) → (rest : List ℕ) × (sent_on (actions_of then_) k ≡ stream_header k s ++ rest)
@@ -281,7 +282,7 @@ module _ (side : Side) (turn : Turn) (log : Log) (own : List Action) where
   new-session (OpeningStarted id s) c k e = ap is_some c.is_established
   new-session _ c k e = absurd (cc)
 
-  heads-record : (r : CallRecord) → ControlOut side log → Heads side log → Heads side then_ → CallCause side turn log own r → Heads side (Called r ∷ then_)
+  pub heads-record : (r : CallRecord) → ControlOut side log → Heads side log → Heads side then_ → CallCause side turn log own r → Heads side (Called r ∷ then_)
   heads-record r p b h c =
       let x = of-record side turn log own r c in
       record {
@@ -297,32 +298,31 @@ module _ (side : Side) (turn : Turn) (log : Log) (own : List Action) where
 
 -- ---- the law
 
-record Both (side : Side) (log : Log) : Type 0 where
+pub record Both (side : Side) (log : Log) : Type 0 where
   pub control : ControlOut side log
   pub heads : Heads side log
 
-heads-event : (side : Side) (turn : Turn) (e : Event) (log : Log) → is_open log ≡ true → Brings side turn log e → Heads side log → Heads side (Reported e ∷ log)
+pub heads-event : (side : Side) (turn : Turn) (e : Event) (log : Log) → is_open log ≡ true → Brings side turn log e → Heads side log → Heads side (Reported e ∷ log)
 heads-event side turn e log o b h = record { given = (given-entries side turn).event log e o b h.given; no_control = h.no_control; counted = h.counted; local_accepted = h.local_accepted; in_session = h.in_session; fresh = h.fresh; begun = h.begun; whole = h.whole }
 
-keeps-both : (side : Side) (turn : Turn) → Keeps side turn (Both side)
+pub heads-late : (side : Side) (turn : Turn) (e : Event) (log : Log) → is_open log ≡ false → Brings side turn log e → Heads side log → Heads side (ReportedLate e ∷ log)
+heads-late side turn e log o b h = record { given = (given-entries side turn).late log e o b h.given; no_control = h.no_control; counted = h.counted; local_accepted = h.local_accepted; in_session = h.in_session; fresh = h.fresh; begun = h.begun; whole = h.whole }
+
+pub heads-byte : (side : Side) (turn : Turn) (id b : ℕ) (log : Log) → is_open log ≡ true → is_running (end_of (all_events_of log) id) ≡ true → Heads side log → Heads side (Received id b ∷ log)
+heads-byte side turn id b log o r h = record { given = (given-entries side turn).byte log id b o r h.given; no_control = h.no_control; counted = h.counted; local_accepted = h.local_accepted; in_session = h.in_session; fresh = h.fresh; begun = h.begun; whole = h.whole }
+
+pub keeps-both : (side : Side) (turn : Turn) → Keeps side turn (Both side)
 keeps-both side turn = record {
   event = λ log e o b p. record { control = (keeps-control side turn).event log e o b p.control; heads = heads-flush side turn (Reported e) log (heads-event side turn e log o b p.heads) };
-  late = λ log e o b p. record {
-    control = (keeps-control side turn).late log e o b p.control;
-    heads = let h = p.heads in record { given = (given-entries side turn).late log e o b h.given; no_control = h.no_control; counted = h.counted; local_accepted = h.local_accepted; in_session = h.in_session; fresh = h.fresh; begun = h.begun; whole = h.whole };
-  };
-  byte = λ log id b o r p. record {
-    control = (keeps-control side turn).byte log id b o r p.control;
-    heads = let h = p.heads in heads-flush side turn (Received id b) log
-        (record { given = (given-entries side turn).byte log id b o r h.given; no_control = h.no_control; counted = h.counted; local_accepted = h.local_accepted; in_session = h.in_session; fresh = h.fresh; begun = h.begun; whole = h.whole });
-  };
+  late = λ log e o b p. record { control = (keeps-control side turn).late log e o b p.control; heads = heads-late side turn e log o b p.heads };
+  byte = λ log id b o r p. record { control = (keeps-control side turn).byte log id b o r p.control; heads = heads-flush side turn (Received id b) log (heads-byte side turn id b log o r p.heads) };
   call = λ log own r c d p. record {
     control = (keeps-control side turn).call log own r c d p.control;
     heads = heads-flush side turn (Called r) (with_actions own log) (heads-record side turn log own r p.control p.heads (heads-own side turn own log c p.heads) d);
   };
 }
 
-first-heads : (side : Side) → Both side []
+pub first-heads : (side : Side) → Both side []
 first-heads side = record {
   control = first-control side;
   heads = record {

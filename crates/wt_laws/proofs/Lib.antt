@@ -20,5 +20,7 @@ pub mod SettingsLaws
 pub mod SendLaws
 pub mod TakenLaws
 pub mod HeaderLaws
+pub mod PendingLaws
+pub mod SessionStream
 pub mod Theorems
 pub mod Recorded

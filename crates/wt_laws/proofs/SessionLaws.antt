@@ -83,12 +83,12 @@ handshakes-same side e log c f = record {
 -- where a response comes from, a request was delivered
 pub from-request : (turn : Turn) (cs : List CallRecord) (accepts : Bool) (head : List ℕ) → ResponseFrom turn cs accepts head → has_request (handshake_state cs) ≡ true
 from-request turn cs accepts head (ByAcceptance id headers a t h s) = ap has_request s
-from-request turn cs accepts head (ByRejection id a s) = ap has_request s
+from-request turn cs accepts head (ByRejection id a t s) = ap has_request s
 from-request turn cs accepts head (FromBefore s) = ap has_request s
 
 pub accepted-head : (side : Side) (turn : Turn) (log : Log) (head : List ℕ) → Handshakes side log → ResponseFrom turn (calls_of log) true head → IsAcceptance head
 accepted-head side turn log head f (ByAcceptance id headers a t h s) = (headers, h)
-accepted-head side turn log head f (ByRejection id a s) = absurd (cc)
+accepted-head side turn log head f (ByRejection id a t s) = absurd (cc)
 accepted-head side turn log head f (FromBefore s) = f.acceptance head s
 
 new-none : (side : Side) (turn : Turn) (log : Log) (r : CallRecord) → Handshakes side log → RecordCause side turn log r → is_under_way (handshake_state (r ∷ calls_of log)) ≡ true → established (r ∷ calls_of log) ≡ None
@@ -192,7 +192,7 @@ established-how side turn log own s at f (ByAnswer head x i c o a) =
     let d = one-delivered side turn log head s f x i in
     AfterRequest h.0 d (a ∙ ap request_end d.verdict)
     (subst (λ z. is_covered log s (head_left log s z) ≡ true) h.1 c) (subst (λ z. own ≡ send_of s (head_left log s z)) h.1 o)
-established-how side turn log own s at f (ByResponse reserved head fields z w r c i l) = AfterResponse reserved head fields i z l w r c
+established-how side turn log own s at f (ByResponse reserved head fields z w r c i n l) = AfterResponse reserved head fields i z l w r c
 
 settings-of : (side : Side) (log : Log) (own : List Action) (s at : ℕ) → EstablishedHow side log own s at → settings_came side log ≡ true
 settings-of side log own s at (AfterRequest headers w e c o) = w.settings

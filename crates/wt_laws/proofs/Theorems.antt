@@ -9,16 +9,19 @@ use Rattle.wt_laws.proofs.Cutting.{cuts-well}
 use Rattle.wt_laws.proofs.DatagramLaws.{datagrams-in-order}
 use Rattle.wt_laws.proofs.EndLaws.{fault-closes, open-exactly, result-stays}
 use Rattle.wt_laws.proofs.HeaderLaws.{headers-out}
+use Rattle.wt_laws.proofs.PendingLaws.{none-waits-ended, pending-exactly}
 use Rattle.wt_laws.proofs.Reached.{reachable}
 use Rattle.wt_laws.proofs.ReadLaws.{reads-in-order}
 use Rattle.wt_laws.proofs.SendLaws.{sends-end, sends-in-order}
 use Rattle.wt_laws.proofs.SessionLaws.{one-session, session-told, sessions-rightly}
+use Rattle.wt_laws.proofs.SessionStream.{session-stream-out}
 use Rattle.wt_laws.proofs.SettingsLaws.{settings-out}
 use Rattle.wt_laws.proofs.StreamLaws.{streams-accepted-rightly}
 use Rattle.wt_laws.proofs.TakenLaws.{taken-goes-out}
-use Rattle.wt_laws.specs.Laws.{ActionsHaveCauses, CutsWell, DatagramsInOrder, FaultCloses, HeadersOut, NothingAfterEnd, OneSession, OpenExactly, ReadsInOrder, ReplyHasCause, ResultStays, SendsEnd, SendsInOrder, SessionTold, SessionsRightly, SettingsOut, StreamsAcceptedRightly, TakenGoesOut}
+use Rattle.wt_laws.specs.Laws.{ActionsHaveCauses, CutsWell, DatagramsInOrder, FaultCloses, HeadersOut, NothingAfterEnd, OneSession, OpenExactly, ReadsInOrder, ReplyHasCause, ResultStays, SendsEnd, SendsInOrder, SessionStreamOut, SessionTold, SessionsRightly, SettingsOut, StreamsAcceptedRightly, TakenGoesOut}
+use Rattle.wt_laws.specs.Left.{PendingExactly, is_pending}
 use Rattle.wt_laws.specs.Reachable.{AllLawful, IsReachable, exchanges}
-use Rattle.wt_spec.specs.Answers.{is_lawful, log_from}
+use Rattle.wt_spec.specs.Answers.{answer_to, is_lawful, log_from}
 
 pub sessions_theorem : (side : Side) (log : Log) → IsReachable side log → SessionsRightly side log
 sessions_theorem = sessions-rightly
@@ -76,3 +79,12 @@ taken_theorem = taken-goes-out
 
 pub headers_theorem : (side : Side) (log : Log) → IsReachable side log → HeadersOut side log
 headers_theorem = headers-out
+
+pub pending_theorem : (side : Side) (log : Log) (turn : Turn) → is_lawful side log turn ≡ true → PendingExactly side log turn
+pending_theorem = pending-exactly
+
+pub ended_theorem : (side : Side) (log : Log) (turn : Turn) → is_lawful side log turn ≡ true → is_open log ≡ false → is_pending (answer_to side log turn).reply ≡ false
+ended_theorem = none-waits-ended
+
+pub session_stream_theorem : (side : Side) (all : List Turn) → AllLawful side [] all → SessionStreamOut side (exchanges side all) (log_from side [] all)
+session_stream_theorem = session-stream-out

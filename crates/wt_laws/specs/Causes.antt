@@ -1,8 +1,10 @@
 -- Why a call records what it does, and why it sends what it does: each record and each action has one of these causes.
-use Rattle.std.specs.Prelude.{[], ◌%◌, ◌*◌, ◌/◌, ◌==◌, ◌||◌, ◌∷◌, ◌≡◌, ◌≢◌, ◌≤◌, Bool, List, None, Ok, Option, Some, bytes_eq, codes, false, if◌then◌else◌, length, nat_lt, true, ℕ}
+use Rattle.std.specs.Prelude.{[], ◌%◌, ◌*◌, ◌/◌, ◌==◌, ◌||◌, ◌∷◌, ◌≡◌, ◌≢◌, ◌≤◌, Bool, Err, List, None, Ok, Option, Result, Some, bytes_eq, codes, false, if◌then◌else◌, length, nat_lt, true, ℕ}
 use Rattle.url.specs.Parser.{parse_url}
 use Rattle.url.specs.Parts.{Parts, host_or_empty}
+use Rattle.url.specs.declared.error.ParseError.{ParseError}
 use Rattle.wt_message.specs.Datagram.{datagram_bytes}
+use Rattle.wt_message.specs.FixedBytes.{response_bytes}
 use Rattle.wt_proto.specs.ResponseWalk.{response_walk_of}
 use Rattle.wt_seam_spec.specs.Joined.{send_of}
 use Rattle.wt_seam_spec.specs.Outgoing.{covered, may_open, next_id, opening}
@@ -20,7 +22,7 @@ use Rattle.wt_wire.specs.declared.lookup.ConnectOutcome.{ConnectOutcome}
 use Rattle.wt_wire.specs.declared.lookup.Lookup.{Lookup}
 use Rattle.wt_wire.specs.declared.side.Side.{Side}
 use Rattle.wt_spec.specs.Answers.{is_client}
-use Rattle.wt_spec.specs.Connect.{address_of, outcome_error, port_of, server_name}
+use Rattle.wt_spec.specs.Connect.{address_of, authority_of, outcome_error, path_of, port_of, request_head, reserved_name, server_name}
 use Rattle.wt_spec.specs.Connection.{is_for_session, is_opening, next_datagram, next_due, stream_header}
 use Rattle.wt_spec.specs.Driver.{established, settings_came, stream_table}
 use Rattle.wt_spec.specs.Effect.{head_left, is_covered}
@@ -75,6 +77,25 @@ is_close (turns.Call (calls.Close code reason)) = true
 is_close (turns.Call (calls.EndpointClose code reason)) = true
 is_close _ = false
 
+-- the frame of the request that a connect to this URL sends
+abbrev pub request_to : Fields → Result Parts ParseError → Option (List ℕ)
+request_to headers (Ok url) = Some (request_head (authority_of url) (path_of url) headers)
+request_to headers (Err e) = None
+
+-- the frame with which a call begins the session's stream: a connect its request, an answer to a request its response
+abbrev pub frame_of : Turn → Option (List ℕ)
+frame_of (turns.Call (calls.Connect options lookup outcome)) = request_to options.1 (parse_url None options.0)
+frame_of (turns.Call (calls.Accept headers)) = Some (response_head (codes "200") headers)
+frame_of (turns.Call calls.Forbidden) = Some (response_bytes (codes "403"))
+frame_of (turns.Call calls.NotFound) = Some (response_bytes (codes "404"))
+frame_of (turns.Call calls.TooManyRequests) = Some (response_bytes (codes "429"))
+frame_of _ = None
+
+-- the name among the headers of a connect that only the session layer sets
+abbrev pub reserved_in : Turn → Option (List ℕ)
+reserved_in (turns.Call (calls.Connect options lookup outcome)) = reserved_name options.1
+reserved_in _ = None
+
 -- the handshake isn't over
 abbrev pub is_under_way : HandshakeState → Bool
 is_under_way (Established id) = false
@@ -120,6 +141,7 @@ pub record FoundDatagram (side : Side) (turn : Turn) (log : Log) (for_session : 
 
 -- why a request is delivered
 pub record DeliverCause (side : Side) (log : Log) (k : ℕ) : Type 0 where
+  pub by_server : is_client side ≡ false
   pub under_way : handshake_state (calls_of log) ≡ AwaitingRequest
   pub queued : Classified
   pub later : List Classified
@@ -130,7 +152,7 @@ pub record DeliverCause (side : Side) (log : Log) (k : ℕ) : Type 0 where
 pub data ResponseFrom (turn : Turn) (before : List CallRecord) (accepts : Bool) (head : List ℕ) : Type 0 where
   ByAcceptance : (id : ℕ) (headers : Fields) → accepts ≡ true → turn ≡ turns.Call (calls.Accept headers) → head ≡ response_head (codes "200") headers
       → handshake_state before ≡ Requested id → ResponseFrom turn before accepts head
-  ByRejection : (id : ℕ) → accepts ≡ false → handshake_state before ≡ Requested id → ResponseFrom turn before accepts head
+  ByRejection : (id : ℕ) → accepts ≡ false → frame_of turn ≡ Some head → handshake_state before ≡ Requested id → ResponseFrom turn before accepts head
   FromBefore : handshake_state before ≡ Responding accepts head → ResponseFrom turn before accepts head
 
 -- the rest of an acceptance goes out; or, the whole request being out, a response with a status code from 200 to 299 is read
@@ -138,7 +160,7 @@ pub data EstablishCause (side : Side) (turn : Turn) (log : Log) (own : List Acti
   ByAnswer : (head : List ℕ) → ResponseFrom turn (calls_of log) true head → id ≡ requested (calls_of log) → is_covered log id (head_left log id head) ≡ true
       → own ≡ send_of id (head_left log id head) → at ≡ request_end (verdict_of id (stream_table side log).classified) → EstablishCause side turn log own id at
   ByResponse : (reserved : Option (List ℕ)) (head : List ℕ) (fields : Fields) → handshake_state (calls_of log) ≡ Connecting reserved head → settings_came side log ≡ true
-      → response_walk_of (contents log id) (end_of (events_of log) id) ≡ responses.Response fields at → has_success fields ≡ true → id ≡ local_bi side → head_left (with_actions own log) id head ≡ [] → EstablishCause side turn log own id at
+      → response_walk_of (contents log id) (end_of (events_of log) id) ≡ responses.Response fields at → has_success fields ≡ true → id ≡ local_bi side → local_count (actions_of (with_actions own log)) id ≢ 0 → head_left (with_actions own log) id head ≡ [] → EstablishCause side turn log own id at
 
 -- what establishes a session
 pub record EstablishedBy (side : Side) (turn : Turn) (log : Log) (id at : ℕ) : Type 0 where
@@ -169,7 +191,7 @@ RecordCause side turn log DatagramReceived = FoundDatagram side turn log true
 RecordCause side turn log DatagramPassed = FoundDatagram side turn log false
 RecordCause side turn log (RequestDelivered k) = DeliverCause side log k
 RecordCause side turn log (ResponseStarted accepts head) = ResponseFrom turn (calls_of log) accepts head × is_under_way (handshake_state (calls_of log)) ≡ true
-RecordCause side turn log (ConnectStarted reserved head) = (calls_of log ≡ []) × (is_client side ≡ true)
+RecordCause side turn log (ConnectStarted reserved head) = (calls_of log ≡ []) × (is_client side ≡ true) × (frame_of turn ≡ Some head) × (reserved ≡ reserved_in turn)
 RecordCause side turn log (SessionEstablished id at) = EstablishedBy side turn log id at
 RecordCause side turn log HandshakeOver = is_under_way (handshake_state (calls_of log)) ≡ true
 RecordCause side turn log (OpeningStarted k session) = OpeningCause side log k session

@@ -1,5 +1,5 @@
 -- The laws of the session layer, over every log that lawful turns lead to and over turns with their answers.
-use Rattle.std.specs.Prelude.{[], ◌%◌, ◌*◌, ◌++◌, ◌/◌, ◌==◌, ◌||◌, ◌∷◌, ◌≡◌, ◌≢◌, ◌≤◌, Bool, List, None, Option, Some, codes, drop, false, if◌then◌else◌, length, nat_lt, take, true, ℕ}
+use Rattle.std.specs.Prelude.{[], ◌%◌, ◌*◌, ◌++◌, ◌/◌, ◌==◌, ◌||◌, ◌∷◌, ◌≡◌, ◌≢◌, ◌≤◌, Bool, List, None, Option, Some, codes, drop, false, if◌then◌else◌, length, nat_lt, take, true, unwrap_or, ℕ}
 use Rattle.std.specs.List.{list_any}
 use Rattle.wt_proto.specs.Bi.{bi_verdict_of}
 use Rattle.wt_message.specs.Datagram.{datagram_bytes}
@@ -10,7 +10,7 @@ use Rattle.wt_seam_spec.specs.Joined.{join_all, send_of}
 use Rattle.wt_seam_spec.specs.Reports.{credit, datagrams_of, end_of, unis_allowed}
 use Rattle.wt_seam_spec.specs.Sent.{is_finished, is_reset, sent_on}
 use Rattle.wt_seam_spec.specs.Streams.{contents, local_bi, local_count, local_uni, peer_bi, peer_count, peer_uni}
-use Rattle.wt_turn.specs.Log.{Called, Entry, Log, Sent, SessionEstablished, actions_of, calls_of, closes, events_of, is_open, loses, with_actions}
+use Rattle.wt_turn.specs.Log.{CallRecord, Called, Entry, Log, Sent, SessionEstablished, actions_of, calls_of, closes, events_of, is_open, loses, newest, with_actions}
 use Rattle.wt_turn.specs.declared.action.Action.{Action}
 use Rattle.wt_turn.specs.declared.reply.Reply.{Reply}
 use Rattle.wt_turn.specs.declared.turn.Turn.{Turn}
@@ -18,11 +18,11 @@ use Rattle.wt_wire.specs.Codes.{code_of}
 use Rattle.wt_wire.specs.HeaderList.{Fields}
 use Rattle.wt_wire.specs.declared.error.ErrorCode.{ErrorCode}
 use Rattle.wt_wire.specs.declared.side.Side.{Side}
-use Rattle.wt_laws.specs.Causes.{ActionCause, CloseCause, bytes_for, reads_from}
+use Rattle.wt_laws.specs.Causes.{ActionCause, CloseCause, bytes_for, frame_of, reads_from}
 use Rattle.wt_laws.specs.Reachable.{Exchange, is_among}
 use Rattle.wt_laws.specs.ReplyCauses.{ReplyCause}
 use Rattle.wt_laws.specs.Told.{datagram_told, read_piece}
-use Rattle.wt_spec.specs.Answers.{answer_to, log_after, run_from}
+use Rattle.wt_spec.specs.Answers.{answer_to, is_client, log_after, run_from}
 use Rattle.wt_spec.specs.Connection.{is_opening, next_due, stream_header, well_formed}
 use Rattle.wt_spec.specs.Driver.{call_view, delivers, established, is_moment, pending_actions, releases, session_id, settings_came, stream_table}
 use Rattle.wt_spec.specs.Effect.{driver_error, head_left, is_covered, transport_error}
@@ -288,3 +288,21 @@ pub record TakenGoesOut (side : Side) (log : Log) : Type 0 where
 pub record HeadersOut (side : Side) (log : Log) : Type 0 where
   pub begun : (k s at : ℕ) → is_opening log k ≡ true → established (calls_of log) ≡ Some (s, at) → (n : ℕ) × (sent_on (actions_of log) k ≡ take n (stream_header k s))
   pub whole : (k s at : ℕ) → (k % 4 == local_uni side || k % 4 == local_bi side) ≡ true → is_accepted log k ≡ true → established (calls_of log) ≡ Some (s, at) → (rest : List ℕ) × (sent_on (actions_of log) k ≡ stream_header k s ++ rest)
+
+-- ---- the session's own stream
+
+-- the frame of the call that connected, or that answered the request
+abbrev pub session_frame : List Exchange → Option (List ℕ)
+session_frame before = newest (λ (x : Exchange). frame_of x.turn) before
+
+-- it is the session's: a client's first bidirectional stream, or one whose request was delivered
+abbrev pub is_session_stream : Side → List CallRecord → ℕ → Bool
+is_session_stream side calls k = if is_client side then k == local_bi side else list_any (delivers k) calls
+
+-- What is out on it is at every time a prefix of that frame. It is all of the frame once the session is established, or once
+-- the response of a rejection is finished. The stream is never given, so nothing else goes out on it.
+pub record SessionStreamOut (side : Side) (before : List Exchange) (log : Log) : Type 0 where
+  pub prefix : (k : ℕ) → is_session_stream side (calls_of log) k ≡ true → (n : ℕ) × (sent_on (actions_of log) k ≡ take n (unwrap_or (session_frame before) []))
+  pub whole : (s at : ℕ) → established (calls_of log) ≡ Some (s, at) → (is_session_stream side (calls_of log) s ≡ true) × (session_frame before ≡ Some (sent_on (actions_of log) s))
+  pub rejected : (k : ℕ) → is_session_stream side (calls_of log) k ≡ true → is_finished (actions_of log) k ≡ true → session_frame before ≡ Some (sent_on (actions_of log) k)
+  pub never_given : (k : ℕ) → is_session_stream side (calls_of log) k ≡ true → is_accepted log k ≡ false

@@ -2,4 +2,5 @@ pub mod Causes
 pub mod ReplyCauses
 pub mod Reachable
 pub mod Told
+pub mod Left
 pub mod Laws

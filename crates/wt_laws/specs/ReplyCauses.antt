@@ -1,5 +1,5 @@
 -- Why a turn is answered as it is: each reply has one of these causes, in the log at which the call decided.
-use Rattle.std.specs.Prelude.{[], ◌==◌, ◌||◌, ◌∷◌, ◌≡◌, ◌≤◌, ◌⊎◌, Bool, Err, List, None, Ok, Option, Some, bytes_eq, codes, false, is_some, length, nat_lt, not, take, true, ℕ}
+use Rattle.std.specs.Prelude.{[], ◌==◌, ◌||◌, ◌∷◌, ◌≡◌, ◌≤◌, ◌⊎◌, Bool, Err, List, None, Ok, Option, Some, bytes_eq, codes, false, is_some, length, nat_lt, not, take, true, ℕ, ℤ}
 use Rattle.url.specs.Parser.{parse_url}
 use Rattle.url.specs.Parts.{Parts, host_or_empty}
 use Rattle.url.specs.declared.error.ParseError.{ParseError}
@@ -229,9 +229,25 @@ pub data RejectedCause (side : Side) (turn : Turn) (log : Log) : Type 0 where
   RejectionOver : (head : List ℕ) → ResponseFrom turn (calls_of log) false head → is_finished (actions_of log) (requested (calls_of log)) ≡ true
       → (is_some (stop_of (events_of log) (requested (calls_of log))) || is_acknowledged (events_of log) (requested (calls_of log))) ≡ true → RejectedCause side turn log
 
+-- the turn is a call
+abbrev pub is_call : Turn → Bool
+is_call (turns.Call call) = true
+is_call _ = false
+
+-- what the turn asks for is done: an event is taken; a datagram goes out; a close, on an established session or of the
+-- endpoint; a priority is set, unless the half is done; a half that isn't done is reset; a receiving half is given up
+pub data DoneCause (side : Side) (turn : Turn) (log : Log) : Type 0 where
+  AtEvent : is_call turn ≡ false → DoneCause side turn log
+  AtDatagram : (bytes : List ℕ) (limit : ℕ) → is_open log ≡ true → DatagramOf turn log bytes → datagram_fact (events_of log) ≡ Some (facts.Limit limit) → nat_lt limit (length bytes) ≡ false → DoneCause side turn log
+  AtClose : (code : ℕ) (reason : List ℕ) → turn ≡ turns.Call (calls.Close code reason) → is_some (established (calls_of log)) ≡ true → DoneCause side turn log
+  AtEndpointClose : (code : ℕ) (reason : List ℕ) → turn ≡ turns.Call (calls.EndpointClose code reason) → DoneCause side turn log
+  AtPriority : (k : ℕ) (p : ℤ) → turn ≡ turns.Call (calls.SetPriority k p) → has_sending_half side log k ≡ true → DoneCause side turn log
+  AtReset : (k code : ℕ) → turn ≡ turns.Call (calls.ResetSend k code) → has_sending_half side log k ≡ true → is_done log k ≡ false → DoneCause side turn log
+  AtStop : (k code : ℕ) → turn ≡ turns.Call (calls.StopRecv k code) → has_receiving_half side log k ≡ true → DoneCause side turn log
+
 -- why a turn has this reply
 abbrev pub ReplyCause : Side → Turn → Log → Reply → Type 0
-ReplyCause side turn log replies.Done = Unit {0}
+ReplyCause side turn log replies.Done = DoneCause side turn log
 ReplyCause side turn log replies.Pending = (is_open log ≡ true) × PendingCause side turn log
 ReplyCause side turn log replies.NoSession = (asks_for_session turn ≡ true) × (established (calls_of log) ≡ None)
 ReplyCause side turn log replies.NoStream = half_of side log turn ≡ Some false

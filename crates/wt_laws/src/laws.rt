@@ -1,8 +1,9 @@
 //! The laws, each a function with an empty body whose contract is the law.
 ghost use Rattle.std.specs.Prelude.{◌≡◌, ℕ, List, [], true, false};
-ghost use Rattle.wt_laws.specs.Laws.{ActionsHaveCauses, CutsWell, DatagramsInOrder, FaultCloses, HeadersOut, NothingAfterEnd, OneSession, OpenExactly, ReadsInOrder, ReplyHasCause, ResultStays, SendsEnd, SendsInOrder, SessionTold, SessionsRightly, SettingsOut, StreamsAcceptedRightly, TakenGoesOut};
+ghost use Rattle.wt_laws.specs.Laws.{ActionsHaveCauses, CutsWell, DatagramsInOrder, FaultCloses, HeadersOut, NothingAfterEnd, OneSession, OpenExactly, ReadsInOrder, ReplyHasCause, ResultStays, SendsEnd, SendsInOrder, SessionStreamOut, SessionTold, SessionsRightly, SettingsOut, StreamsAcceptedRightly, TakenGoesOut};
+ghost use Rattle.wt_laws.specs.Left.{PendingExactly, is_pending};
 ghost use Rattle.wt_laws.specs.Reachable.{AllLawful, IsReachable, exchanges};
-ghost use Rattle.wt_spec.specs.Answers.{is_lawful, log_from};
+ghost use Rattle.wt_spec.specs.Answers.{answer_to, is_lawful, log_from};
 ghost use Rattle.wt_turn.specs.Log.{Log, is_open};
 ghost use Rattle.wt_turn.specs.declared.turn.Turn.{Turn};
 ghost use Rattle.wt_wire.specs.declared.side.Side.{Side};
@@ -87,4 +88,19 @@ pub fn writes_go_out()
 #[tactic(auto, using(crate::proofs::Theorems::taken_theorem))]
 pub fn what_is_taken_goes_out()
     ensures taken { (side : Side) (log : Log) → TakenGoesOut side log }
+{}
+
+/// Pending is answered exactly where nothing is left for the call and the connection is open; a
+/// connection that has ended answers it to no call.
+#[tactic(auto, using(crate::proofs::Theorems::pending_theorem, crate::proofs::Theorems::ended_theorem))]
+pub fn calls_wait_exactly_with_nothing_left()
+    ensures pending { (side : Side) (log : Log) (turn : Turn) → is_lawful side log turn ≡ true → PendingExactly side log turn }
+    ensures ended { (side : Side) (log : Log) (turn : Turn) → is_lawful side log turn ≡ true → is_open log ≡ false → is_pending (answer_to side log turn).reply ≡ false }
+{}
+
+/// What goes out on the session's own stream is the frame of its request or response, as far as it
+/// is out, and all of it once the session is established or the rejection is finished.
+#[tactic(auto, using(crate::proofs::Theorems::session_stream_theorem))]
+pub fn session_stream_goes_out()
+    ensures stream { (side : Side) (all : List Turn) → AllLawful side [] all → SessionStreamOut side (exchanges side all) (log_from side [] all) }
 {}
