@@ -6,5 +6,7 @@
 
 pub mod machine;
 pub mod send;
+#[cfg(test)]
+mod tests;
 
 pub use machine::Core;

@@ -1,7 +1,7 @@
 //! The README's example: a server's connection takes its first turn.
 //!
-//! [`Core::turn`] requires that the turn is lawful and built, so the prover refuses a call of it
-//! where that isn't known.
+//! [`Core::turn`] requires that the turn is lawful, so the prover refuses a call of it where
+//! that isn't known.
 #![tactic(auto)]
 
 use anyhow::Result;
@@ -17,7 +17,7 @@ fn main(rt: HostRuntime) -> Result<()> {
         credit: 1000,
         datagrams: DatagramFact::Limit(1200),
     };
-    if core.is_lawful(&turn) && core.is_built(&turn) {
+    if core.is_lawful(&turn) {
         let answer = core.turn(&turn)?;
         println!(rt; "{answer:?}")?;
     }

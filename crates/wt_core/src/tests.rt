@@ -1,0 +1,3 @@
+//! What the contracts leave open: that memory suffices where there is enough.
+mod machine;
+mod vocabulary;
