@@ -25,8 +25,8 @@ use Rattle.wt_wire.specs.declared.side.Side.TheVariants.{Client, Server}
 use Rattle.wt_wire.specs.declared.side.StreamEnd.{StreamEnd}
 use Rattle.wt_laws.proofs.Caused.{Caused, caused-accept, caused-connect-to, caused-continue, caused-deliver, caused-receive, caused-start, covered-whole, either, head-out, leaf, not-stopped, own-if, own-send, polled}
 use Rattle.wt_laws.proofs.Steps.{Brings, ByByte, ByEvent, ByLate, Nothing, Steps, blind-actions, blind-flush, calls-with, event_of}
-use Rattle.wt_laws.specs.Causes.{ByAcceptance, ByOpening, ByRejection, CloseCause, DatagramOf, FoundStream, OfCall, OfEndpoint, OfHeader, OfWrite, OwnCauses, accepted_kind, bytes_for, frame_of, is_accept, is_receive, polls_opening, reads_from}
-use Rattle.wt_laws.specs.ReplyCauses.{AtClose, AtDatagram, AtEndpointClose, AtEvent, AtFinish, AtOpening, AtPriority, AtReset, AtStop, AtWrite, DoneCause, GivenStream, HeadUnsent, NoStreamToOpen, NoWriteCredit, NotClosed, NotEnded, NothingUnread, OfTheStream, ReplyCause, StoppedCause, TooFewUnread, WrittenCause, asks_for_session, half_of, is_call, is_closed_error, needs_half, opened_kind, waits_for_end}
+use Rattle.wt_laws.specs.Causes.{ByAcceptance, ByOpening, ByRejection, CloseCause, DatagramOf, FoundStream, OfCall, OfEndpoint, OfHeader, OfWrite, OwnCauses, accepted_kind, bytes_for, frame_of, is_accept, is_receive, opened_kind, polls_opening, reads_from}
+use Rattle.wt_laws.specs.ReplyCauses.{AtClose, AtDatagram, AtEndpointClose, AtEvent, AtFinish, AtOpening, AtPriority, AtReset, AtStop, AtWrite, DoneCause, GivenStream, HeadUnsent, NoStreamToOpen, NoWriteCredit, NotClosed, NotEnded, NothingUnread, OfTheStream, ReplyCause, StoppedCause, TooFewUnread, WrittenCause, asks_for_session, half_of, is_call, is_closed_error, needs_half, waits_for_end}
 use Rattle.wt_laws.specs.Told.{NoRecord, NonePassed, given_stream, is_quiet, read_piece}
 use Rattle.wt_spec.specs.Answers.{call_effect, in_session, is_client, is_first, is_lawful, may_call, may_respond, on_session, receive, turn_effect}
 use Rattle.wt_spec.specs.Connection.{accept_stream, close_connection, closed_reply, continue_opening, datagram_allowed, datagram_within, is_opening, open_stream, payload_limit, poll_opening, receive_datagram, send_datagram, stream_header}
@@ -58,7 +58,7 @@ module _ (side : Side) (turn : Turn) where
     where
       opens : may_open side log kind ≡ true → is_open log ≡ true → Caused side turn log (reply_with (log_call side log (opening side log kind) (OpeningStarted (next_id side log kind) s)) (replies.Opening (next_id side log kind)))
       opens m o =
-          leaf side turn log (opening side log kind) (OpeningStarted (next_id side log kind) s) (replies.Opening (next_id side log kind)) (rw m ((o, kind, m, refl, z), tt))
+          leaf side turn log (opening side log kind) (OpeningStarted (next_id side log kind) s) (replies.Opening (next_id side log kind)) (rw m ((o, kind, m, refl, z, OfCall q), tt))
           (record { cause = record { local = rw (local-kind kind (stream_count side log kind) l) z; at = at; is_established = ap established (calls-with (opening side log kind) log) ∙ d }; kind = kind; own_is = refl; may = m; next = refl; small = l }) refl (o, kind, q, m, refl)
 
   still-opening : (own : List Action) (log : Log) (k : ℕ) → is_opening (with_actions own log) k ≡ is_opening log k

@@ -29,7 +29,7 @@ use Rattle.wt_wire.specs.declared.side.Side.TheVariants.{Client, Server}
 use Rattle.wt_laws.proofs.Classified.{next-is-due}
 use Rattle.wt_laws.proofs.Looks.{at-first, events-logged, left_to_release, next-within, pass-drops}
 use Rattle.wt_laws.proofs.Steps.{ByCall, Nothing, Steps, blind-actions, calls-logged, calls-with}
-use Rattle.wt_laws.specs.Causes.{ActionCause, ByAccept, ByAnswer, ByResponse, CallCause, ConnectTo, EstablishedBy, FoundDatagram, FoundStream, FromBefore, HandshakeCode, OfHandshake, OfPass, OfRejection, OfRequest, OfResponse, OwnCauses, Plain, ResponseFrom, SendCause, StoppedEarly, accepted_kind, frame_of, is_accept, is_receive, is_under_way, request_to, reserved_in}
+use Rattle.wt_laws.specs.Causes.{ActionCause, ByAccept, ByAnswer, ByResponse, CallCause, ConnectTo, Declines, EndsStream, EstablishedBy, FoundDatagram, FoundStream, FromBefore, HandshakeCode, OfHandshake, OfPass, OfRejection, OfRequest, OfResponse, OwnCauses, Plain, Rejects, Reserves, ResponseFrom, SendCause, StoppedEarly, Stops, accepted_kind, frame_of, is_accept, is_receive, is_under_way, request_to, reserved_in}
 use Rattle.wt_laws.specs.ReplyCauses.{AfterSuccess, AsDriver, AtResponse, BeforeConnection, BeforeRequest, BeforeResponse, BeforeSettings, BeforeStream, ByRefusal, ByReserved, ByResponseFault, ByStatus, ByStop, ByStreamEnd, ConnectFailedCause, ConnectionEnded, Dialling, Finishing, HeadUnsent, NoAddress, NoConnection, NoDatagramLeft, NoRequest, NoResponse, NoSessionStream, NoSettings, NoStreamLeft, NoUrl, NotHttps, NotProceeding, OfTheRequest, OfTheResponse, PendingCause, RejectionOver, RejectionRefused, ReplyCause, Unacknowledged, is_incoming}
 use Rattle.wt_laws.specs.Told.{Logged, NonePassed, OnePassed, OneRecord, Passed, Tells, ThenPolled, given_stream, is_pass, is_quiet}
 use Rattle.wt_spec.specs.Answers.{is_client}
@@ -301,7 +301,8 @@ module _ (side : Side) (turn : Turn) where
       (λ f. leaf log _ waiting replies.Pending (own-finish log id head i r.from o c (not-true _ f)) (r.waits (send_of id (head_left log id head) ++ actions.Finish id ∷ [])) r.quiet
       (o, Finishing head r.from (subst (λ (n : ℕ). is_covered log n (head_left log n head) ≡ true) i c) (subst (λ (n : ℕ). is_finished (actions_of log) n ≡ false) i (not-true _ f)))) (λ f.
       either (is_some (stop_of (events_of log) id) || is_acknowledged (events_of log) id) _ _
-      (λ x. failed log [] 0 replies.Rejected (Plain refl) refl r.under_way tt refl (RejectionOver head r.from (subst (λ (n : ℕ). is_finished (actions_of log) n ≡ true) i (not-false _ f)) (subst (λ (n : ℕ). (is_some (stop_of (events_of log) n) || is_acknowledged (events_of log) n) ≡ true) i x)))
+      (λ x. let y = subst (λ (n : ℕ). is_finished (actions_of log) n ≡ true) i (not-false _ f) in let z = subst (λ (n : ℕ). (is_some (stop_of (events_of log) n) || is_acknowledged (events_of log) n) ≡ true) i x in
+      failed log [] 0 replies.Rejected (Plain (Rejects head r.from y z) refl) refl r.under_way tt refl (RejectionOver head r.from y z))
       (λ x. let q = or_parts (is_some (stop_of (events_of log) id)) _ x in
       leaf log [] waiting replies.Pending tt (r.waits []) r.quiet (
         o,
@@ -340,10 +341,10 @@ module _ (side : Side) (turn : Turn) where
   caused-response : (log : Log) (own : List Action) (r : ResponseWalk) → OwnCauses side turn log own → is_open (with_actions own log) ≡ is_open log → (w : Onward log) → local_count (actions_of (with_actions own log)) (local_bi side) ≢ 0 → head_left (with_actions own log) (local_bi side) w.head ≡ [] → walk_of log ≡ r → Caused side turn log (read_response side log (local_bi side) own r)
   unfolding walk_of
   caused-response log own (responses.Fault code) o s w n h e = failed log own (code_of code) _ (OfResponse code (blind-actions walk_of (λ a g. refl) own log ∙ e) refl) s (going log w) o refl (ByResponseFault code e refl)
-  caused-response log own responses.Ended o s w n h e = failed log own 0 _ (Plain refl) s (going log w) o refl (ByStreamEnd e refl)
+  caused-response log own responses.Ended o s w n h e = failed log own 0 _ (Plain (EndsStream (blind-actions walk_of (λ a g. refl) own log ∙ e)) refl) s (going log w) o refl (ByStreamEnd e refl)
   caused-response log own responses.Waiting o s w n h e = either (is_open log) _ _ (λ b. leaf log own Polled replies.Pending o tt refl (b, NoResponse w.reserved w.head w.call w.state e)) (λ b. failed-so log own _ (going log w) o refl (BeforeResponse e b refl))
   caused-response log own (responses.Response fields at) o s w n h e =
-      either (not (has_success fields)) _ _ (λ c. failed log own 0 _ (Plain refl) s (going log w) o refl (ByStatus fields at e (not-true _ c) refl)) (λ c.
+      either (not (has_success fields)) _ _ (λ c. failed log own 0 _ (Plain (Declines fields at (blind-actions walk_of (λ a g. refl) own log ∙ e) (not-true _ c)) refl) s (going log w) o refl (ByStatus fields at e (not-true _ c) refl)) (λ c.
       either (is_open log) _ _
       (λ b. let by : EstablishedBy side turn (with_actions own log) (local_bi side) at =
       record { before = log; own = own; is = refl; was_open = b; under_way = going log w; how = ByResponse w.reserved w.head fields w.state w.settings e (not-false _ c) refl n h } in
@@ -396,16 +397,17 @@ module _ (side : Side) (turn : Turn) where
   caused-send-request log own left w x =
       either (is_empty left) _ _ (λ c. caused-await log own x.causes x.stays w x.counted (x.left_is ∙ when-empty left c)) (λ c.
       either (not (is_open log)) _ _ (λ o. failed-so log own _ (going log w) x.causes refl (BeforeRequest w.reserved w.head w.state (ap is_empty x.left_at ∙ c) (not-true _ o) refl)) (λ o.
-      either (is_some (stop_of (events_of log) (local_bi side))) _ _ (λ b. failed log own 0 _ (Plain refl) x.stays (going log w) x.causes refl (ByRefusal w.reserved w.head w.state (rw x.left_at (rw (b, c) refl)) refl)) (λ b.
+      either (is_some (stop_of (events_of log) (local_bi side))) _ _ (λ b. let y : is_refused log (local_bi side) left ≡ true = rw (b, c) refl in
+      failed log own 0 _ (Plain (Stops w.reserved w.head (ap handshake_state (calls-with own log) ∙ w.state) (ap (is_refused (with_actions own log) (local_bi side)) x.left_is ∙ blind-actions (λ g. is_refused g (local_bi side) left) (λ a g. refl) own log ∙ y)) refl) x.stays (going log w) x.causes refl (ByRefusal w.reserved w.head w.state (rw x.left_at y) refl)) (λ b.
       either (is_covered log (local_bi side) left) _ _
       (λ z. caused-await log (own ++ send_of (local_bi side) left) (sends-request log own left left w x (not-false _ o) (sym (covered-whole log (local_bi side) left z))) (stays-open log left left own x.stays) w (still-counted log own left x.counted) (all-out log own left w.head x.left_is))
       (λ z. leaf log (own ++ send_of (local_bi side) (covered log (local_bi side) left)) Polled replies.Pending (sends-request log own left (covered log (local_bi side) left) w x (not-false _ o) refl) tt refl (not-false _ o, HeadUnsent (local_bi side) w.head (OfTheRequest w.reserved w.call w.state refl) (rw x.left_at z) (none-there _ b))))))
 
   -- the request's stream is opened
-  opens-first : (log : Log) (w : Onward log) (b : Bool) → may_open side log (local_bi side) ≡ b → is_open log ≡ true → b ≡ true → Opens log (opening side log (local_bi side)) (head_left log (local_bi side) w.head) w.head
-  opens-first log w true m o e =
+  opens-first : (log : Log) (w : Onward log) (b : Bool) → local_count (actions_of log) (local_bi side) ≡ 0 → may_open side log (local_bi side) ≡ b → is_open log ≡ true → b ≡ true → Opens log (opening side log (local_bi side)) (head_left log (local_bi side) w.head) w.head
+  opens-first log w true n m o e =
       rw m (record {
-        causes = ((o, local_bi side, m, refl, or_right (local_bi side == local_uni side) _ (eq-eqb (local_bi side) (local_bi side) refl)), tt);
+        causes = ((o, local_bi side, m, refl, or_right (local_bi side == local_uni side) _ (eq-eqb (local_bi side) (local_bi side) refl), OfRequest w.reserved w.head w.state w.settings refl n), tt);
         stays = refl;
         counted = λ z. one-opened z;
         credit = refl;
@@ -421,7 +423,7 @@ module _ (side : Side) (turn : Turn) where
       one-opened z =
           let q = eq-eqb (next_id side log (local_bi side) % 4) (local_bi side) (own-kind side (stream_count side log (local_bi side))) in
           let y = ap (λ b. one_more_if b (local_count (actions_of log) (local_bi side))) q in absurd (omega arith)
-  opens-first log w false m o e = absurd (cc)
+  opens-first log w false n m o e = absurd (cc)
 
   caused-open-request : (log : Log) (w : Onward log) → Caused side turn log (open_request side log w.head)
   caused-open-request log w =
@@ -429,11 +431,11 @@ module _ (side : Side) (turn : Turn) where
       (λ c. caused-send-request log [] (head_left log (local_bi side) w.head) w (record { causes = tt; stays = refl; counted = eqb-false (local_count (actions_of log) (local_bi side)) 0 (not-true _ c); credit = refl; left_at = refl; left_is = refl })) (λ c.
       either (not (is_open log)) _ _ (λ o. failed-so log [] _ (going log w) tt refl (BeforeStream w.reserved w.head w.state (eqb-true (local_count (actions_of log) (local_bi side)) 0 (not-false _ c)) (not-true _ o) refl)) (λ o.
       either (may_open side log (local_bi side)) _ _
-      (λ m. caused-send-request log (opening side log (local_bi side)) (head_left log (local_bi side) w.head) w (opens-first log w true m (not-false _ o) refl))
+      (λ m. caused-send-request log (opening side log (local_bi side)) (head_left log (local_bi side) w.head) w (opens-first log w true (eqb-true (local_count (actions_of log) (local_bi side)) 0 (not-false _ c)) m (not-false _ o) refl))
       (λ m. polled log replies.Pending refl (not-false _ o, NoSessionStream w.reserved w.head w.call w.state (eqb-true (local_count (actions_of log) (local_bi side)) 0 (not-false _ c)) m))))
 
   caused-reserved : (log : Log) (w : Onward log) (o : Option (List ℕ)) → w.reserved ≡ o → Caused side turn log (unless_reserved side log o w.head)
-  caused-reserved log w (Some name) e = failed log [] 0 _ (Plain refl) refl (going log w) tt refl (ByReserved name w.head (w.state ∙ ap (λ r. Connecting r w.head) e) w.settings refl)
+  caused-reserved log w (Some name) e = let y = w.state ∙ ap (λ r. Connecting r w.head) e in failed log [] 0 _ (Plain (Reserves name w.head y w.settings) refl) refl (going log w) tt refl (ByReserved name w.head y w.settings refl)
   caused-reserved log w None e = caused-open-request log w
 
   caused-await-or-fail : (log : Log) (reserved : Option (List ℕ)) (head : List ℕ) (e : ConnectionError) → handshake_state (calls_of log) ≡ Connecting reserved head → PendingCause side turn log

@@ -30,7 +30,7 @@ still-none j x (c ∷ cs) h e =
     let n = none-later (c.id == j) c.verdict (verdict_of j cs) h in
     rw n.0 (still-none j x cs n.1 e)
 
-eq-turned : (j k : ℕ) → (j == k) ≡ false → (k == j) ≡ false
+pub eq-turned : (j k : ℕ) → (j == k) ≡ false → (k == j) ≡ false
 eq-turned j k h = grind (arith, nat_tests)
 
 once-more : (x : Classified) (cs : List Classified) → verdict_of x.id cs ≡ None → IsOnce cs → IsOnce (cs ++ x ∷ [])

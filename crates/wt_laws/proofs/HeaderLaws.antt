@@ -139,7 +139,7 @@ nil-parts : (xs ys : List ℕ) → xs ++ ys ≡ [] → (xs ≡ []) × (ys ≡ []
 nil-parts [] ys e = (refl, e)
 nil-parts (x ∷ xs) ys e = absurd (cc)
 
-not-local-uni : (side : Side) (log : Log) (k : ℕ) → Heads side log → list_any (starts_opening k) (calls_of log) ≡ true → k ≢ local_uni side
+pub not-local-uni : (side : Side) (log : Log) (k : ℕ) → Heads side log → list_any (starts_opening k) (calls_of log) ≡ true → k ≢ local_uni side
 not-local-uni side log k h o e = absurd (let x = ap (λ j. list_any (starts_opening j) (calls_of log)) e in let y = h.no_control in cc)
 
 pub heads-other : (side : Side) (turn : Turn) (log : Log) (a : Action) → ((k : ℕ) → k ≢ local_uni side → piece_on k a ≡ []) → Heads side log → Heads side (Sent a ∷ log)
@@ -230,7 +230,7 @@ still true true c e = absurd (cc)
 still true false c e = e
 still false b c e = absurd (cc)
 
-no-new-session : (side : Side) (log : Log) (c : List Action) (before : Log) → log ≡ with_actions c before → is_under_way (handshake_state (calls_of before)) ≡ true → Handshakes side log → is_some (established (calls_of log)) ≡ true → ⊥
+pub no-new-session : (side : Side) (log : Log) (c : List Action) (before : Log) → log ≡ with_actions c before → is_under_way (handshake_state (calls_of before)) ≡ true → Handshakes side log → is_some (established (calls_of log)) ≡ true → ⊥
 no-new-session side log own before i u f s =
     absurd (let n = (handshakes-before side own before (subst (Handshakes side) i f)).none_yet u in let e = ap established (ap calls_of i ∙ calls-with own before) in cc)
 
@@ -337,7 +337,8 @@ first-heads side = record {
   };
 }
 
+pub heads-hold : (side : Side) (log : Log) → IsReachable side log → Heads side log
+heads-hold side log r = (reached (Both side) (first-heads side) (keeps-both side) log r).heads
+
 pub headers-out : (side : Side) (log : Log) → IsReachable side log → HeadersOut side log
-headers-out side log r =
-    let h = (reached (Both side) (first-heads side) (keeps-both side) log r).heads in
-    record { begun = h.begun; whole = h.whole }
+headers-out side log r = let h = heads-hold side log r in record { begun = h.begun; whole = h.whole }

@@ -22,5 +22,12 @@ pub mod TakenLaws
 pub mod HeaderLaws
 pub mod PendingLaws
 pub mod SessionStream
+pub mod AllSends
+pub mod WrittenLaws
+pub mod OrderLaws
+pub mod CreditLaws
+pub mod HeadSends
+pub mod RunLaws
+pub mod ExactLaws
 pub mod Theorems
 pub mod Recorded

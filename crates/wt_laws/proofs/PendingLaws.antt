@@ -1,6 +1,6 @@
 -- Pending is answered exactly where nothing is left for a call, and the connection is open.
 use Rattle.std.specs.Prelude.{[], ◌&&◌, ◌+◌, ◌<◌, ◌*◌, ◌++◌, ◌/◌, ◌==◌, ◌||◌, ◌∷◌, ◌≡◌, ◌≤◌, Bool, Err, List, None, Ok, Option, Result, Some, bytes_eq, codes, drop, false, if◌then◌else◌, is_ok, is_some, length, nat_lt, not, suc, take, true, zero, ℕ}
-use Rattle.std.proofs.Common.{◌∙◌, ap, arith, length-take, refl, subst, sym}
+use Rattle.std.proofs.Common.{◌∙◌, ap, arith, length-take, refl, sym}
 use Rattle.std.proofs.lemmas.Bool.{and_parts, or_parts}
 use Rattle.std.specs.List.{list_any}
 use Rattle.url.specs.Parser.{parse_url}
@@ -19,7 +19,6 @@ use Rattle.wt_turn.specs.Log.{CallRecord, Called, DatagramPassed, Log, StreamPas
 use Rattle.wt_turn.specs.declared.action.Action.{Action}
 use Rattle.wt_turn.specs.declared.call.Call.{Call}
 use Rattle.wt_turn.specs.declared.connecting_error.ConnectingError.{ConnectingError}
-use Rattle.wt_turn.specs.declared.connection_error.ConnectionError.{ConnectionError}
 use Rattle.wt_turn.specs.declared.datagram_fact.DatagramFact.{DatagramFact}
 use Rattle.wt_turn.specs.declared.reply.Reply.{Reply}
 use Rattle.wt_turn.specs.declared.stream_error.StreamWriteError.{StreamWriteError}
@@ -36,15 +35,15 @@ use Rattle.wt_laws.proofs.During.{actions-extend, extend, flush-extends}
 use Rattle.wt_laws.proofs.Looks.{at-first, events-logged, left_to_release, next-within, pass-drops}
 use Rattle.wt_laws.proofs.Steps.{calls-logged}
 use Rattle.wt_laws.specs.Causes.{FoundDatagram, FoundStream, accepted_kind, is_accept, is_receive}
-use Rattle.wt_laws.specs.Left.{PassesDatagram, PassesNone, PassesStream, PassesTo, PendingExactly, awaits_response, connect_waits, goes_on, handshake_waits, has_no_credit, has_no_stream, has_nothing_left, is_none_queued, is_pending, is_settled, is_waiting, lacks_credit, lacks_stream, may_dial, of_session, rejection_waits, request_waits, response_waits, write_waits}
+use Rattle.wt_laws.specs.Left.{PassesDatagram, PassesNone, PassesStream, PassesTo, PendingExactly, awaits_response, connect_waits, datagram_reply, handshake_waits, has_no_stream, has_nothing_left, is_none_queued, is_pending, is_waiting, lacks_credit, may_dial, of_session, passing_reply, rejection_waits, request_waits, response_waits, session_reply, stream_reply}
 use Rattle.wt_laws.specs.Laws.{GoesOnFrom}
 use Rattle.wt_spec.specs.Answers.{answer_to, call_effect, in_session, is_client, is_first, is_lawful, may_call, on_session, turn_effect}
 use Rattle.wt_spec.specs.Connect.{address_of, connect_to, outcome_error, port_of, unless_stopped, with_address}
-use Rattle.wt_spec.specs.Connection.{accept_due, accept_first, accept_stream, close_connection, continue_opening, datagram_allowed, datagram_within, give_or_pass, is_for_session, is_opening, next_datagram, next_due, open_stream, opened_reply, pass_stream, poll_opening, receive_datagram, receive_first, receive_next, receive_or_pass, send_datagram, stream_header}
+use Rattle.wt_spec.specs.Connection.{accept_due, accept_first, accept_stream, datagram_allowed, datagram_within, give_or_pass, is_for_session, is_opening, next_datagram, next_due, open_stream, pass_stream, poll_opening, receive_datagram, receive_first, receive_next, receive_or_pass, send_datagram, stream_header}
 use Rattle.wt_spec.specs.Driver.{established, session_id, settings_came, settled_datagrams}
 use Rattle.wt_spec.specs.Effect.{Effect, head_left, is_covered, is_empty, log_call, pending_or_failed, poll_only}
 use Rattle.wt_spec.specs.Halves.{all_written_reply, at_stream_end, exact_at_end, has_receiving_half, has_sending_half, is_done, on_half, read, read_exact, read_reply, reset, stopped_reply, unread, write_by, write_error, written_reply}
-use Rattle.wt_spec.specs.Handshake.{Connecting, HandshakeState, Responding, accept_response, await_or_fail, await_response, continue_by, continue_connect, deliver, finish_rejection, handshake_state, has_success, is_continuable, is_refused, open_request, queued_requests, read_response, reject_response, requested, respond, response_head, send_request, start_response, unless_reserved}
+use Rattle.wt_spec.specs.Handshake.{Connecting, HandshakeState, Responding, accept_response, continue_by, continue_connect, deliver, handshake_state, has_success, is_continuable, is_refused, open_request, queued_requests, read_response, reject_response, requested, respond, response_head, send_request, unless_reserved}
 use Rattle.wt_spec.specs.StreamTable.{Classified}
 use Rattle.wt_turn.specs.declared.action.Action.TheVariants as actions
 use Rattle.wt_wire.specs.declared.error.ErrorCode.TheVariants as h3
@@ -372,6 +371,11 @@ record Decides (side : Side) (turn : Turn) (start : Log) (x : Effect) : Type 0 w
   pub no_stream : (k : ℕ) → FoundStream side turn decided k false → ⊥
   pub no_datagram : FoundDatagram side turn decided false → ⊥
   pub exactly : Waits (is_open decided && has_nothing_left side turn decided) x
+  pub gives : (r : Reply) → passing_reply side turn decided ≡ Some r → x.reply ≡ r
+
+-- the reply is the one that is told
+told : (o : Option Reply) (x y : Reply) → o ≡ Some x → (r : Reply) → o ≡ Some r → x ≡ y → y ≡ r
+told o x y e r f g = let z : x ≡ r = cc in sym g ∙ z
 
 module _ (side : Side) (turn : Turn) where
   not-accepting : (log : Log) (k : ℕ) (b : Bool) → is_accept turn ≡ false → FoundStream side turn log k b → ⊥
@@ -382,9 +386,12 @@ module _ (side : Side) (turn : Turn) where
 
   -- ---- accepts
 
-  module _ (kind : ℕ) (a : is_accept turn ≡ true) (n : is_receive turn ≡ false) (i : accepted_kind side turn ≡ kind) (w : (g : Log) → has_nothing_left side turn g ≡ has_no_stream side g kind) (reply : ℕ → Reply) (q : (k : ℕ) → is_pending (reply k) ≡ false) (s at : ℕ) where
+  module _ (kind : ℕ) (a : is_accept turn ≡ true) (n : is_receive turn ≡ false) (i : accepted_kind side turn ≡ kind) (w : (g : Log) → has_nothing_left side turn g ≡ has_no_stream side g kind) (reply : ℕ → Reply) (v : (g : Log) → passing_reply side turn g ≡ Some (session_reply (λ s. stream_reply side g reply (next_due side g kind s)) (established (calls_of g)))) (q : (k : ℕ) → is_pending (reply k) ≡ false) (s at : ℕ) where
     nothing-so : (log : Log) (o : Option Classified) → established (calls_of log) ≡ Some (s, at) → next_due side log kind s ≡ o → has_nothing_left side turn log ≡ not (is_some o)
     nothing-so log o d e = w log ∙ ap (of_session (λ j. not (is_some (next_due side log kind j)))) d ∙ ap (λ z. not (is_some z)) e
+
+    gives-so : (log : Log) (o : Option Classified) → established (calls_of log) ≡ Some (s, at) → next_due side log kind s ≡ o → passing_reply side turn log ≡ Some (stream_reply side log reply o)
+    gives-so log o d e = v log ∙ ap (λ z. Some (session_reply (λ j. stream_reply side log reply (next_due side log kind j)) z)) d ∙ ap (λ z. Some (stream_reply side log reply z)) e
 
     -- the stream that is found is the one that is due
     same-found : (log : Log) (k : ℕ) (b : Bool) (o : Option Classified) → established (calls_of log) ≡ Some (s, at) → next_due side log kind s ≡ o → (f : FoundStream side turn log k b) → o ≡ Some f.found × (f.session ≡ s)
@@ -409,6 +416,7 @@ module _ (side : Side) (turn : Turn) where
       no_stream = λ k f. no-other log k c d e t f;
       no_datagram = λ f. not-receiving log false n f;
       exactly = q c.id ∙ and-false (is_open log) ∙ ap (λ b. is_open log && b) (sym (nothing-so log (Some c) d e));
+      gives = λ r x. told (passing_reply side turn log) _ _ (gives-so log (Some c) d e) r x refl;
     }
     decides-given again log c false r d e t = record {
       decided = r.decided;
@@ -416,6 +424,7 @@ module _ (side : Side) (turn : Turn) where
       no_stream = r.no_stream;
       no_datagram = r.no_datagram;
       exactly = r.exactly;
+      gives = r.gives;
     }
 
     decides-due : (again : Log → Effect) (log : Log) (o : Option Classified) → ((c : Classified) → next_due side log kind s ≡ Some c → Decides side turn (pass_stream side log c.id) (again (pass_stream side log c.id)))
@@ -426,6 +435,7 @@ module _ (side : Side) (turn : Turn) where
       no_stream = λ k g. none-found log k d e g;
       no_datagram = λ g. not-receiving log false n g;
       exactly = reply-if side log (is_open log) _ _ refl refl ∙ and-true (is_open log) ∙ ap (λ b. is_open log && b) (sym (nothing-so log None d e));
+      gives = λ r x. told (passing_reply side turn log) _ _ (gives-so log None d e) r x refl;
     }
     decides-due again log (Some c) f d e = decides-given again log c (is_for_session s c.verdict) (f c e) d e refl
 
@@ -437,31 +447,38 @@ module _ (side : Side) (turn : Turn) where
         (let p = pass-drops side log kind s c (actions.StopOut c.id (code_of h3.BufferedStreamRejected) ∷ []) e in omega arith)) d refl
 
   -- without a session nothing is passed
-  no-session : (log : Log) (call : ℕ → Effect) → established (calls_of log) ≡ None → has_nothing_left side turn log ≡ false → Decides side turn log (poll_only side log replies.NoSession)
-  no-session log call d w = record {
+  no-session : (log : Log) (call : ℕ → Effect) → established (calls_of log) ≡ None → has_nothing_left side turn log ≡ false → ((r : Reply) → passing_reply side turn log ≡ Some r → replies.NoSession ≡ r) → Decides side turn log (poll_only side log replies.NoSession)
+  no-session log call d w g = record {
     decided = log;
     passes = PassesNone;
     no_stream = λ k f. absurd (let x = f.is_established in cc);
     no_datagram = λ f. absurd (let x = f.is_established in cc);
     exactly = and-false (is_open log) ∙ ap (λ b. is_open log && b) (sym w);
+    gives = g;
   }
 
-  decides-in : (log : Log) (call : ℕ → Effect) (o : Option (ℕ × ℕ)) → established (calls_of log) ≡ o → (established (calls_of log) ≡ None → has_nothing_left side turn log ≡ false) → ((s at : ℕ) → established (calls_of log) ≡ Some (s, at) → Decides side turn log (call s))
+  decides-in : (log : Log) (call : ℕ → Effect) (o : Option (ℕ × ℕ)) → established (calls_of log) ≡ o → (established (calls_of log) ≡ None → has_nothing_left side turn log ≡ false) → (established (calls_of log) ≡ None → (r : Reply) → passing_reply side turn log ≡ Some r → replies.NoSession ≡ r) → ((s at : ℕ) → established (calls_of log) ≡ Some (s, at) → Decides side turn log (call s))
       → Decides side turn log (in_session side log call o)
-  decides-in log call None d w f = no-session log call d (w d)
-  decides-in log call (Some s) d w f = f s.0 s.1 d
+  decides-in log call None d w g f = no-session log call d (w d) (g d)
+  decides-in log call (Some s) d w g f = f s.0 s.1 d
 
-  decides-accept : (log : Log) (kind : ℕ) (reply : ℕ → Reply) → is_accept turn ≡ true → is_receive turn ≡ false → accepted_kind side turn ≡ kind → ((g : Log) → has_nothing_left side turn g ≡ has_no_stream side g kind) → ((k : ℕ) → is_pending (reply k) ≡ false)
+  decides-accept : (log : Log) (kind : ℕ) (reply : ℕ → Reply) → is_accept turn ≡ true → is_receive turn ≡ false → accepted_kind side turn ≡ kind → ((g : Log) → has_nothing_left side turn g ≡ has_no_stream side g kind)
+      → ((g : Log) → passing_reply side turn g ≡ Some (session_reply (λ s. stream_reply side g reply (next_due side g kind s)) (established (calls_of g)))) → ((k : ℕ) → is_pending (reply k) ≡ false)
       → Decides side turn log (on_session side log (accept_stream side reply kind log))
-  decides-accept log kind reply a n i w q =
+  decides-accept log kind reply a n i w v q =
       decides-in log (accept_stream side reply kind log) (established (calls_of log)) refl (λ d. w log ∙ ap (of_session (λ j. not (is_some (next_due side log kind j)))) d)
-      (λ s at d. decides-first kind a n i w reply q s at (suc (peer_count side (events_of log) kind)) log d (at-first side log kind))
+      (λ d r x. told (passing_reply side turn log) replies.NoSession _ (v log ∙ ap (λ z. Some (session_reply (λ j. stream_reply side log reply (next_due side log kind j)) z)) d) r x refl)
+      (λ s at d. decides-first kind a n i w reply v q s at (suc (peer_count side (events_of log) kind)) log d (at-first side log kind))
 
   -- ---- datagrams
 
-  module _ (a : is_receive turn ≡ true) (n : is_accept turn ≡ false) (w : (g : Log) → has_nothing_left side turn g ≡ of_session (λ s. not (is_some (next_datagram side g))) (established (calls_of g))) (s at : ℕ) where
+  module _ (a : is_receive turn ≡ true) (n : is_accept turn ≡ false) (w : (g : Log) → has_nothing_left side turn g ≡ of_session (λ s. not (is_some (next_datagram side g))) (established (calls_of g)))
+      (v : (g : Log) → passing_reply side turn g ≡ Some (session_reply (λ s. datagram_reply side g (next_datagram side g)) (established (calls_of g)))) (s at : ℕ) where
     none-so : (log : Log) (o : Option (ℕ × List ℕ)) → established (calls_of log) ≡ Some (s, at) → next_datagram side log ≡ o → has_nothing_left side turn log ≡ not (is_some o)
     none-so log o d e = w log ∙ ap (of_session (λ j. not (is_some (next_datagram side log)))) d ∙ ap (λ z. not (is_some z)) e
+
+    datagram-so : (log : Log) (o : Option (ℕ × List ℕ)) → established (calls_of log) ≡ Some (s, at) → next_datagram side log ≡ o → passing_reply side turn log ≡ Some (datagram_reply side log o)
+    datagram-so log o d e = v log ∙ ap (λ z. Some (session_reply (λ j. datagram_reply side log (next_datagram side log)) z)) d ∙ ap (λ z. Some (datagram_reply side log z)) e
 
     no-other-datagram : (log : Log) (x : ℕ × List ℕ) → established (calls_of log) ≡ Some (s, at) → next_datagram side log ≡ Some x → (4 * x.0 == s) ≡ true → FoundDatagram side turn log false → ⊥
     no-other-datagram log x d e t f =
@@ -478,6 +495,7 @@ module _ (side : Side) (turn : Turn) where
       no_stream = λ k f. not-accepting log k false n f;
       no_datagram = λ f. no-other-datagram log x d e t f;
       exactly = and-false (is_open log) ∙ ap (λ b. is_open log && b) (sym (none-so log (Some x) d e));
+      gives = λ r y. told (passing_reply side turn log) _ _ (datagram-so log (Some x) d e) r y refl;
     }
     decides-taken again log x false r d e t = record {
       decided = r.decided;
@@ -485,6 +503,7 @@ module _ (side : Side) (turn : Turn) where
       no_stream = r.no_stream;
       no_datagram = r.no_datagram;
       exactly = r.exactly;
+      gives = r.gives;
     }
 
     none-waits : (log : Log) → established (calls_of log) ≡ Some (s, at) → next_datagram side log ≡ None → Decides side turn log (poll_only side log (pending_or_failed side log))
@@ -494,6 +513,7 @@ module _ (side : Side) (turn : Turn) where
       no_stream = λ k f. not-accepting log k false n f;
       no_datagram = λ f. absurd (let x = f.next in cc);
       exactly = reply-if side log (is_open log) _ _ refl refl ∙ and-true (is_open log) ∙ ap (λ b. is_open log && b) (sym (none-so log None d e));
+      gives = λ r y. told (passing_reply side turn log) _ _ (datagram-so log None d e) r y refl;
     }
 
     decides-next : (again : Log → Effect) (log : Log) (o : Option (ℕ × List ℕ)) → ((x : ℕ × List ℕ) → next_datagram side log ≡ Some x → Decides side turn (log_call side log [] DatagramPassed) (again (log_call side log [] DatagramPassed)))
@@ -514,19 +534,27 @@ module _ (side : Side) (turn : Turn) where
 
   -- ---- every turn
 
+  none-passing : (t : Turn) (log : Log) → (is_accept t || is_receive t) ≡ false → passing_reply side t log ≡ None
+  none-passing (turns.Call calls.AcceptUni) log n = absurd (cc)
+  none-passing (turns.Call calls.AcceptBi) log n = absurd (cc)
+  none-passing (turns.Call calls.ReceiveDatagram) log n = absurd (cc)
+  none-passing (turns.Call _) log n = refl
+  none-passing _ log n = refl
+
   at-once : (log : Log) (x : Effect) → (is_accept turn || is_receive turn) ≡ false → Waits (is_open log && has_nothing_left side turn log) x → Decides side turn log x
   at-once log x n p =
       let q = or_parts (is_accept turn) (is_receive turn) n in
-      record { decided = log; passes = PassesNone; no_stream = λ k f. not-accepting log k false q.0 f; no_datagram = λ f. not-receiving log false q.1 f; exactly = p }
+      record { decided = log; passes = PassesNone; no_stream = λ k f. not-accepting log k false q.0 f; no_datagram = λ f. not-receiving log false q.1 f; exactly = p; gives = λ r y. absurd (let z = none-passing turn log n in cc) }
 
 decides-passing : (side : Side) (log : Log) (t : Turn) → (is_accept t || is_receive t) ≡ true → Decides side t log (turn_effect side log t)
 unfolding call_effect
-decides-passing side log (turns.Call calls.AcceptUni) p = decides-accept side (turns.Call calls.AcceptUni) log (peer_uni side) replies.Uni refl refl refl (λ g. refl) (λ k. refl)
-decides-passing side log (turns.Call calls.AcceptBi) p = decides-accept side (turns.Call calls.AcceptBi) log (peer_bi side) replies.Bi refl refl refl (λ g. refl) (λ k. refl)
+decides-passing side log (turns.Call calls.AcceptUni) p = decides-accept side (turns.Call calls.AcceptUni) log (peer_uni side) replies.Uni refl refl refl (λ g. refl) (λ g. refl) (λ k. refl)
+decides-passing side log (turns.Call calls.AcceptBi) p = decides-accept side (turns.Call calls.AcceptBi) log (peer_bi side) replies.Bi refl refl refl (λ g. refl) (λ g. refl) (λ k. refl)
 decides-passing side log (turns.Call calls.ReceiveDatagram) p =
     let t = turns.Call calls.ReceiveDatagram in
     decides-in side t log (receive_datagram side log) (established (calls_of log)) refl (λ d. ap (of_session (λ j. not (is_some (next_datagram side log)))) d)
-    (λ s at d. decides-receive side t refl refl (λ g. refl) s at (suc (length (datagrams_of (events_of log)))) log d (omega arith))
+    (λ d r x. told (passing_reply side t log) replies.NoSession _ (ap (λ z. Some (session_reply (λ j. datagram_reply side log (next_datagram side log)) z)) d) r x refl)
+    (λ s at d. decides-receive side t refl refl (λ g. refl) (λ g. refl) s at (suc (length (datagrams_of (events_of log)))) log d (omega arith))
 decides-passing side log (turns.Call _) p = absurd (cc)
 decides-passing side log _ p = absurd (cc)
 
@@ -534,8 +562,8 @@ pub pending-exactly : (side : Side) (log : Log) (turn : Turn) → is_lawful side
 pending-exactly side log turn l = at (is_accept turn || is_receive turn) refl
   where
     at : (b : Bool) → (is_accept turn || is_receive turn) ≡ b → PendingExactly side log turn
-    at true p = let d = decides-passing side log turn p in record { decided = d.decided; passes = d.passes; no_stream = d.no_stream; no_datagram = d.no_datagram; exactly = d.exactly }
-    at false p = let d = at-once side turn log (turn_effect side log turn) p (waits-turn side log turn l p) in record { decided = d.decided; passes = d.passes; no_stream = d.no_stream; no_datagram = d.no_datagram; exactly = d.exactly }
+    at true p = let d = decides-passing side log turn p in record { decided = d.decided; passes = d.passes; no_stream = d.no_stream; no_datagram = d.no_datagram; exactly = d.exactly; gives = d.gives }
+    at false p = let d = at-once side turn log (turn_effect side log turn) p (waits-turn side log turn l p) in record { decided = d.decided; passes = d.passes; no_stream = d.no_stream; no_datagram = d.no_datagram; exactly = d.exactly; gives = d.gives }
 
 -- ---- a connection that has ended
 

@@ -17,7 +17,7 @@ use Rattle.wt_laws.proofs.Facts.{Facts, IsSessions, facts-first, is_local, keeps
 use Rattle.wt_laws.proofs.Reached.{Law, holds, keeps-turn}
 use Rattle.wt_laws.proofs.Steps.{Keeps, by-entries}
 use Rattle.wt_laws.specs.Causes.{RecordCause, is_accept, is_receive, reads_from}
-use Rattle.wt_laws.specs.Laws.{ReadsInOrder, more_read, read_from}
+use Rattle.wt_laws.specs.Laws.{ReadsFromStart, ReadsInOrder, more_read, read_from}
 use Rattle.wt_laws.specs.Reachable.{AllLawful, Exchange, exchanges, is_among}
 use Rattle.wt_laws.specs.ReplyCauses.{ReplyCause}
 use Rattle.wt_laws.specs.Told.{Logged, NoRecord, OneRecord, Tells, ThenPolled, datagram_told, given_stream, is_quiet, read_piece, request_told, session_told}
@@ -364,3 +364,6 @@ in-order side k bytes log p = at p.anchor
 
 pub reads-in-order : (side : Side) (all : List Turn) → AllLawful side [] all → ReadsInOrder side (exchanges side all) (log_from side [] all)
 reads-in-order side all a k = in-order side k (read_from k (exchanges side all)) (log_from side [] all) ((holds side (ReadsHold side) (reads-law side) all a).each k)
+
+pub reads-from-start : (side : Side) (log : Log) → ReadsFromStart side log
+reads-from-start side log = λ k l. ap body_offset (local-unclassified side log k l)

@@ -26,7 +26,7 @@ use Rattle.wt_laws.proofs.SessionLaws.{HadRequest, Handshakes, from-request, han
 use Rattle.wt_laws.proofs.SettingsLaws.{close-on, opened-on, stops-on}
 use Rattle.wt_laws.proofs.Steps.{Keeps, KeepsEntries, blind-flush, by-entries, calls-with}
 use Rattle.wt_laws.specs.Causes.{ActionCause, ByAccept, ByOpening, OfHeader, OfRequest, OfResponse, OfWrite, OwnCauses, RecordCause, SendCause, bytes_for, is_under_way}
-use Rattle.wt_laws.specs.Laws.{SendsEnd, SendsInOrder, accepted_by, accepted_of}
+use Rattle.wt_laws.specs.Laws.{accepted_by, accepted_of}
 use Rattle.wt_laws.specs.Reachable.{IsReachable}
 use Rattle.wt_spec.specs.Answers.{answer_to, call_effect, is_lawful, log_after, turn_effect}
 use Rattle.wt_spec.specs.Connection.{accepts_stream, ends_opening, starts_opening}
@@ -109,7 +109,7 @@ given-holds : (side : Side) (log : Log) → IsReachable side log → Given side 
 given-holds side log r = reached (Given side) (record { facts_hold = facts-first side; handshakes = handshakes-first side; in_session = λ k e. absurd (cc) }) (λ turn. by-entries (given-entries side turn)) log r
 
 -- of a given stream: only a write sends on it
-record Alone (side : Side) (k : ℕ) (calls_ : List CallRecord) : Type 0 where
+pub record Alone (side : Side) (k : ℕ) (calls_ : List CallRecord) : Type 0 where
   pub no_opening : (list_any (starts_opening k) calls_ && not (list_any (ends_opening k) calls_)) ≡ false
   pub no_request : has_request (handshake_state calls_) ≡ true → requested calls_ ≢ k
   pub no_connect : (reserved : Option (List ℕ)) (head : List ℕ) → handshake_state calls_ ≢ Connecting reserved head
@@ -118,7 +118,7 @@ ended-opening : (a b : Bool) → b ≡ true → (a && not b) ≡ false
 ended-opening true b e = rw e refl
 ended-opening false b e = refl
 
-alone : (side : Side) (log : Log) (k : ℕ) → Given side log → is_accepted log k ≡ true → Alone side k (calls_of log)
+pub alone : (side : Side) (log : Log) (k : ℕ) → Given side log → is_accepted log k ≡ true → Alone side k (calls_of log)
 alone side log k g a = record {
   no_opening = ended-opening (list_any (starts_opening k) (calls_of log)) (list_any (ends_opening k) (calls_of log)) (accepted-ends k (calls_of log) a);
   no_request = λ r e. request (g.facts_hold.accepted k a) (g.handshakes.delivered (requested (calls_of log)) (g.handshakes.has_one r)) e;
@@ -140,7 +140,7 @@ other-piece side turn k (actions.Send id piece) log n s c = at (id == k) refl c.
     at true e (OfRequest reserved head h i z p) = absurd (s.no_connect reserved head h)
 other-piece side turn k _ log n s c = refl
 
-other-own : (side : Side) (turn : Turn) (k : ℕ) (own : List Action) (log : Log) → bytes_for k turn ≡ None → Alone side k (calls_of log) → OwnCauses side turn log own → sends_of k own ≡ []
+pub other-own : (side : Side) (turn : Turn) (k : ℕ) (own : List Action) (log : Log) → bytes_for k turn ≡ None → Alone side k (calls_of log) → OwnCauses side turn log own → sends_of k own ≡ []
 other-own side turn k [] log n s c = refl
 other-own side turn k (a ∷ own) log n s c = rw (other-piece side turn k a log n s c.0, other-own side turn k own (Sent a ∷ log) n s c.1) refl
 
@@ -154,7 +154,7 @@ record Unsent (side : Side) (k : ℕ) (bytes : List ℕ) (log : Log) : Type 0 wh
 accepted-more : (k : ℕ) (r : CallRecord) (log : Log) → list_any (accepts_stream k) (calls_of log) ≡ true → list_any (accepts_stream k) (r ∷ calls_of log) ≡ true
 accepted-more k r log e = or_right (accepts_stream k r) _ e
 
-flushed-accept : (side : Side) (e : Entry) (log : Log) (k : ℕ) → is_accepted (log_and_flush side log e) k ≡ is_accepted (e ∷ log) k
+pub flushed-accept : (side : Side) (e : Entry) (log : Log) (k : ℕ) → is_accepted (log_and_flush side log e) k ≡ is_accepted (e ∷ log) k
 flushed-accept side e log k = blind-flush (λ g. is_accepted g k) (λ a g. refl) side e log
 
 keeps-unsent : (side : Side) (turn : Turn) (k : ℕ) (bytes : List ℕ) → (local_uni side == k) ≡ false → bytes_for k turn ≡ None → Keeps side turn (Unsent side k bytes)
@@ -241,8 +241,9 @@ not-same a k n = at (a == k) refl
     at true e = absurd (n (sym (eqb-true a k e)))
     at false e = refl
 
-pub sends-in-order : (side : Side) (log : Log) (turn : Turn) → IsReachable side log → is_lawful side log turn ≡ true → SendsInOrder side log turn
-sends-in-order side log turn r l k n a = at (bytes_for k turn) refl
+pub given-sends : (side : Side) (log : Log) (turn : Turn) → IsReachable side log → is_lawful side log turn ≡ true → (k : ℕ) → k ≢ local_uni side → is_accepted log k ≡ true
+    → sent_on (actions_of (log_after side log turn)) k ≡ sent_on (actions_of log) k ++ accepted_by (bytes_for k turn) (answer_to side log turn).reply
+given-sends side log turn r l k n a = at (bytes_for k turn) refl
   where
     at : (o : Option (List ℕ)) → bytes_for k turn ≡ o → sent_on (actions_of (log_after side log turn)) k ≡ sent_on (actions_of log) k ++ accepted_by o (answer_to side log turn).reply
     at None e =
@@ -289,10 +290,31 @@ closed-turn side k bytes log (turns.Call (calls.WriteAll id bs)) s e = at (id ==
 closed-turn side k bytes log (turns.Call _) s e = absurd (cc)
 closed-turn side k bytes log _ s e = absurd (cc)
 
-pub sends-end : (side : Side) (log : Log) (turn : Turn) → IsReachable side log → is_lawful side log turn ≡ true → SendsEnd side log turn
-sends-end side log turn r l k n a f =
-    sends-in-order side log turn r l k n a ∙ ap (λ xs. sent_on (actions_of log) k ++ xs) (at (bytes_for k turn) refl) ∙ append-nil (sent_on (actions_of log) k)
+-- a write on a stream whose sending half the application hasn't
+no-half : (side : Side) (bytes : List ℕ) (log : Log) (call : ℕ → Effect) (k : ℕ) (b : Bool) → b ≡ false → accepted_of bytes (on_half b side log call k).reply ≡ []
+no-half side bytes log call k true n = absurd (cc)
+no-half side bytes log call k false n = refl
+
+no-half-turn : (side : Side) (k : ℕ) (bytes : List ℕ) (log : Log) (turn : Turn) → has_sending_half side log k ≡ false → bytes_for k turn ≡ Some bytes → accepted_of bytes (turn_effect side log turn).reply ≡ []
+unfolding call_effect
+no-half-turn side k bytes log (turns.Call (calls.Write id bs)) n e = at (id == k) refl e
   where
-    at : (o : Option (List ℕ)) → bytes_for k turn ≡ o → accepted_by o (answer_to side log turn).reply ≡ []
-    at None e = refl
-    at (Some bytes) e = closed-turn side k bytes log turn (closed-error log k f) e
+    at : (b : Bool) → (id == k) ≡ b → (if b then Some bs else None) ≡ Some bytes → accepted_of bytes (on_half (has_sending_half side log id) side log (λ j. write side log j bs) id).reply ≡ []
+    at false i e = absurd (cc)
+    at true i e = no-half side bytes log (λ j. write side log j bs) id (has_sending_half side log id) (ap (has_sending_half side log) (eqb-true id k i) ∙ n)
+no-half-turn side k bytes log (turns.Call (calls.WriteAll id bs)) n e = at (id == k) refl e
+  where
+    at : (b : Bool) → (id == k) ≡ b → (if b then Some bs else None) ≡ Some bytes → accepted_of bytes (on_half (has_sending_half side log id) side log (λ j. write_all side log j bs) id).reply ≡ []
+    at false i e = absurd (cc)
+    at true i e = no-half side bytes log (λ j. write_all side log j bs) id (has_sending_half side log id) (ap (has_sending_half side log) (eqb-true id k i) ∙ n)
+no-half-turn side k bytes log (turns.Call _) n e = absurd (cc)
+no-half-turn side k bytes log _ n e = absurd (cc)
+
+-- nothing is accepted for a stream that wasn't given, or was ended
+pub none-accepted : (side : Side) (k : ℕ) (log : Log) (turn : Turn) → (has_sending_half side log k ≡ false) ⊎ ((is_finished (actions_of log) k || is_reset log k) ≡ true) → accepted_by (bytes_for k turn) (answer_to side log turn).reply ≡ []
+none-accepted side k log turn w = at (bytes_for k turn) refl w
+  where
+    at : (o : Option (List ℕ)) → bytes_for k turn ≡ o → (has_sending_half side log k ≡ false) ⊎ ((is_finished (actions_of log) k || is_reset log k) ≡ true) → accepted_by o (answer_to side log turn).reply ≡ []
+    at None e w = refl
+    at (Some bytes) e (inl n) = no-half-turn side k bytes log turn n e
+    at (Some bytes) e (inr f) = closed-turn side k bytes log turn (closed-error log k f) e

@@ -1,7 +1,7 @@
 -- The session's own stream: what goes out on it is the frame of its request or of its response, and nothing else.
-use Rattle.std.specs.Prelude.{[], ◌&&◌, ◌++◌, ◌+◌, ◌/◌, ◌%◌, ◌<◌, ◌==◌, ◌||◌, ◌∷◌, ◌≡◌, ◌≢◌, ◌≤◌, ◌⊎◌, Bool, Err, List, None, Ok, Option, Result, Some, codes, drop, false, if◌then◌else◌, is_some, length, nat_lt, not, suc, take, true, unwrap_or, zero, ℕ}
-use Rattle.std.proofs.Common.{◌∙◌, ap, arith, inl, inr, length-take, refl, subst, sym}
-use Rattle.std.proofs.lemmas.Bool.{and_parts, eq-eqb, eqb-true, not-true, or_left, or_parts, or_right}
+use Rattle.std.specs.Prelude.{[], ◌&&◌, ◌++◌, ◌+◌, ◌/◌, ◌%◌, ◌==◌, ◌||◌, ◌∷◌, ◌≡◌, ◌≢◌, ◌⊎◌, Bool, List, None, Option, Some, codes, drop, false, if◌then◌else◌, is_some, length, nat_lt, not, suc, take, true, unwrap_or, zero, ℕ}
+use Rattle.std.proofs.Common.{◌∙◌, ap, arith, inl, inr, refl, subst, sym}
+use Rattle.std.proofs.lemmas.Bool.{and_parts, eq-eqb, eqb-true, not-true, or_parts, or_right}
 use Rattle.std.proofs.lemmas.List.{append-nil, drop_all}
 use Rattle.std.specs.List.{list_any}
 use Rattle.std.specs.Option.{option_or}
@@ -11,11 +11,10 @@ use Rattle.wt_seam_spec.specs.Outgoing.{covered, credit_left}
 use Rattle.wt_seam_spec.specs.Reports.{credit, is_acknowledged, stop_of, unis_allowed}
 use Rattle.wt_seam_spec.specs.Sent.{finishes, is_finished, sent_on}
 use Rattle.wt_seam_spec.specs.Streams.{local_bi, local_count, local_uni, opens, peer_uni}
-use Rattle.wt_turn.specs.Log.{CallRecord, Called, ConnectStarted, Entry, Event, HandshakeOver, Log, OpeningStarted, Polled, Received, Reported, ReportedLate, RequestDelivered, ResponseStarted, Sent, SessionEstablished, actions_of, calls_of, events_of, is_open, with_actions}
+use Rattle.wt_turn.specs.Log.{CallRecord, Called, ConnectStarted, Entry, HandshakeOver, Log, OpeningStarted, Polled, Received, Reported, ReportedLate, RequestDelivered, ResponseStarted, Sent, SessionEstablished, actions_of, calls_of, events_of, is_open, with_actions}
 use Rattle.wt_turn.specs.declared.action.Action.{Action}
 use Rattle.wt_turn.specs.declared.turn.Turn.{Turn}
 use Rattle.wt_wire.specs.Codes.{code_of}
-use Rattle.wt_wire.specs.HeaderList.{Fields}
 use Rattle.wt_wire.specs.declared.side.Side.{Side}
 use Rattle.wt_wire.specs.declared.side.Side.TheVariants.{Client, Server}
 use Rattle.wt_laws.proofs.Caused.{head-out}
@@ -24,15 +23,15 @@ use Rattle.wt_laws.proofs.HeaderLaws.{Heads, all-of-it, first-heads, further, he
 use Rattle.wt_laws.proofs.Looks.{from-or}
 use Rattle.wt_laws.proofs.Reached.{Law, holds, keeps-turn}
 use Rattle.wt_laws.proofs.ReadLaws.{local-unclassified}
-use Rattle.wt_laws.proofs.SendLaws.{given-entries, not-same}
+use Rattle.wt_laws.proofs.SendLaws.{not-same}
 use Rattle.wt_laws.proofs.Sends.{more-or-same, piece_on, with-piece}
 use Rattle.wt_laws.proofs.SessionLaws.{HadRequest, from-request, has_request, was-delivered}
 use Rattle.wt_laws.proofs.SettingsLaws.{ControlOut, first-control, keeps-control}
-use Rattle.wt_laws.proofs.Steps.{Brings, Keeps, KeepsEntries, by-entries, calls-logged, calls-with, of-record}
+use Rattle.wt_laws.proofs.Steps.{Keeps, KeepsEntries, by-entries, calls-logged, calls-with, of-record}
 use Rattle.wt_laws.specs.Causes.{ActionCause, ByAcceptance, ByAnswer, ByRejection, ByResponse, CallCause, EstablishCause, EstablishedBy, FinishCause, FromBefore, OfCall, OfHeader, OfRejection, OfRequest, OfResponse, OfWrite, OwnCauses, RecordCause, ResponseFrom, SendCause, frame_of, is_under_way}
 use Rattle.wt_laws.specs.Laws.{SessionStreamOut, is_session_stream, session_frame}
-use Rattle.wt_laws.specs.Reachable.{AllLawful, Exchange, exchanges}
-use Rattle.wt_spec.specs.Answers.{answer_to, call_effect, is_client, is_first, is_lawful, log_after, log_from, may_respond, turn_effect}
+use Rattle.wt_laws.specs.Reachable.{AfterTurn, AllLawful, AtStart, Exchange, IsReachable, exchanges}
+use Rattle.wt_spec.specs.Answers.{answer_to, call_effect, is_client, is_first, is_lawful, log_after, log_from, may_respond}
 use Rattle.wt_spec.specs.Connection.{accepts_stream, starts_opening}
 use Rattle.wt_spec.specs.Driver.{ControlSent, apply_if, close_actions, control_actions, control_sent, delivers, established, flush, is_moment, log_and_flush, opened_if, pending_actions, session_id, stop_actions, stream_table}
 use Rattle.wt_spec.specs.Effect.{Effect, closing, head_left, is_covered, log_call}
@@ -44,7 +43,7 @@ use Rattle.wt_turn.specs.declared.call.Call.TheVariants as calls
 use Rattle.wt_wire.specs.declared.error.ErrorCode.TheVariants as h3
 use Rattle.wt_turn.specs.declared.turn.Turn.TheVariants as turns
 
-record Out (side : Side) (frame : Option (List ℕ)) (log : Log) : Type 0 where
+pub record Out (side : Side) (frame : Option (List ℕ)) (log : Log) : Type 0 where
   pub heads : Heads side log
   pub begun : (k : ℕ) → is_session_stream side (calls_of log) k ≡ true → (n : ℕ) × (sent_on (actions_of log) k ≡ take n (unwrap_or frame []))
   pub responding : (accepts : Bool) (head : List ℕ) → handshake_state (calls_of log) ≡ Responding accepts head → frame ≡ Some head
@@ -66,11 +65,19 @@ on-server : (side : Side) (cs : List CallRecord) (k : ℕ) (b : Bool) → is_cli
 on-server side cs k true c e i = absurd (cc)
 on-server side cs k false c e i = ap (λ (b : Bool). if b then k == local_bi side else list_any (delivers k) cs) (sym c) ∙ i
 
-for-client : (side : Side) (cs : List CallRecord) (k : ℕ) → is_client side ≡ true → k ≡ local_bi side → is_session_stream side cs k ≡ true
+pub for-client : (side : Side) (cs : List CallRecord) (k : ℕ) → is_client side ≡ true → k ≡ local_bi side → is_session_stream side cs k ≡ true
 for-client side cs k c e = ap (λ (b : Bool). if b then k == local_bi side else list_any (delivers k) cs) c ∙ eq-eqb k (local_bi side) e
 
-for-server : (side : Side) (cs : List CallRecord) (k : ℕ) → is_client side ≡ false → list_any (delivers k) cs ≡ true → is_session_stream side cs k ≡ true
+pub for-server : (side : Side) (cs : List CallRecord) (k : ℕ) → is_client side ≡ false → list_any (delivers k) cs ≡ true → is_session_stream side cs k ≡ true
 for-server side cs k c e = ap (λ (b : Bool). if b then k == local_bi side else list_any (delivers k) cs) c ∙ e
+
+-- a stream of the session stays so
+pub more-sessions : (side : Side) (cs : List CallRecord) (r : CallRecord) (k : ℕ) → is_session_stream side cs k ≡ true → is_session_stream side (r ∷ cs) k ≡ true
+more-sessions side cs r k i = at (is_client side) refl
+  where
+    at : (b : Bool) → is_client side ≡ b → is_session_stream side (r ∷ cs) k ≡ true
+    at true c = for-client side (r ∷ cs) k c (on-client side cs k true c refl i)
+    at false c = for-server side (r ∷ cs) k c (or_right (delivers k r) _ (on-server side cs k false c refl i))
 
 is-local-bi : (side : Side) → is_local side (local_bi side) ≡ true
 is-local-bi Client = refl
@@ -80,7 +87,7 @@ is-local-uni : (side : Side) → is_local side (local_uni side) ≡ true
 is-local-uni Client = refl
 is-local-uni Server = refl
 
-not-true-so : (b : Bool) → (b ≡ true → ⊥) → b ≡ false
+pub not-true-so : (b : Bool) → (b ≡ true → ⊥) → b ≡ false
 not-true-so true f = absurd (f refl)
 not-true-so false f = refl
 
@@ -144,7 +151,7 @@ module _ (side : Side) (frame : Option (List ℕ)) where
       at true c = absurd (let e = on-client side (calls_of log) k true c refl i in let x = ap (λ j. list_any (starts_opening j) (calls_of log)) e in let y = h.no_opening c in cc)
       at false c = request-not-local log k h (on-server side (calls_of log) k false c refl i) (h.heads.given.facts_hold.openings k o)
 
-  not-given : (log : Log) (k : ℕ) → Out side frame log → is_session_stream side (calls_of log) k ≡ true → is_accepted log k ≡ true → ⊥
+  pub not-given : (log : Log) (k : ℕ) → Out side frame log → is_session_stream side (calls_of log) k ≡ true → is_accepted log k ≡ true → ⊥
   not-given log k h i a = at (is_client side) refl
     where
       at : (b : Bool) → is_client side ≡ b → ⊥
@@ -154,7 +161,7 @@ module _ (side : Side) (frame : Option (List ℕ)) where
           not-started log k h i (h.heads.local_accepted k l a)
       at false c = request-not-given log k h (on-server side (calls_of log) k false c refl i) a
 
-  not-control-stream : (log : Log) (k : ℕ) → Out side frame log → is_session_stream side (calls_of log) k ≡ true → k ≢ local_uni side
+  pub not-control-stream : (log : Log) (k : ℕ) → Out side frame log → is_session_stream side (calls_of log) k ≡ true → k ≢ local_uni side
   not-control-stream log k h i e = at (is_client side) refl
     where
       other : (sd : Side) → local_bi sd ≢ local_uni sd
@@ -304,7 +311,7 @@ module _ (side : Side) (frame : Option (List ℕ)) where
         at k i true e f = h.finished k i e ∙ ap Some (sym (same-sent log k a (action-finished log k a h i e c)))
         at k i false e f = new-finished log k a h i (from-or (finishes k a) false (λ x. x) (λ x. absurd (cc)) f) c
 
-    out-own : (own : List Action) (log : Log) → OwnCauses side turn log own → Out side frame log → Out side frame (with_actions own log)
+    pub out-own : (own : List Action) (log : Log) → OwnCauses side turn log own → Out side frame log → Out side frame (with_actions own log)
     out-own [] log c h = h
     out-own (a ∷ own) log c h = out-own own (Sent a ∷ log) c.1 (out-action log a c.0 h)
 
@@ -356,13 +363,6 @@ module _ (side : Side) (frame : Option (List ℕ)) where
             older : (b : Bool) → list_any (delivers k) (calls_of then_) ≡ b → (delivers k r || b) ≡ true → (is_session_stream side (calls_of then_) k ≡ true) ⊎ ((is_client side ≡ false) × (delivers k r ≡ true) × (list_any (delivers k) (calls_of then_) ≡ false))
             older true e d = inl (for-server side (calls_of then_) k c e)
             older false e d = inr (c, from-or (delivers k r) false (λ x. x) (λ x. absurd (cc)) d, e)
-
-    more-sessions : (r : CallRecord) (k : ℕ) → is_session_stream side (calls_of then_) k ≡ true → is_session_stream side (r ∷ calls_of then_) k ≡ true
-    more-sessions r k i = at (is_client side) refl
-      where
-        at : (b : Bool) → is_client side ≡ b → is_session_stream side (r ∷ calls_of then_) k ≡ true
-        at true c = for-client side (r ∷ calls_of then_) k c (on-client side (calls_of then_) k true c refl i)
-        at false c = for-server side (r ∷ calls_of then_) k c (or_right (delivers k r) _ (on-server side (calls_of then_) k false c refl i))
 
     -- nothing was sent on a stream whose request is delivered now
     new-untouched : (r : CallRecord) (k : ℕ) → Out side frame then_ → HadRequest side then_ k → list_any (delivers k) (calls_of then_) ≡ false → (sent_on (actions_of then_) k ≡ []) × (is_finished (actions_of then_) k ≡ false)
@@ -461,8 +461,8 @@ module _ (side : Side) (frame : Option (List ℕ)) where
     record-whole (SessionEstablished id at_) h c s at e =
         let x : id ≡ s = ap session_id e in
         let y = stands id at_ h c in
-        (more-sessions (SessionEstablished id at_) s (subst (λ (j : ℕ). is_session_stream side (calls_of then_) j ≡ true) x y.of_session), y.is_out ∙ ap (λ j. Some (sent_on (actions_of then_) j)) x)
-    record-whole r h c s at e = let w = h.whole s at e in (more-sessions r s w.0, w.1)
+        (more-sessions side (calls_of then_) (SessionEstablished id at_) s (subst (λ (j : ℕ). is_session_stream side (calls_of then_) j ≡ true) x y.of_session), y.is_out ∙ ap (λ j. Some (sent_on (actions_of then_) j)) x)
+    record-whole r h c s at e = let w = h.whole s at e in (more-sessions side (calls_of then_) r s w.0, w.1)
 
     record-no-opening : (r : CallRecord) → Out side frame log → CallCause side turn log own r → is_client side ≡ true → starts_opening (local_bi side) r ≡ true → ⊥
     record-no-opening (OpeningStarted id s) h c b e =
@@ -506,7 +506,7 @@ module _ (side : Side) (frame : Option (List ℕ)) where
 
 -- ---- a turn
 
-record Both (side : Side) (frame : Option (List ℕ)) (log : Log) : Type 0 where
+pub record Both (side : Side) (frame : Option (List ℕ)) (log : Log) : Type 0 where
   pub control : ControlOut side log
   pub out : Out side frame log
 
@@ -524,7 +524,7 @@ out-entry side frame e log c a g h = record {
   finished = rw (c, a) h.finished;
 }
 
-keeps-out : (side : Side) (frame : Option (List ℕ)) (turn : Turn) → ((head : List ℕ) → frame_of turn ≡ Some head → frame ≡ Some head) → Keeps side turn (Both side frame)
+pub keeps-out : (side : Side) (frame : Option (List ℕ)) (turn : Turn) → ((head : List ℕ) → frame_of turn ≡ Some head → frame ≡ Some head) → Keeps side turn (Both side frame)
 keeps-out side frame turn t = record {
   event = λ log e o b p. record { control = (keeps-control side turn).event log e o b p.control; out = out-flush side frame (Reported e) log (out-entry side frame (Reported e) log refl refl (heads-event side turn e log o b p.out.heads) p.out) };
   late = λ log e o b p. record {
@@ -555,7 +555,7 @@ out-first side frame = record {
 -- ---- the call that answers a request
 
 -- the request wasn't delivered, or isn't answered
-abbrev is_unanswered : HandshakeState → Bool
+abbrev pub is_unanswered : HandshakeState → Bool
 is_unanswered AwaitingRequest = true
 is_unanswered (Requested id) = true
 is_unanswered _ = false
@@ -610,7 +610,7 @@ module _ (side : Side) (log : Log) where
       (answered-leaf log (send_of id (covered log id left)) (ResponseStarted false head) refl)))
 
 -- what a turn with a frame is: a client's first, or a server's answer to a request
-data Begins (side : Side) (log : Log) (turn : Turn) : Type 0 where
+pub data Begins (side : Side) (log : Log) (turn : Turn) : Type 0 where
   Connects : is_client side ≡ true → log ≡ [] → Begins side log turn
   Answers : (id : ℕ) → is_client side ≡ false → handshake_state (calls_of log) ≡ Requested id → is_unanswered (handshake_state (calls_of (log_after side log turn))) ≡ false → Begins side log turn
 
@@ -625,7 +625,7 @@ answers side log turn l n = let a = and_parts (not (is_client side)) _ l in at (
     at (Requested id) e w c = Answers id c e n
     at _ e w c = absurd (cc)
 
-begins : (side : Side) (log : Log) (turn : Turn) (head : List ℕ) → frame_of turn ≡ Some head → is_lawful side log turn ≡ true → Begins side log turn
+pub begins : (side : Side) (log : Log) (turn : Turn) (head : List ℕ) → frame_of turn ≡ Some head → is_lawful side log turn ≡ true → Begins side log turn
 unfolding call_effect
 begins side log (turns.Call (calls.Connect options lookup outcome)) head f l = let a = and_parts (is_client side) (is_first log) l in Connects a.0 (empty-log log a.1)
 begins side log (turns.Call (calls.Accept headers)) head f l = answers side log (turns.Call (calls.Accept headers)) l (answered-response side log true (response_head (codes "200") headers))
@@ -637,7 +637,7 @@ begins side log _ head f l = absurd (cc)
 
 -- ---- the law
 
-record SoFar (side : Side) (before : List Exchange) (log : Log) : Type 0 where
+pub record SoFar (side : Side) (before : List Exchange) (log : Log) : Type 0 where
   pub both : Both side (session_frame before) log
   pub unanswered : is_client side ≡ false → is_unanswered (handshake_state (calls_of log)) ≡ true → session_frame before ≡ None
 
@@ -660,7 +660,24 @@ reframed side frame log id s h = record {
     none-of zero = refl
     none-of (suc n) = refl
 
-so-far-turn : (side : Side) (before : List Exchange) (log : Log) (t : Turn) → is_lawful side log t ≡ true → SoFar side before log → SoFar side (record { turn = t; answer = answer_to side log t } ∷ before) (log_after side log t)
+-- the frame that holds during a turn, at its start
+pub record TurnStart (side : Side) (log : Log) (t : Turn) : Type 0 where
+  pub frame : Option (List ℕ)
+  pub for_turn : (head : List ℕ) → frame_of t ≡ Some head → frame ≡ Some head
+  pub both : Both side frame log
+
+begun-so : (side : Side) (before : List Exchange) (log : Log) (t : Turn) (f : List ℕ) → SoFar side before log → frame_of t ≡ Some f → Begins side log t → Both side (Some f) log
+begun-so side before log t f p e (Connects c n) = subst (λ g. Both side (Some f) g) (sym n) (record { control = first-control side; out = out-first side (Some f) })
+begun-so side before log t f p e (Answers id c s n) = record { control = p.both.control; out = reframed side (Some f) log id s (subst (λ o. Out side o log) (p.unanswered c (ap is_unanswered s)) p.both.out) }
+
+pub start-of-turn : (side : Side) (before : List Exchange) (log : Log) (t : Turn) → is_lawful side log t ≡ true → SoFar side before log → TurnStart side log t
+start-of-turn side before log t l p = at (frame_of t) refl
+  where
+    at : (o : Option (List ℕ)) → frame_of t ≡ o → TurnStart side log t
+    at None e = record { frame = session_frame before; for_turn = λ head f. absurd (cc); both = p.both }
+    at (Some f) e = record { frame = Some f; for_turn = λ head x. sym e ∙ x; both = begun-so side before log t f p e (begins side log t f e l) }
+
+pub so-far-turn : (side : Side) (before : List Exchange) (log : Log) (t : Turn) → is_lawful side log t ≡ true → SoFar side before log → SoFar side (record { turn = t; answer = answer_to side log t } ∷ before) (log_after side log t)
 so-far-turn side before log t l p = at (frame_of t) refl
   where
     kept-so : (frame : Option (List ℕ)) → ((head : List ℕ) → frame_of t ≡ Some head → frame ≡ Some head) → Both side frame log → Both side frame (log_after side log t)
@@ -669,16 +686,10 @@ so-far-turn side before log t l p = at (frame_of t) refl
     later : Option (List ℕ)
     later = session_frame (record { turn = t; answer = answer_to side log t } ∷ before)
 
-    begun-so : (f : List ℕ) → frame_of t ≡ Some f → later ≡ Some f → Begins side log t → SoFar side (record { turn = t; answer = answer_to side log t } ∷ before) (log_after side log t)
-    begun-so f e q (Connects c n) = record {
-      both = subst (λ o. Both side o (log_after side log t)) (sym q) (kept-so (Some f) (λ head x. sym e ∙ x) (subst (λ g. Both side (Some f) g) (sym n) (record { control = first-control side; out = out-first side (Some f) })));
-      unanswered = λ d u. absurd (cc);
-    }
-    begun-so f e q (Answers id c s n) = record {
-      both = subst (λ o. Both side o (log_after side log t)) (sym q)
-          (kept-so (Some f) (λ head x. sym e ∙ x) (record { control = p.both.control; out = reframed side (Some f) log id s (subst (λ o. Out side o log) (p.unanswered c (ap is_unanswered s)) p.both.out) }));
-      unanswered = λ d u. absurd (cc);
-    }
+    -- after a turn with a frame a server's request is answered
+    not-after : Begins side log t → is_client side ≡ false → is_unanswered (handshake_state (calls_of (log_after side log t))) ≡ true → later ≡ None
+    not-after (Connects c n) d u = absurd (cc)
+    not-after (Answers id c s n) d u = absurd (cc)
 
     at : (o : Option (List ℕ)) → frame_of t ≡ o → SoFar side (record { turn = t; answer = answer_to side log t } ∷ before) (log_after side log t)
     at None e =
@@ -687,13 +698,24 @@ so-far-turn side before log t l p = at (frame_of t) refl
           both = subst (λ o. Both side o (log_after side log t)) (sym q) (kept-so (session_frame before) (λ head x. absurd (cc)) p.both);
           unanswered = λ c u. q ∙ p.unanswered c (unanswered-before side log t l u);
         }
-    at (Some f) e = begun-so f e (ap (λ o. option_or o (session_frame before)) e) (begins side log t f e l)
+    at (Some f) e =
+        let q : later ≡ Some f = ap (λ o. option_or o (session_frame before)) e in
+        let b = begins side log t f e l in
+        record { both = subst (λ o. Both side o (log_after side log t)) (sym q) (kept-so (Some f) (λ head x. sym e ∙ x) (begun-so side before log t f p e b)); unanswered = not-after b }
 
-so-far : (side : Side) → Law side (SoFar side)
+pub so-far : (side : Side) → Law side (SoFar side)
 so-far side = record {
   first = record { both = record { control = first-control side; out = out-first side None }; unanswered = λ c u. refl };
   turn = λ before log t l p. so-far-turn side before log t l p;
 }
+
+so-far-after : (side : Side) (log : Log) (turn : Turn) → is_lawful side log turn ≡ true → (before : List Exchange) × SoFar side before log → (before : List Exchange) × SoFar side before (log_after side log turn)
+so-far-after side log turn l s = (record { turn = turn; answer = answer_to side log turn } ∷ s.0, so-far-turn side s.0 log turn l s.1)
+
+-- what holds so far holds of each log that lawful turns lead to, behind some exchanges
+pub so-far-reached : (side : Side) (log : Log) → IsReachable side log → (before : List Exchange) × SoFar side before log
+so-far-reached side log AtStart = ([], (so-far side).first)
+so-far-reached side log (AfterTurn turn r l) = so-far-after side _ turn l (so-far-reached side _ r)
 
 pub session-stream-out : (side : Side) (all : List Turn) → AllLawful side [] all → SessionStreamOut side (exchanges side all) (log_from side [] all)
 session-stream-out side all a =

@@ -241,7 +241,7 @@ untouched-event side turn e log o b u = record {
 }
 
 -- the connection is established once
-connected-fits : (side : Side) (log : Log) (turn : Turn) (uni bi c : ℕ) (d : DatagramFact) → event_of turn ≡ Some (Connected uni bi c d) → fits side log turn ≡ true → is_connected (all_events_of log) ≡ false
+pub connected-fits : (side : Side) (log : Log) (turn : Turn) (uni bi c : ℕ) (d : DatagramFact) → event_of turn ≡ Some (Connected uni bi c d) → fits side log turn ≡ true → is_connected (all_events_of log) ≡ false
 connected-fits side log (turns.Connected u b t f) uni bi c d e l =
     let a = (and_parts (may_come side log (turns.Connected u b t f)) _ l).0 in
     not-true _ (second (may_begin side log) (not (is_connected (all_events_of log))) (not (nat_lt (2 ^ 60) u)) (not (nat_lt (2 ^ 60) b)) (nat_lt t (2 ^ 62)) a)
@@ -258,7 +258,7 @@ uni-fits side log (turns.MaxUni m) total e l =
 uni-fits side log _ total e l = absurd (cc)
 
 -- credit never falls
-data-fits : (side : Side) (log : Log) (turn : Turn) (id total : ℕ) → event_of turn ≡ Some (MaxData id total) → fits side log turn ≡ true → credit (all_events_of log) id ≤ total
+pub data-fits : (side : Side) (log : Log) (turn : Turn) (id total : ℕ) → event_of turn ≡ Some (MaxData id total) → fits side log turn ≡ true → credit (all_events_of log) id ≤ total
 data-fits side log (turns.MaxData j m) id total e l =
     let a = (and_parts (may_come side log (turns.MaxData j m)) _ l).0 in
     let b = (and_parts (is_connected (all_events_of log) && can_send side log j && not (nat_lt m (credit (all_events_of log) j))) _ a).0 in
@@ -282,7 +282,7 @@ connected-event side turn log (Connected u b c d) x f z = absurd (cc)
 connected-event side turn log (MaxUni total) x f z = absurd (let y = uni-fits side log turn total x.told x.lawful in cc)
 connected-event side turn log _ x f z = (f, z)
 
-before-connected : (side : Side) (turn : Turn) (log : Log) (e : Event) → Brings side turn log e → is_connected (e ∷ all_events_of log) ≡ false → is_connected (all_events_of log) ≡ false
+pub before-connected : (side : Side) (turn : Turn) (log : Log) (e : Event) → Brings side turn log e → is_connected (e ∷ all_events_of log) ≡ false → is_connected (all_events_of log) ≡ false
 before-connected side turn log (Connected u b c d) x f = absurd (cc)
 before-connected side turn log _ x f = f
 

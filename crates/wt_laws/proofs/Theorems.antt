@@ -1,27 +1,45 @@
 -- The laws, by the names that contracts cite.
-use Rattle.std.specs.Prelude.{[], ◌≡◌, List, false, true, ℕ}
-use Rattle.wt_turn.specs.Log.{Log, is_open}
+use Rattle.std.specs.Prelude.{[], ◌++◌, ◌≡◌, List, Option, Some, false, true, ℕ}
+use Rattle.wt_seam_spec.specs.Streams.{peer_bi}
+use Rattle.wt_turn.specs.Log.{Log, calls_of, is_open}
+use Rattle.wt_turn.specs.declared.call.Call.{Call}
 use Rattle.wt_turn.specs.declared.turn.Turn.{Turn}
+use Rattle.wt_wire.specs.HeaderList.{Fields}
+use Rattle.wt_wire.specs.declared.lookup.ConnectOutcome.{ConnectOutcome}
+use Rattle.wt_wire.specs.declared.lookup.Lookup.{Lookup}
 use Rattle.wt_wire.specs.declared.side.Side.{Side}
 use Rattle.wt_laws.proofs.AfterEnd.{nothing-after-end}
 use Rattle.wt_laws.proofs.CauseLaws.{actions-have-causes, reply-has-cause}
+use Rattle.wt_laws.proofs.CreditLaws.{within-credit}
 use Rattle.wt_laws.proofs.Cutting.{cuts-well}
 use Rattle.wt_laws.proofs.DatagramLaws.{datagrams-in-order}
 use Rattle.wt_laws.proofs.EndLaws.{fault-closes, open-exactly, result-stays}
+use Rattle.wt_laws.proofs.ExactLaws.{asks-first, connect-goes-on, connects-answer, receiving-calls, request-goes-on, requests-answer, responses-answer, sending-calls, session-calls}
+use Rattle.wt_laws.proofs.HeadSends.{heads-go-out}
 use Rattle.wt_laws.proofs.HeaderLaws.{headers-out}
+use Rattle.wt_laws.proofs.OrderLaws.{in-order-of-opening}
 use Rattle.wt_laws.proofs.PendingLaws.{none-waits-ended, pending-exactly}
 use Rattle.wt_laws.proofs.Reached.{reachable}
-use Rattle.wt_laws.proofs.ReadLaws.{reads-in-order}
-use Rattle.wt_laws.proofs.SendLaws.{sends-end, sends-in-order}
+use Rattle.wt_laws.proofs.ReadLaws.{reads-from-start, reads-in-order}
+use Rattle.wt_laws.proofs.AllSends.{sends-end, sends-in-order}
 use Rattle.wt_laws.proofs.SessionLaws.{one-session, session-told, sessions-rightly}
+use Rattle.wt_laws.proofs.RunLaws.{done-late, runs-lawful, runs-longest, stays-behind}
 use Rattle.wt_laws.proofs.SessionStream.{session-stream-out}
 use Rattle.wt_laws.proofs.SettingsLaws.{settings-out}
 use Rattle.wt_laws.proofs.StreamLaws.{streams-accepted-rightly}
 use Rattle.wt_laws.proofs.TakenLaws.{taken-goes-out}
-use Rattle.wt_laws.specs.Laws.{ActionsHaveCauses, CutsWell, DatagramsInOrder, FaultCloses, HeadersOut, NothingAfterEnd, OneSession, OpenExactly, ReadsInOrder, ReplyHasCause, ResultStays, SendsEnd, SendsInOrder, SessionStreamOut, SessionTold, SessionsRightly, SettingsOut, StreamsAcceptedRightly, TakenGoesOut}
+use Rattle.wt_laws.proofs.WrittenLaws.{sends-all}
+use Rattle.wt_laws.specs.Exactly.{AsksFirst, ConnectGoesOn, ConnectsAnswer, HeadsGoOut, MaySend, ReceivingCallsAnswer, RequestGoesOn, RequestsAnswer, ResponsesAnswer, SendingCallsAnswer, SessionCallsAnswer}
+use Rattle.wt_laws.specs.Laws.{ActionsHaveCauses, CutsWell, DatagramsInOrder, FaultCloses, HeadersOut, NothingAfterEnd, OneSession, OpenExactly, ReadsFromStart, ReadsInOrder, ReplyHasCause, ResultStays, SendsAll, SendsEnd, SendsInOrder, SessionStreamOut, SessionTold, SessionsRightly, SettingsOut, StreamsAcceptedRightly, TakenGoesOut, WithinCredit}
 use Rattle.wt_laws.specs.Left.{PendingExactly, is_pending}
 use Rattle.wt_laws.specs.Reachable.{AllLawful, IsReachable, exchanges}
+use Rattle.wt_laws.specs.ReplyCauses.{is_call}
+use Rattle.wt_laws.specs.Runs.{DoneLate, InOrderOfOpening, RunsLawful, RunsLongest, StaysSo}
 use Rattle.wt_spec.specs.Answers.{answer_to, is_lawful, log_from}
+use Rattle.wt_spec.specs.Driver.{established, stream_table}
+use Rattle.wt_spec.specs.Halves.{has_receiving_half, has_sending_half}
+use Rattle.wt_spec.specs.Handshake.{Connecting, handshake_state}
+use Rattle.wt_turn.specs.declared.turn.Turn.TheVariants as turns
 
 pub sessions_theorem : (side : Side) (log : Log) → IsReachable side log → SessionsRightly side log
 sessions_theorem = sessions-rightly
@@ -88,3 +106,57 @@ ended_theorem = none-waits-ended
 
 pub session_stream_theorem : (side : Side) (all : List Turn) → AllLawful side [] all → SessionStreamOut side (exchanges side all) (log_from side [] all)
 session_stream_theorem = session-stream-out
+
+pub runs_theorem : (side : Side) (all : List Turn) → RunsLongest side all
+runs_theorem = runs-longest
+
+pub lawful_runs_theorem : (side : Side) (all : List Turn) → RunsLawful side all
+lawful_runs_theorem = runs-lawful
+
+pub stays_theorem : (side : Side) (more earlier : Log) → StaysSo side earlier (more ++ earlier)
+stays_theorem = stays-behind
+
+pub late_theorem : (side : Side) (log : Log) (turn : Turn) → is_call turn ≡ false → is_open log ≡ false → DoneLate side log turn
+late_theorem = done-late
+
+pub asks_first_theorem : (side : Side) (log : Log) (call : Call) → AsksFirst side log call
+asks_first_theorem = asks-first
+
+pub session_calls_theorem : (side : Side) (log : Log) (s at : ℕ) → established (calls_of log) ≡ Some (s, at) → SessionCallsAnswer side log s
+session_calls_theorem = session-calls
+
+pub sending_calls_theorem : (side : Side) (log : Log) (k : ℕ) → has_sending_half side log k ≡ true → SendingCallsAnswer side log k
+sending_calls_theorem = sending-calls
+
+pub receiving_calls_theorem : (side : Side) (log : Log) (k : ℕ) → has_receiving_half side log k ≡ true → ReceivingCallsAnswer side log k
+receiving_calls_theorem = receiving-calls
+
+pub requests_theorem : (side : Side) (log : Log) → RequestsAnswer side log
+requests_theorem = requests-answer
+
+pub responses_theorem : (side : Side) (log : Log) (call : Call) → ResponsesAnswer side log call
+responses_theorem = responses-answer
+
+pub connects_theorem : (side : Side) (log : Log) (text : List ℕ) (headers : Fields) (lookup : Lookup) (outcome : ConnectOutcome) → ConnectsAnswer side log text headers lookup outcome
+connects_theorem = connects-answer
+
+pub connect_theorem : (side : Side) (log : Log) (reserved : Option (List ℕ)) (head : List ℕ) → handshake_state (calls_of log) ≡ Connecting reserved head → ConnectGoesOn side log reserved head
+connect_theorem = connect-goes-on
+
+pub request_theorem : (side : Side) (log : Log) (head : List ℕ) → MaySend side log head → RequestGoesOn side log head
+request_theorem = request-goes-on
+
+pub own_reads_theorem : (side : Side) (log : Log) → ReadsFromStart side log
+own_reads_theorem = reads-from-start
+
+pub sends_all_theorem : (side : Side) (all : List Turn) → AllLawful side [] all → SendsAll side (exchanges side all) (log_from side [] all)
+sends_all_theorem = sends-all
+
+pub within_credit_theorem : (side : Side) (log : Log) → IsReachable side log → WithinCredit side log
+within_credit_theorem = within-credit
+
+pub heads_theorem : (side : Side) (log : Log) (call : Call) → IsReachable side log → is_lawful side log (turns.Call call) ≡ true → HeadsGoOut side log call
+heads_theorem = heads-go-out
+
+pub order_theorem : (side : Side) (log : Log) → InOrderOfOpening (peer_bi side) (stream_table side log).classified
+order_theorem = in-order-of-opening

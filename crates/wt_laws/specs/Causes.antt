@@ -1,5 +1,5 @@
 -- Why a call records what it does, and why it sends what it does: each record and each action has one of these causes.
-use Rattle.std.specs.Prelude.{[], ◌%◌, ◌*◌, ◌/◌, ◌==◌, ◌||◌, ◌∷◌, ◌≡◌, ◌≢◌, ◌≤◌, Bool, Err, List, None, Ok, Option, Result, Some, bytes_eq, codes, false, if◌then◌else◌, length, nat_lt, true, ℕ}
+use Rattle.std.specs.Prelude.{[], ◌%◌, ◌*◌, ◌/◌, ◌==◌, ◌||◌, ◌∷◌, ◌≡◌, ◌≢◌, ◌≤◌, Bool, Err, List, None, Ok, Option, Result, Some, bytes_eq, codes, false, if◌then◌else◌, is_some, length, nat_lt, true, ℕ}
 use Rattle.url.specs.Parser.{parse_url}
 use Rattle.url.specs.Parts.{Parts, host_or_empty}
 use Rattle.url.specs.declared.error.ParseError.{ParseError}
@@ -8,7 +8,7 @@ use Rattle.wt_message.specs.FixedBytes.{response_bytes}
 use Rattle.wt_proto.specs.ResponseWalk.{response_walk_of}
 use Rattle.wt_seam_spec.specs.Joined.{send_of}
 use Rattle.wt_seam_spec.specs.Outgoing.{covered, may_open, next_id, opening}
-use Rattle.wt_seam_spec.specs.Reports.{datagram_fact, end_of, stop_of}
+use Rattle.wt_seam_spec.specs.Reports.{datagram_fact, end_of, is_acknowledged, stop_of}
 use Rattle.wt_seam_spec.specs.Sent.{is_finished, is_reset}
 use Rattle.wt_seam_spec.specs.Streams.{contents, local_bi, local_count, local_uni, peer_bi, peer_uni}
 use Rattle.wt_turn.specs.Log.{BytesRead, CallRecord, ConnectStarted, DatagramPassed, DatagramReceived, HandshakeOver, Log, OpeningFailed, OpeningStarted, Polled, PrioritySet, RequestDelivered, ResetUnsent, ResponseStarted, Sent, SessionEstablished, StreamAccepted, StreamGivenUp, StreamPassed, actions_of, calls_of, events_of, is_open, with_actions}
@@ -218,6 +218,17 @@ CallCause side turn log own r = RecordCause side turn (with_actions own log) r
 
 -- ---- the causes of actions; the log holds those of the call's own that went out before
 
+-- the kind of the streams that a call opens
+abbrev pub opened_kind : Side → Turn → Option ℕ
+opened_kind side (turns.Call calls.OpenUni) = Some (local_uni side)
+opened_kind side (turns.Call calls.OpenBi) = Some (local_bi side)
+opened_kind side _ = None
+
+-- why a stream of this kind is opened: the call opens one, or a connect under way opens that of its request, which has none yet
+pub data OpenCause (side : Side) (turn : Turn) (log : Log) (kind : ℕ) : Type 0 where
+  OfCall : opened_kind side turn ≡ Some kind → OpenCause side turn log kind
+  OfRequest : (reserved : Option (List ℕ)) (head : List ℕ) → handshake_state (calls_of log) ≡ Connecting reserved head → settings_came side log ≡ true → kind ≡ local_bi side → local_count (actions_of log) (local_bi side) ≡ 0 → OpenCause side turn log kind
+
 -- what a call sends on a stream
 pub data SendCause (side : Side) (turn : Turn) (log : Log) (k : ℕ) (piece : List ℕ) : Type 0 where
   OfWrite : (bytes : List ℕ) → bytes_for k turn ≡ Some bytes → has_sending_half side log k ≡ true → write_error log k ≡ None → piece ≡ covered log k bytes → SendCause side turn log k piece
@@ -235,9 +246,19 @@ pub data StopCause (side : Side) (turn : Turn) (log : Log) (k code : ℕ) : Type
   OfPass : FoundStream side turn log k false → code ≡ code_of h3.BufferedStreamRejected → StopCause side turn log k code
   OfCall : turn ≡ turns.Call (calls.StopRecv k code) → has_receiving_half side log k ≡ true → StopCause side turn log k code
 
+-- why a handshake fails or is rejected with no fault of the peer's: a rejection is over, a reserved name is among the headers,
+-- the peer stopped the request before it was out, its response has no success, or its stream ended before a response
+pub data HandshakeFailure (side : Side) (turn : Turn) (log : Log) : Type 0 where
+  Rejects : (head : List ℕ) → ResponseFrom turn (calls_of log) false head → is_finished (actions_of log) (requested (calls_of log)) ≡ true
+      → (is_some (stop_of (events_of log) (requested (calls_of log))) || is_acknowledged (events_of log) (requested (calls_of log))) ≡ true → HandshakeFailure side turn log
+  Reserves : (name head : List ℕ) → handshake_state (calls_of log) ≡ Connecting (Some name) head → settings_came side log ≡ true → HandshakeFailure side turn log
+  Stops : (reserved : Option (List ℕ)) (head : List ℕ) → handshake_state (calls_of log) ≡ Connecting reserved head → is_refused log (local_bi side) (head_left log (local_bi side) head) ≡ true → HandshakeFailure side turn log
+  Declines : (fields : Fields) (at : ℕ) → response_walk_of (contents log (local_bi side)) (end_of (events_of log) (local_bi side)) ≡ responses.Response fields at → has_success fields ≡ false → HandshakeFailure side turn log
+  EndsStream : response_walk_of (contents log (local_bi side)) (end_of (events_of log) (local_bi side)) ≡ responses.Ended → HandshakeFailure side turn log
+
 -- the code with which a handshake that fails closes the connection
 pub data HandshakeCode (side : Side) (turn : Turn) (log : Log) (code : ℕ) : Type 0 where
-  Plain : code ≡ 0 → HandshakeCode side turn log code
+  Plain : HandshakeFailure side turn log → code ≡ 0 → HandshakeCode side turn log code
   StoppedEarly : (accepts : Bool) (head : List ℕ) → ResponseFrom turn (calls_of log) accepts head → is_refused log (requested (calls_of log)) (head_left log (requested (calls_of log)) head) ≡ true
       → code ≡ code_of h3.ClosedCriticalStream → HandshakeCode side turn log code
   OfResponse : (fault : ErrorCode) → response_walk_of (contents log (local_bi side)) (end_of (events_of log) (local_bi side)) ≡ responses.Fault fault → code ≡ code_of fault → HandshakeCode side turn log code
@@ -278,7 +299,7 @@ pub record DialCause (turn : Turn) (address : Addr) (name : List ℕ) : Type 0 w
 -- why this action goes out
 abbrev pub ActionCause : Side → Turn → Log → Action → Type 0
 ActionCause side turn log (actions.Dial address name) = (log ≡ []) × (is_client side ≡ true) × DialCause turn address name
-ActionCause side turn log (actions.Opened id) = (is_open log ≡ true) × (kind : ℕ) × (may_open side log kind ≡ true) × (id ≡ next_id side log kind) × (kind == local_uni side || kind == local_bi side) ≡ true
+ActionCause side turn log (actions.Opened id) = (is_open log ≡ true) × (kind : ℕ) × (may_open side log kind ≡ true) × (id ≡ next_id side log kind) × ((kind == local_uni side || kind == local_bi side) ≡ true) × OpenCause side turn log kind
 ActionCause side turn log (actions.Send id piece) = (is_open log ≡ true) × SendCause side turn log id piece
 ActionCause side turn log (actions.Finish id) = (is_open log ≡ true) × FinishCause side turn log id
 ActionCause side turn log (actions.ResetOut id code) = (is_open log ≡ true) × (turn ≡ turns.Call (calls.ResetSend id code)) × (has_sending_half side log id ≡ true) × (is_done log id ≡ false)

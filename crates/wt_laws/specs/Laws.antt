@@ -1,5 +1,5 @@
 -- The laws of the session layer, over every log that lawful turns lead to and over turns with their answers.
-use Rattle.std.specs.Prelude.{[], ◌%◌, ◌*◌, ◌++◌, ◌/◌, ◌==◌, ◌||◌, ◌∷◌, ◌≡◌, ◌≢◌, ◌≤◌, Bool, List, None, Option, Some, codes, drop, false, if◌then◌else◌, length, nat_lt, take, true, unwrap_or, ℕ}
+use Rattle.std.specs.Prelude.{[], ◌%◌, ◌&&◌, ◌*◌, ◌++◌, ◌/◌, ◌==◌, ◌||◌, ◌∷◌, ◌≡◌, ◌≢◌, ◌≤◌, Bool, List, None, Option, Some, codes, drop, false, if◌then◌else◌, length, nat_lt, not, take, true, unwrap_or, ℕ}
 use Rattle.std.specs.List.{list_any}
 use Rattle.wt_proto.specs.Bi.{bi_verdict_of}
 use Rattle.wt_message.specs.Datagram.{datagram_bytes}
@@ -10,7 +10,7 @@ use Rattle.wt_seam_spec.specs.Joined.{join_all, send_of}
 use Rattle.wt_seam_spec.specs.Reports.{credit, datagrams_of, end_of, unis_allowed}
 use Rattle.wt_seam_spec.specs.Sent.{is_finished, is_reset, sent_on}
 use Rattle.wt_seam_spec.specs.Streams.{contents, local_bi, local_count, local_uni, peer_bi, peer_count, peer_uni}
-use Rattle.wt_turn.specs.Log.{CallRecord, Called, Entry, Log, Sent, SessionEstablished, actions_of, calls_of, closes, events_of, is_open, loses, newest, with_actions}
+use Rattle.wt_turn.specs.Log.{CallRecord, Called, Entry, Log, Sent, SessionEstablished, actions_of, all_events_of, calls_of, closes, events_of, is_open, loses, newest, with_actions}
 use Rattle.wt_turn.specs.declared.action.Action.{Action}
 use Rattle.wt_turn.specs.declared.reply.Reply.{Reply}
 use Rattle.wt_turn.specs.declared.turn.Turn.{Turn}
@@ -23,7 +23,7 @@ use Rattle.wt_laws.specs.Reachable.{Exchange, is_among}
 use Rattle.wt_laws.specs.ReplyCauses.{ReplyCause}
 use Rattle.wt_laws.specs.Told.{datagram_told, read_piece}
 use Rattle.wt_spec.specs.Answers.{answer_to, is_client, log_after, run_from}
-use Rattle.wt_spec.specs.Connection.{is_opening, next_due, stream_header, well_formed}
+use Rattle.wt_spec.specs.Connection.{is_for_session, is_opening, stream_header, well_formed}
 use Rattle.wt_spec.specs.Driver.{call_view, delivers, established, is_moment, pending_actions, releases, session_id, settings_came, stream_table}
 use Rattle.wt_spec.specs.Effect.{driver_error, head_left, is_covered, transport_error}
 use Rattle.wt_spec.specs.Halves.{body_offset, is_accepted}
@@ -48,6 +48,20 @@ pub record IsDuring (side : Side) (log : Log) (turn : Turn) (middle : Log) : Typ
 
 -- ---- accepted streams
 
+-- the classified stream is of this kind and session, and no accept gave or passed it
+abbrev pub is_left_for : Log → ℕ → ℕ → Classified → Bool
+is_left_for log kind session c = (c.id % 4 == kind) && (is_for_session session c.verdict && not (list_any (releases c.id) (calls_of log)))
+
+-- stream k is the first in the order of classification that is left for an accept of this kind and session
+pub record IsFirstLeft (side : Side) (log : Log) (kind session k : ℕ) : Type 0 where
+  pub earlier : List Classified
+  pub found : Classified
+  pub later : List Classified
+  pub order : (stream_table side log).classified ≡ earlier ++ found ∷ later
+  pub same : found.id ≡ k
+  pub is_left : is_left_for log kind session found ≡ true
+  pub none_before : list_any (is_left_for log kind session) earlier ≡ false
+
 -- Stream k is the peer's and of this kind, no call gave or passed it before, its header over all bytes names the
 -- established session, and it is the first such stream in the order in which streams were classified.
 pub record AcceptedRightly (side : Side) (log : Log) (kind k : ℕ) : Type 0 where
@@ -60,7 +74,7 @@ pub record AcceptedRightly (side : Side) (log : Log) (kind k : ℕ) : Type 0 whe
   pub bi_header : kind ≡ peer_bi side → bi_verdict_of (contents log k) (end_of (events_of log) k) ≡ verdicts.WebTransport session at
   pub classified : verdict_of k (stream_table side log).classified ≡ Some (verdicts.WebTransport session at)
   pub fresh : list_any (releases k) (calls_of log) ≡ false
-  pub is_first : (found : Classified) × (found.id ≡ k) × (next_due side log kind session ≡ Some found)
+  pub is_first : IsFirstLeft side log kind session k
 
 -- each reply that gives a stream gives it rightly
 pub record StreamsAcceptedRightly (side : Side) (log : Log) (turn : Turn) : Type 0 where
@@ -125,6 +139,14 @@ read_from k (x ∷ before) = if reads_from k x.turn then more_read (read_piece x
 abbrev pub ReadsInOrder : Side → List Exchange → Log → Type 0
 ReadsInOrder side before log =
     (k : ℕ) → (rest : List ℕ) × (read_from k before ++ rest ≡ drop (body_offset (verdict_of k (stream_table side log).classified)) (contents log k))
+
+-- this end opens streams of this id
+abbrev pub is_of_this_end : Side → ℕ → Bool
+is_of_this_end side k = k % 4 == local_uni side || k % 4 == local_bi side
+
+-- before what came on a stream that this end opened no header stands
+abbrev pub ReadsFromStart : Side → Log → Type 0
+ReadsFromStart side log = (k : ℕ) → is_of_this_end side k ≡ true → body_offset (verdict_of k (stream_table side log).classified) ≡ 0
 
 -- ---- datagrams
 
@@ -242,6 +264,24 @@ pub record SettingsOut (side : Side) (log : Log) : Type 0 where
   pub out : is_open log ≡ true → nat_lt 0 (unis_allowed (events_of log)) ≡ true → sent_on (actions_of log) (local_uni side) ≡ take (credit (events_of log) (local_uni side)) local_control_bytes
   pub prefix : (n : ℕ) × (sent_on (actions_of log) (local_uni side) ≡ take n local_control_bytes)
 
+-- ---- the session's own stream
+
+-- the frame of the call that connected, or that answered the request
+abbrev pub session_frame : List Exchange → Option (List ℕ)
+session_frame before = newest (λ (x : Exchange). frame_of x.turn) before
+
+-- it is the session's: a client's first bidirectional stream, or one whose request was delivered
+abbrev pub is_session_stream : Side → List CallRecord → ℕ → Bool
+is_session_stream side calls k = if is_client side then k == local_bi side else list_any (delivers k) calls
+
+-- What is out on it is at every time a prefix of that frame. It is all of the frame once the session is established, or once
+-- the response of a rejection is finished. The stream is never given, so nothing else goes out on it.
+pub record SessionStreamOut (side : Side) (before : List Exchange) (log : Log) : Type 0 where
+  pub prefix : (k : ℕ) → is_session_stream side (calls_of log) k ≡ true → (n : ℕ) × (sent_on (actions_of log) k ≡ take n (unwrap_or (session_frame before) []))
+  pub whole : (s at : ℕ) → established (calls_of log) ≡ Some (s, at) → (is_session_stream side (calls_of log) s ≡ true) × (session_frame before ≡ Some (sent_on (actions_of log) s))
+  pub rejected : (k : ℕ) → is_session_stream side (calls_of log) k ≡ true → is_finished (actions_of log) k ≡ true → session_frame before ≡ Some (sent_on (actions_of log) k)
+  pub never_given : (k : ℕ) → is_session_stream side (calls_of log) k ≡ true → is_accepted log k ≡ false
+
 -- ---- sending
 
 -- what a write accepted of its bytes
@@ -256,17 +296,44 @@ abbrev pub accepted_by : Option (List ℕ) → Reply → List ℕ
 accepted_by None reply = []
 accepted_by (Some bytes) reply = accepted_of bytes reply
 
--- From where a stream was given on, exactly what writes accept goes out on it (its header went out before).
+-- the stream is the one of this session
+abbrev pub is_stream_of : Option (ℕ × ℕ) → ℕ → Bool
+is_stream_of None k = false
+is_stream_of (Some s) k = s.0 == k
+
+-- the head of the stream is out: it was given, or it is the established session's, or the response of a rejection is finished on it
+abbrev pub is_head_out : Side → Log → ℕ → Bool
+is_head_out side log k = is_accepted log k || (is_stream_of (established (calls_of log)) k || (is_session_stream side (calls_of log) k && is_finished (actions_of log) k))
+
+-- From where its head is out, exactly what writes accept goes out on a stream.
 abbrev pub SendsInOrder : Side → Log → Turn → Type 0
 SendsInOrder side log turn =
-    (k : ℕ) → k ≢ local_uni side → is_accepted log k ≡ true
+    (k : ℕ) → k ≢ local_uni side → is_head_out side log k ≡ true
     → sent_on (actions_of (log_after side log turn)) k ≡ sent_on (actions_of log) k ++ accepted_by (bytes_for k turn) (answer_to side log turn).reply
 
 -- after a finish or a reset nothing more goes out on it
 abbrev pub SendsEnd : Side → Log → Turn → Type 0
 SendsEnd side log turn =
-    (k : ℕ) → k ≢ local_uni side → is_accepted log k ≡ true → (is_finished (actions_of log) k || is_reset log k) ≡ true
+    (k : ℕ) → k ≢ local_uni side → is_head_out side log k ≡ true → (is_finished (actions_of log) k || is_reset log k) ≡ true
     → sent_on (actions_of (log_after side log turn)) k ≡ sent_on (actions_of log) k
+
+-- no more goes out on a stream than its credit allows
+abbrev pub WithinCredit : Side → Log → Type 0
+WithinCredit side log = (k : ℕ) → length (sent_on (actions_of log) k) ≤ credit (all_events_of log) k
+
+-- the bytes that writes on the stream accepted, joined
+abbrev pub written_on : ℕ → List Exchange → List ℕ
+written_on k [] = []
+written_on k (x ∷ before) = written_on k before ++ accepted_by (bytes_for k x.turn) x.answer.reply
+
+-- the head of a stream that was given: its header, where this end opened it
+abbrev pub head_of : Side → ℕ → ℕ → List ℕ
+head_of side k session = if is_of_this_end side k then stream_header k session else []
+
+-- What is out on a stream that was given is its head, followed by all bytes that writes accepted.
+abbrev pub SendsAll : Side → List Exchange → Log → Type 0
+SendsAll side before log =
+    (k s at : ℕ) → k ≢ local_uni side → is_accepted log k ≡ true → established (calls_of log) ≡ Some (s, at) → sent_on (actions_of log) k ≡ head_of side k s ++ written_on k before
 
 -- ---- what is answered Done went out
 
@@ -287,22 +354,4 @@ pub record TakenGoesOut (side : Side) (log : Log) : Type 0 where
 -- Until such a stream is given, a prefix of its header went out on it; from then on, its header and what follows.
 pub record HeadersOut (side : Side) (log : Log) : Type 0 where
   pub begun : (k s at : ℕ) → is_opening log k ≡ true → established (calls_of log) ≡ Some (s, at) → (n : ℕ) × (sent_on (actions_of log) k ≡ take n (stream_header k s))
-  pub whole : (k s at : ℕ) → (k % 4 == local_uni side || k % 4 == local_bi side) ≡ true → is_accepted log k ≡ true → established (calls_of log) ≡ Some (s, at) → (rest : List ℕ) × (sent_on (actions_of log) k ≡ stream_header k s ++ rest)
-
--- ---- the session's own stream
-
--- the frame of the call that connected, or that answered the request
-abbrev pub session_frame : List Exchange → Option (List ℕ)
-session_frame before = newest (λ (x : Exchange). frame_of x.turn) before
-
--- it is the session's: a client's first bidirectional stream, or one whose request was delivered
-abbrev pub is_session_stream : Side → List CallRecord → ℕ → Bool
-is_session_stream side calls k = if is_client side then k == local_bi side else list_any (delivers k) calls
-
--- What is out on it is at every time a prefix of that frame. It is all of the frame once the session is established, or once
--- the response of a rejection is finished. The stream is never given, so nothing else goes out on it.
-pub record SessionStreamOut (side : Side) (before : List Exchange) (log : Log) : Type 0 where
-  pub prefix : (k : ℕ) → is_session_stream side (calls_of log) k ≡ true → (n : ℕ) × (sent_on (actions_of log) k ≡ take n (unwrap_or (session_frame before) []))
-  pub whole : (s at : ℕ) → established (calls_of log) ≡ Some (s, at) → (is_session_stream side (calls_of log) s ≡ true) × (session_frame before ≡ Some (sent_on (actions_of log) s))
-  pub rejected : (k : ℕ) → is_session_stream side (calls_of log) k ≡ true → is_finished (actions_of log) k ≡ true → session_frame before ≡ Some (sent_on (actions_of log) k)
-  pub never_given : (k : ℕ) → is_session_stream side (calls_of log) k ≡ true → is_accepted log k ≡ false
+  pub whole : (k s at : ℕ) → is_of_this_end side k ≡ true → is_accepted log k ≡ true → established (calls_of log) ≡ Some (s, at) → (rest : List ℕ) × (sent_on (actions_of log) k ≡ stream_header k s ++ rest)

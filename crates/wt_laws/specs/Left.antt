@@ -21,7 +21,7 @@ use Rattle.wt_spec.specs.Answers.{answer_to}
 use Rattle.wt_spec.specs.Connect.{address_of, outcome_error, port_of}
 use Rattle.wt_spec.specs.Connection.{is_opening, next_datagram, next_due, pass_stream, stream_header}
 use Rattle.wt_spec.specs.Driver.{established, settings_came}
-use Rattle.wt_spec.specs.Effect.{head_left, is_covered, is_empty, log_call}
+use Rattle.wt_spec.specs.Effect.{head_left, is_covered, is_empty, log_call, pending_or_failed}
 use Rattle.wt_spec.specs.Halves.{has_receiving_half, has_sending_half, is_done, unread, write_error}
 use Rattle.wt_spec.specs.Handshake.{Connecting, HandshakeState, Responding, handshake_state, is_refused, queued_requests, requested, response_head}
 use Rattle.wt_spec.specs.StreamTable.{Classified}
@@ -150,11 +150,34 @@ pub data PassesTo (side : Side) (turn : Turn) (middle : Log) : Log → Type 0 wh
   PassesStream : {log : Log} (k : ℕ) → FoundStream side turn log k false → PassesTo side turn middle (pass_stream side log k) → PassesTo side turn middle log
   PassesDatagram : {log : Log} → FoundDatagram side turn log false → PassesTo side turn middle (log_call side log [] DatagramPassed) → PassesTo side turn middle log
 
+-- the reply of an accept where it decides: the stream that is due, or that there is none
+abbrev pub stream_reply : Side → Log → (ℕ → Reply) → Option Classified → Reply
+stream_reply side log reply None = pending_or_failed side log
+stream_reply side log reply (Some found) = reply found.id
+
+-- the reply of a receive where it decides: the payload of the datagram that is next, or that there is none
+abbrev pub datagram_reply : Side → Log → Option (ℕ × List ℕ) → Reply
+datagram_reply side log None = pending_or_failed side log
+datagram_reply side log (Some datagram) = replies.Datagram datagram.1
+
+-- the reply for the session that is established
+abbrev pub session_reply : (ℕ → Reply) → Option (ℕ × ℕ) → Reply
+session_reply reply None = replies.NoSession
+session_reply reply (Some s) = reply s.0
+
+-- the reply of an accept or a receive where it decides
+abbrev pub passing_reply : Side → Turn → Log → Option Reply
+passing_reply side (turns.Call calls.AcceptUni) log = Some (session_reply (λ s. stream_reply side log replies.Uni (next_due side log (peer_uni side) s)) (established (calls_of log)))
+passing_reply side (turns.Call calls.AcceptBi) log = Some (session_reply (λ s. stream_reply side log replies.Bi (next_due side log (peer_bi side) s)) (established (calls_of log)))
+passing_reply side (turns.Call calls.ReceiveDatagram) log = Some (session_reply (λ s. datagram_reply side log (next_datagram side log)) (established (calls_of log)))
+passing_reply side _ log = None
+
 -- Behind what it passes, at the log at which it decides, a call is answered Pending exactly where nothing is left for it
--- and the connection is open; only accepts and receives pass anything.
+-- and the connection is open. Only accepts and receives pass anything; where they decide they give what is next.
 pub record PendingExactly (side : Side) (log : Log) (turn : Turn) : Type 0 where
   pub decided : Log
   pub passes : PassesTo side turn decided log
   pub no_stream : (k : ℕ) → FoundStream side turn decided k false → ⊥
   pub no_datagram : FoundDatagram side turn decided false → ⊥
   pub exactly : is_pending (answer_to side log turn).reply ≡ (is_open decided && has_nothing_left side turn decided)
+  pub gives : (r : Reply) → passing_reply side turn decided ≡ Some r → (answer_to side log turn).reply ≡ r

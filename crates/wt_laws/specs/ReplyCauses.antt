@@ -7,7 +7,7 @@ use Rattle.wt_proto.specs.ResponseWalk.{response_walk_of}
 use Rattle.wt_seam_spec.specs.Outgoing.{covered, may_open, next_id}
 use Rattle.wt_seam_spec.specs.Reports.{datagram_fact, end_of, is_acknowledged, is_connected, stop_of}
 use Rattle.wt_seam_spec.specs.Sent.{is_finished, priority_of}
-use Rattle.wt_seam_spec.specs.Streams.{contents, local_bi, local_count, local_uni, peer_bi, peer_uni}
+use Rattle.wt_seam_spec.specs.Streams.{contents, local_bi, local_count, peer_bi, peer_uni}
 use Rattle.wt_turn.specs.Log.{Log, actions_of, calls_of, events_of, is_open, with_actions}
 use Rattle.wt_turn.specs.declared.action.Action.{Action}
 use Rattle.wt_turn.specs.declared.connecting_error.ConnectingError.{ConnectingError}
@@ -25,7 +25,7 @@ use Rattle.wt_wire.specs.declared.error.ErrorCode.{ErrorCode}
 use Rattle.wt_wire.specs.declared.lookup.ConnectOutcome.{ConnectOutcome}
 use Rattle.wt_wire.specs.declared.lookup.Lookup.{Lookup}
 use Rattle.wt_wire.specs.declared.side.Side.{Side}
-use Rattle.wt_laws.specs.Causes.{ConnectTo, DatagramOf, EstablishedBy, FoundDatagram, FoundStream, ResponseFrom, accepted_kind, bytes_for, is_accept, is_receive, polls_opening, reads_from}
+use Rattle.wt_laws.specs.Causes.{ConnectTo, DatagramOf, EstablishedBy, FoundDatagram, FoundStream, ResponseFrom, accepted_kind, bytes_for, is_accept, is_receive, opened_kind, polls_opening, reads_from}
 use Rattle.wt_spec.specs.Connect.{address_of, outcome_error, port_of}
 use Rattle.wt_spec.specs.Connection.{is_opening, next_datagram, next_due, payload_limit, stream_header}
 use Rattle.wt_spec.specs.Driver.{established, settings_came}
@@ -78,12 +78,6 @@ half_of side log (turns.Call (calls.ReadExact id size)) = Some (has_receiving_ha
 half_of side log (turns.Call (calls.StopRecv id code)) = Some (has_receiving_half side log id)
 half_of side log (turns.Call (calls.PollOpening id)) = Some (is_opening log id)
 half_of side log _ = None
-
--- the kind of the streams that a call opens
-abbrev pub opened_kind : Side → Turn → Option ℕ
-opened_kind side (turns.Call calls.OpenUni) = Some (local_uni side)
-opened_kind side (turns.Call calls.OpenBi) = Some (local_bi side)
-opened_kind side _ = None
 
 -- the stream whose end the call waits for
 abbrev pub waits_for_end : Turn → Option ℕ

@@ -1,11 +1,23 @@
 //! The laws, each a function with an empty body whose contract is the law.
-ghost use Rattle.std.specs.Prelude.{◌≡◌, ℕ, List, [], true, false};
-ghost use Rattle.wt_laws.specs.Laws.{ActionsHaveCauses, CutsWell, DatagramsInOrder, FaultCloses, HeadersOut, NothingAfterEnd, OneSession, OpenExactly, ReadsInOrder, ReplyHasCause, ResultStays, SendsEnd, SendsInOrder, SessionStreamOut, SessionTold, SessionsRightly, SettingsOut, StreamsAcceptedRightly, TakenGoesOut};
+ghost use Rattle.std.specs.Prelude.{◌≡◌, ◌++◌, ℕ, List, [], Option, Some, true, false};
+ghost use Rattle.wt_laws.specs.Exactly.{AsksFirst, ConnectGoesOn, ConnectsAnswer, HeadsGoOut, MaySend, ReceivingCallsAnswer, RequestGoesOn, RequestsAnswer, ResponsesAnswer, SendingCallsAnswer, SessionCallsAnswer};
+ghost use Rattle.wt_laws.specs.Laws.{ActionsHaveCauses, CutsWell, DatagramsInOrder, FaultCloses, HeadersOut, NothingAfterEnd, OneSession, OpenExactly, ReadsFromStart, ReadsInOrder, ReplyHasCause, ResultStays, SendsAll, SendsEnd, SendsInOrder, SessionStreamOut, SessionTold, SessionsRightly, SettingsOut, StreamsAcceptedRightly, TakenGoesOut, WithinCredit};
 ghost use Rattle.wt_laws.specs.Left.{PendingExactly, is_pending};
 ghost use Rattle.wt_laws.specs.Reachable.{AllLawful, IsReachable, exchanges};
+ghost use Rattle.wt_laws.specs.ReplyCauses.{is_call};
+ghost use Rattle.wt_laws.specs.Runs.{DoneLate, InOrderOfOpening, RunsLawful, RunsLongest, StaysSo};
 ghost use Rattle.wt_spec.specs.Answers.{answer_to, is_lawful, log_from};
-ghost use Rattle.wt_turn.specs.Log.{Log, is_open};
+ghost use Rattle.wt_spec.specs.Driver.{established, stream_table};
+ghost use Rattle.wt_spec.specs.Halves.{has_receiving_half, has_sending_half};
+ghost use Rattle.wt_spec.specs.Handshake.{Connecting, handshake_state};
+ghost use Rattle.wt_seam_spec.specs.Streams.{peer_bi};
+ghost use Rattle.wt_turn.specs.Log.{Log, calls_of, is_open};
+ghost use Rattle.wt_turn.specs.declared.call.Call.{Call};
 ghost use Rattle.wt_turn.specs.declared.turn.Turn.{Turn};
+ghost use Rattle.wt_turn.specs.declared.turn.Turn.TheVariants as turns;
+ghost use Rattle.wt_wire.specs.HeaderList.{Fields};
+ghost use Rattle.wt_wire.specs.declared.lookup.ConnectOutcome.{ConnectOutcome};
+ghost use Rattle.wt_wire.specs.declared.lookup.Lookup.{Lookup};
 ghost use Rattle.wt_wire.specs.declared.side.Side.{Side};
 
 /// Lawful turns lead to reachable logs.
@@ -24,15 +36,18 @@ pub fn sessions_are_established_rightly()
 {}
 
 /// A stream that an accept gives is the peer's, of the session, and given once; the first in the
-/// order in which streams were classified.
-#[tactic(auto, using(crate::proofs::Theorems::accepted_theorem))]
+/// order in which streams were classified, which for bidirectional ones is that of their opening.
+#[tactic(auto, using(crate::proofs::Theorems::accepted_theorem, crate::proofs::Theorems::order_theorem))]
 pub fn streams_are_accepted_rightly()
+    ensures order { (side : Side) (log : Log) → InOrderOfOpening (peer_bi side) (stream_table side log).classified }
     ensures accepted { (side : Side) (log : Log) (turn : Turn) → IsReachable side log → is_lawful side log turn ≡ true → StreamsAcceptedRightly side log turn }
 {}
 
-/// What reads of a stream give, joined, is a prefix of what came behind its header.
-#[tactic(auto, using(crate::proofs::Theorems::reads_theorem))]
+/// What reads of a stream give, joined, is a prefix of what came behind its header; before a stream
+/// that this end opened no header stands.
+#[tactic(auto, using(crate::proofs::Theorems::reads_theorem, crate::proofs::Theorems::own_reads_theorem))]
 pub fn reads_give_what_came()
+    ensures own { (side : Side) (log : Log) → ReadsFromStart side log }
     ensures reads { (side : Side) (all : List Turn) → AllLawful side [] all → ReadsInOrder side (exchanges side all) (log_from side [] all) }
 {}
 
@@ -77,9 +92,18 @@ pub fn headers_go_out()
     ensures headers { (side : Side) (log : Log) → IsReachable side log → HeadersOut side log }
 {}
 
+/// What goes out on a stream stays within its credit, and a call that goes on with a head sends as
+/// much of it as credit allows.
+#[tactic(auto, using(crate::proofs::Theorems::within_credit_theorem, crate::proofs::Theorems::heads_theorem))]
+pub fn heads_go_out_as_credit_allows()
+    ensures within { (side : Side) (log : Log) → IsReachable side log → WithinCredit side log }
+    ensures heads { (side : Side) (log : Log) (call : Call) → IsReachable side log → is_lawful side log (turns.Call call) ≡ true → HeadsGoOut side log call }
+{}
+
 /// On a stream that was given exactly what writes accept goes out, and nothing after its end.
-#[tactic(auto, using(crate::proofs::Theorems::sends_theorem, crate::proofs::Theorems::sends_end_theorem))]
+#[tactic(auto, using(crate::proofs::Theorems::sends_theorem, crate::proofs::Theorems::sends_end_theorem, crate::proofs::Theorems::sends_all_theorem))]
 pub fn writes_go_out()
+    ensures all { (side : Side) (all : List Turn) → AllLawful side [] all → SendsAll side (exchanges side all) (log_from side [] all) }
     ensures sends { (side : Side) (log : Log) (turn : Turn) → IsReachable side log → is_lawful side log turn ≡ true → SendsInOrder side log turn }
     ensures end { (side : Side) (log : Log) (turn : Turn) → IsReachable side log → is_lawful side log turn ≡ true → SendsEnd side log turn }
 {}
@@ -103,4 +127,42 @@ pub fn calls_wait_exactly_with_nothing_left()
 #[tactic(auto, using(crate::proofs::Theorems::session_stream_theorem))]
 pub fn session_stream_goes_out()
     ensures stream { (side : Side) (all : List Turn) → AllLawful side [] all → SessionStreamOut side (exchanges side all) (log_from side [] all) }
+{}
+
+/// A run answers the longest lawful prefix of its turns, and all turns where all are lawful.
+#[tactic(auto, using(crate::proofs::Theorems::runs_theorem, crate::proofs::Theorems::lawful_runs_theorem))]
+pub fn runs_answer_the_longest_lawful_prefix()
+    ensures longest { (side : Side) (all : List Turn) → RunsLongest side all }
+    ensures lawful { (side : Side) (all : List Turn) → RunsLawful side all }
+{}
+
+/// What is dequeued, classified, released, delivered or settled by SETTINGS stays so, and in its order.
+#[tactic(auto, using(crate::proofs::Theorems::stays_theorem))]
+pub fn what_is_settled_stays()
+    ensures stays { (side : Side) (more earlier : Log) → StaysSo side earlier (more ++ earlier) }
+{}
+
+/// After the end a turn of the transport is answered Done, and nothing goes out.
+#[tactic(auto, using(crate::proofs::Theorems::late_theorem))]
+pub fn late_turns_do_nothing()
+    ensures late { (side : Side) (log : Log) (turn : Turn) → is_call turn ≡ false → is_open log ≡ false → DoneLate side log turn }
+{}
+
+/// Where the causes of a reply hold, a call on a session or on a half of a stream has that reply.
+#[tactic(auto, using(crate::proofs::Theorems::asks_first_theorem, crate::proofs::Theorems::session_calls_theorem, crate::proofs::Theorems::sending_calls_theorem, crate::proofs::Theorems::receiving_calls_theorem))]
+pub fn calls_answer_exactly()
+    ensures first { (side : Side) (log : Log) (call : Call) → AsksFirst side log call }
+    ensures session { (side : Side) (log : Log) (s at : ℕ) → established (calls_of log) ≡ Some (s, at) → SessionCallsAnswer side log s }
+    ensures sending { (side : Side) (log : Log) (k : ℕ) → has_sending_half side log k ≡ true → SendingCallsAnswer side log k }
+    ensures receiving { (side : Side) (log : Log) (k : ℕ) → has_receiving_half side log k ≡ true → ReceivingCallsAnswer side log k }
+{}
+
+/// Where the causes of a reply hold, a call of a handshake has that reply.
+#[tactic(auto, using(crate::proofs::Theorems::requests_theorem, crate::proofs::Theorems::responses_theorem, crate::proofs::Theorems::connects_theorem, crate::proofs::Theorems::connect_theorem, crate::proofs::Theorems::request_theorem))]
+pub fn handshakes_answer_exactly()
+    ensures request { (side : Side) (log : Log) → RequestsAnswer side log }
+    ensures response { (side : Side) (log : Log) (call : Call) → ResponsesAnswer side log call }
+    ensures connect { (side : Side) (log : Log) (text : List ℕ) (headers : Fields) (lookup : Lookup) (outcome : ConnectOutcome) → ConnectsAnswer side log text headers lookup outcome }
+    ensures dialled { (side : Side) (log : Log) (reserved : Option (List ℕ)) (head : List ℕ) → handshake_state (calls_of log) ≡ Connecting reserved head → ConnectGoesOn side log reserved head }
+    ensures sent { (side : Side) (log : Log) (head : List ℕ) → MaySend side log head → RequestGoesOn side log head }
 {}

@@ -1,0 +1,140 @@
+-- What goes out stays within credit, and heads go out as far as it allows.
+use Rattle.std.specs.Prelude.{[], ◌&&◌, ◌++◌, ◌==◌, ◌∷◌, ◌≡◌, ◌≤◌, Bool, List, Some, false, if◌then◌else◌, length, nat_lt, not, true, ℕ}
+use Rattle.std.proofs.Common.{◌∙◌, ap, arith, length-append, length-take, refl, subst, sym}
+use Rattle.std.proofs.lemmas.Bool.{and_parts, eqb-true}
+use Rattle.std.proofs.lemmas.List.{append-nil}
+use Rattle.wt_message.specs.FixedBytes.{local_control_bytes}
+use Rattle.wt_seam_spec.specs.Arrivals.{fits, may_come}
+use Rattle.wt_seam_spec.specs.Outgoing.{credit_left}
+use Rattle.wt_seam_spec.specs.Reports.{credit, is_connected}
+use Rattle.wt_seam_spec.specs.Sent.{sent_on}
+use Rattle.wt_seam_spec.specs.Streams.{can_send, local_uni}
+use Rattle.wt_turn.specs.Log.{Called, Connected, Entry, Event, Log, MaxData, Received, Reported, ReportedLate, Sent, actions_of, all_events_of, events_of, is_open, with_actions}
+use Rattle.wt_turn.specs.declared.action.Action.{Action}
+use Rattle.wt_turn.specs.declared.turn.Turn.{Turn}
+use Rattle.wt_wire.specs.declared.side.Side.{Side}
+use Rattle.wt_laws.proofs.Classified.{eq-turned}
+use Rattle.wt_laws.proofs.Facts.{Facts, facts-entries}
+use Rattle.wt_laws.proofs.Reached.{reached}
+use Rattle.wt_laws.proofs.SendLaws.{flush-other}
+use Rattle.wt_laws.proofs.Sends.{piece_on, with-piece}
+use Rattle.wt_laws.proofs.SettingsLaws.{ControlOut, connected-fits, data-fits, first-control, keeps-control}
+use Rattle.wt_laws.proofs.Steps.{Brings, Keeps, blind-flush, event_of, kept-actions, of-record}
+use Rattle.wt_laws.specs.Causes.{ActionCause, OfHeader, OfRequest, OfResponse, OfWrite, OwnCauses, SendCause}
+use Rattle.wt_laws.specs.Laws.{WithinCredit}
+use Rattle.wt_laws.specs.Reachable.{IsReachable}
+use Rattle.wt_spec.specs.Driver.{apply_if, flush, is_moment, log_and_flush, pending_actions}
+use Rattle.wt_turn.specs.declared.action.Action.TheVariants as actions
+use Rattle.wt_turn.specs.declared.turn.Turn.TheVariants as turns
+
+-- ---- within credit
+
+record Credited (log : Log) : Type 0 where
+  pub within : (k : ℕ) → length (sent_on (actions_of log) k) ≤ credit (all_events_of log) k
+  pub none : is_connected (all_events_of log) ≡ false → (k : ℕ) → credit (all_events_of log) k ≡ 0
+
+piece-within : (side : Side) (turn : Turn) (log : Log) (id : ℕ) (piece : List ℕ) → SendCause side turn log id piece → length piece ≤ credit_left log id
+piece-within side turn log id piece (OfWrite bytes h w m q) = rw q (omega (arith, length-take (credit_left log id) bytes))
+piece-within side turn log id piece (OfHeader session u d o q) = rw q (omega (arith, length-take {A = ℕ}))
+piece-within side turn log id piece (OfResponse accepts head f r q) = rw q (omega (arith, length-take {A = ℕ}))
+piece-within side turn log id piece (OfRequest reserved head s r z q) = rw q (omega (arith, length-take {A = ℕ}))
+
+sent-within : (side : Side) (turn : Turn) (log : Log) (k : ℕ) (a : Action) → ActionCause side turn log a → length (sent_on (actions_of log) k) ≤ credit (all_events_of log) k → length (sent_on (actions_of log) k ++ piece_on k a) ≤ credit (all_events_of log) k
+sent-within side turn log k (actions.Send id piece) c l = at (id == k) refl
+  where
+    at : (b : Bool) → (id == k) ≡ b → length (sent_on (actions_of log) k ++ (if b then piece else [])) ≤ credit (all_events_of log) k
+    at false e = rw (append-nil (sent_on (actions_of log) k)) l
+    at true e =
+        let p : length piece ≤ credit_left log k = subst (λ (j : ℕ). length piece ≤ credit_left log j) (eqb-true id k e) (piece-within side turn log id piece c.1) in
+        omega (arith, length-append (sent_on (actions_of log) k) piece)
+sent-within side turn log k _ c l = rw (append-nil (sent_on (actions_of log) k)) l
+
+own-within : (side : Side) (turn : Turn) (own : List Action) (log : Log) → OwnCauses side turn log own → Credited log → Credited (with_actions own log)
+own-within side turn [] log c p = p
+own-within side turn (a ∷ own) log c p = own-within side turn own (Sent a ∷ log) c.1 (record { within = λ k. rw (with-piece k a (sent_on (actions_of log) k)) (sent-within side turn log k a c.0 (p.within k)); none = p.none })
+
+closed-flush : (side : Side) (e : Entry) (log : Log) → is_open (e ∷ log) ≡ false → log_and_flush side log e ≡ e ∷ log
+unfolding flush
+closed-flush side e log o = ap (λ (b : Bool). apply_if b (with_actions (pending_actions side (e ∷ log))) (e ∷ log)) (closed (is_moment e) (is_open (e ∷ log)) o)
+  where
+    closed : (m b : Bool) → b ≡ false → (m && b) ≡ false
+    closed true b e = e
+    closed false b e = refl
+
+-- (a moment sends on this end's control stream alone)
+flush-within : (side : Side) (e : Entry) (log : Log) → Facts side (e ∷ log) → ControlOut side (log_and_flush side log e) → Credited (e ∷ log) → Credited (log_and_flush side log e)
+flush-within side e log f c p = record {
+  within = λ k. of-stream k (k == local_uni side) refl;
+  none = λ n k. ap (λ es. credit es k) same-all ∙ p.none (ap is_connected (sym same-all) ∙ n) k;
+}
+  where
+    same-all : all_events_of (log_and_flush side log e) ≡ all_events_of (e ∷ log)
+    same-all = blind-flush all_events_of (λ a g. refl) side e log
+
+    same-events : events_of (log_and_flush side log e) ≡ events_of (e ∷ log)
+    same-events = blind-flush events_of (λ a g. refl) side e log
+
+    quiet : is_open (e ∷ log) ≡ false → sent_on (actions_of (log_and_flush side log e)) (local_uni side) ≡ sent_on (actions_of (e ∷ log)) (local_uni side)
+    quiet o = ap (λ (g : Log). sent_on (actions_of g) (local_uni side)) (closed-flush side e log o)
+
+    control : (b : Bool) → is_open (e ∷ log) ≡ b → length (sent_on (actions_of (log_and_flush side log e)) (local_uni side)) ≤ credit (all_events_of (log_and_flush side log e)) (local_uni side)
+    control true o =
+        let q = ap (λ es. credit es (local_uni side)) (same-all ∙ f.same_events o ∙ sym same-events) in
+        let w = c.within in
+        rw c.is (omega (arith, length-take c.count local_control_bytes))
+    control false o = rw (quiet o, same-all) (p.within (local_uni side))
+
+    of-stream : (k : ℕ) (b : Bool) → (k == local_uni side) ≡ b → length (sent_on (actions_of (log_and_flush side log e)) k) ≤ credit (all_events_of (log_and_flush side log e)) k
+    of-stream k true i = subst (λ (j : ℕ). length (sent_on (actions_of (log_and_flush side log e)) j) ≤ credit (all_events_of (log_and_flush side log e)) j) (sym (eqb-true k (local_uni side) i)) (control (is_open (e ∷ log)) refl)
+    of-stream k false i = rw (flush-other side e log k (eq-turned k (local_uni side) i), same-all) (p.within k)
+
+-- credit never falls, and there is none before the connection is established
+event-within : (side : Side) (turn : Turn) (log : Log) (e : Event) (k : ℕ) → Brings side turn log e → Credited log → length (sent_on (actions_of log) k) ≤ credit (e ∷ all_events_of log) k
+event-within side turn log (Connected u b c d) k x p = let n = p.none (connected-fits side log turn u b c d x.told x.lawful) k in let w = p.within k in omega arith
+event-within side turn log (MaxData id total) k x p = at (id == k) refl
+  where
+    at : (b : Bool) → (id == k) ≡ b → length (sent_on (actions_of log) k) ≤ credit (MaxData id total ∷ all_events_of log) k
+    at true i =
+        let d : credit (all_events_of log) k ≤ total = subst (λ (j : ℕ). credit (all_events_of log) j ≤ total) (eqb-true id k i) (data-fits side log turn id total x.told x.lawful) in
+        let w = p.within k in rw i (omega arith)
+    at false i = rw i (p.within k)
+event-within side turn log _ k x p = p.within k
+
+connected-data : (side : Side) (log : Log) (turn : Turn) (id total : ℕ) → event_of turn ≡ Some (MaxData id total) → fits side log turn ≡ true → is_connected (all_events_of log) ≡ true
+connected-data side log (turns.MaxData j m) id total e l =
+    let a = (and_parts (may_come side log (turns.MaxData j m)) _ l).0 in
+    let b = (and_parts (is_connected (all_events_of log) && can_send side log j && not (nat_lt m (credit (all_events_of log) j))) _ a).0 in
+    (and_parts (is_connected (all_events_of log)) _ (and_parts (is_connected (all_events_of log) && can_send side log j) _ b).0).0
+connected-data side log _ id total e l = absurd (cc)
+
+event-none : (side : Side) (turn : Turn) (log : Log) (e : Event) (k : ℕ) → Brings side turn log e → Credited log → is_connected (e ∷ all_events_of log) ≡ false → credit (e ∷ all_events_of log) k ≡ 0
+event-none side turn log (Connected u b c d) k x p n = absurd (cc)
+event-none side turn log (MaxData id total) k x p n = absurd (let c = connected-data side log turn id total x.told x.lawful in cc)
+event-none side turn log _ k x p n = p.none n k
+
+credited-event : (side : Side) (turn : Turn) (log : Log) (e : Event) → Brings side turn log e → Credited log → Credited (Reported e ∷ log)
+credited-event side turn log e x p = record { within = λ k. event-within side turn log e k x p; none = λ n k. event-none side turn log e k x p n }
+
+credited-late : (side : Side) (turn : Turn) (log : Log) (e : Event) → Brings side turn log e → Credited log → Credited (ReportedLate e ∷ log)
+credited-late side turn log e x p = record { within = λ k. event-within side turn log e k x p; none = λ n k. event-none side turn log e k x p n }
+
+record BothWithin (side : Side) (log : Log) : Type 0 where
+  pub control : ControlOut side log
+  pub credited : Credited log
+
+keeps-within : (side : Side) (turn : Turn) → Keeps side turn (BothWithin side)
+keeps-within side turn = record {
+  event = λ log e o b p. let c = (keeps-control side turn).event log e o b p.control in
+      record { control = c; credited = flush-within side (Reported e) log ((facts-entries side turn).event log e o b p.control.untouched.facts_hold) c (credited-event side turn log e b p.credited) };
+  late = λ log e o b p. record { control = (keeps-control side turn).late log e o b p.control; credited = credited-late side turn log e b p.credited };
+  byte = λ log id b o r p. let c = (keeps-control side turn).byte log id b o r p.control in
+      record { control = c; credited = flush-within side (Received id b) log ((facts-entries side turn).byte log id b o r p.control.untouched.facts_hold) c (record { within = p.credited.within; none = p.credited.none }) };
+  call = λ log own r c d p. let g = (keeps-control side turn).call log own r c d p.control in
+      let f = kept-actions (Facts side) (λ g a h. (facts-entries side turn).action g a h) own log p.control.untouched.facts_hold in
+      let w = own-within side turn own log c p.credited in
+      record { control = g; credited = flush-within side (Called r) (with_actions own log) ((facts-entries side turn).record_ (with_actions own log) r (of-record side turn log own r d) f) g (record { within = w.within; none = w.none }) };
+}
+
+pub within-credit : (side : Side) (log : Log) → IsReachable side log → WithinCredit side log
+within-credit side log r =
+    (reached (BothWithin side) (record { control = first-control side; credited = record { within = λ k. omega arith; none = λ n k. refl } }) (keeps-within side) log r).credited.within
