@@ -31,3 +31,5 @@ pub mod RunLaws
 pub mod ExactLaws
 pub mod Theorems
 pub mod Recorded
+pub mod TurnCauses
+pub mod GivenOnce

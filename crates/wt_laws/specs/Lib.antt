@@ -6,3 +6,5 @@ pub mod Left
 pub mod Runs
 pub mod Exactly
 pub mod Laws
+pub mod TurnCauses
+pub mod GivenOnce

@@ -1,0 +1,59 @@
+-- What a turn adds to the log, each entry with its cause in that very turn: what the calls sent and recorded, and what the driver
+-- sent at the newest moment.
+use Rattle.std.specs.Prelude.{◌∷◌, ◌≡◌, true}
+use Rattle.wt_turn.specs.Log.{Called, Entry, Log, Sent, calls_of, is_open}
+use Rattle.wt_turn.specs.declared.action.Action.{Action}
+use Rattle.wt_turn.specs.declared.turn.Turn.{Turn}
+use Rattle.wt_wire.specs.declared.side.Side.{Side}
+use Rattle.wt_laws.specs.Causes.{ActionCause, RecordCause}
+use Rattle.wt_laws.specs.Laws.{DriverCause, GoesOnFrom, IsDuring}
+use Rattle.wt_laws.specs.Reachable.{IsReachable}
+use Rattle.wt_laws.specs.Told.{Logged, Passed}
+use Rattle.wt_spec.specs.Answers.{answer_to, is_lawful, log_after}
+use Rattle.wt_spec.specs.Driver.{is_moment}
+
+-- the log is that of a moment, with actions that went out since
+pub data SinceMoment (moment : Log) : Log → Type 0 where
+  AtOnce : SinceMoment moment moment
+  AfterAction : {log : Log} (a : Action) → SinceMoment moment log → SinceMoment moment (Sent a ∷ log)
+
+-- why an action goes out in a turn, after this log: it is the call's own, or the driver's at the newest moment
+pub data SentIn (side : Side) (turn : Turn) (log : Log) (a : Action) : Type 0 where
+  ByCall : ActionCause side turn log a → SentIn side turn log a
+  ByDriver : (e : Entry) (earlier : Log) → is_moment e ≡ true → is_open (e ∷ earlier) ≡ true → SinceMoment (e ∷ earlier) log → DriverCause side (e ∷ earlier) a → SentIn side turn log a
+
+-- why an entry comes in a turn, after this log: an action and a call's record have their causes
+abbrev pub EntryCause : Side → Turn → Log → Entry → Type 0
+EntryCause side turn log (Sent a) = SentIn side turn log a
+EntryCause side turn log (Called r) = RecordCause side turn log r
+EntryCause side turn log _ = Unit {0}
+
+-- from a log on, each entry that a turn adds has its cause
+pub data CausedIn (side : Side) (turn : Turn) (start : Log) : Log → Type 0 where
+  AtTurn : CausedIn side turn start start
+  WithEntry : {log : Log} (e : Entry) → EntryCause side turn log e → CausedIn side turn start log → CausedIn side turn start (e ∷ log)
+
+-- each entry that the turn adds has its cause in it
+abbrev pub EntriesHaveCauses : Side → Log → Turn → Type 0
+EntriesHaveCauses side log turn = CausedIn side turn log (log_after side log turn)
+
+-- the action went out, after this log, in a lawful turn of the run, and for its cause in that turn
+pub record WentOut (side : Side) (earlier : Log) (a : Action) : Type 0 where
+  pub start : Log
+  pub turn : Turn
+  pub reachable : IsReachable side start
+  pub lawful : is_lawful side start turn ≡ true
+  pub during : IsDuring side start turn (Sent a ∷ earlier)
+  pub cause : SentIn side turn earlier a
+
+-- each action in the log went out so
+abbrev pub ActionsWentOut : Side → Log → Type 0
+ActionsWentOut side log = (a : Action) (earlier : Log) → GoesOnFrom (Sent a ∷ earlier) log → WentOut side earlier a
+
+-- what the turn records beside what it passes, and that its reply tells of it: a reply that gives a stream, a datagram, bytes, a
+-- session or a request leaves its record, and a record of these comes with that reply
+pub record ReplyIsRecorded (side : Side) (log : Log) (turn : Turn) : Type 0 where
+  pub decided : Log
+  pub during : IsDuring side log turn decided
+  pub passed : Passed (calls_of decided) (calls_of log)
+  pub logged : Logged turn (calls_of decided) (calls_of (log_after side log turn)) (answer_to side log turn).reply
