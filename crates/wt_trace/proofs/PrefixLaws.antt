@@ -2,7 +2,7 @@
 use Rattle.std.proofs.Common.{arith, ◌≡◌, ◌<◌, ◌≤◌, ℕ, zero, suc, Bool, true, false, List, [], ◌∷◌, length, take, refl, sym, subst, ap, ◌∙◌}
 use Rattle.std.specs.Prelude.{Err, IfErr, None, Ok, Option, Result, Some, slice_get}
 use Rattle.wt_laws.specs.Reachable.{AllLawful, IsReachable}
-use Rattle.wt_laws.proofs.Theorems.{reachable_theorem}
+use Rattle.wt_laws.proofs.Theorems.{lawful_runs_theorem, reachable_theorem}
 use Rattle.wt_spec.specs.Answers.{AtUnlawful, Finished, Run, RunEnd, answer_to, is_lawful, log_after, log_from, run, run_from}
 use Rattle.wt_trace.specs.Trace.{EachAnswered, IfAnswered, IsTrace, StopsRightly, log_at}
 use Rattle.wt_trace.specs.declared.trace.TraceError.{TraceError}
@@ -81,12 +81,6 @@ run-ends side ts =
     along side (λ g us r. EndIs side g us (length r.answers) r.stop) (λ g. refl) (λ g t us l. (t, refl, l))
     (λ g t us r l later. end-more side g t us (length r.answers) r.stop later) [] ts
 
--- a lawful list is run to its end
-pub lawful-ends : (side : Side) (ts : List Turn) → AllLawful side [] ts → (run side ts).stop ≡ Finished
-lawful-ends side ts =
-    along side (λ g us r. AllLawful side g us → r.stop ≡ Finished) (λ g a. refl) (λ g t us l a. let both : false ≡ true = sym l ∙ a.0 in absurd (cc))
-    (λ g t us r l later a. later a.1) [] ts
-
 -- ---- an answer of `run_trace`
 
 pub answered : (side : Side) (ts : List Turn) (result : Result (List Answer) TraceError) (P : List Answer → Type 0) → IsTrace side ts result → P (run side ts).answers → IfAnswered result P
@@ -105,5 +99,5 @@ stops-rightly side ts (Err errors.OutOfMemory) e = tt
 pub completes : (side : Side) (ts : List Turn) (result : Result (List Answer) TraceError) → IsTrace side ts result → AllLawful side [] ts → IfErr result (λ error. error ≡ errors.OutOfMemory)
 completes side ts (Ok answers) e a = tt
 completes side ts (Err (errors.Unlawful at answers)) e a =
-    let both : AtUnlawful ≡ Finished = sym (ap (λ (r : Run). r.stop) e.0) ∙ lawful-ends side ts a in absurd (cc)
+    let both : AtUnlawful ≡ Finished = sym (ap (λ (r : Run). r.stop) e.0) ∙ lawful_runs_theorem side ts a in absurd (cc)
 completes side ts (Err errors.OutOfMemory) e a = refl

@@ -1,15 +1,28 @@
 -- What holds of every list of turns and its answers: the laws of the session layer, at every length of the list.
-use Rattle.std.specs.Prelude.{◌++◌, ◌<◌, ◌∷◌, ◌≡◌, ◌≤◌, List, Some, false, length, slice_get, take, ℕ}
+use Rattle.std.specs.Prelude.{◌++◌, ◌<◌, ◌∷◌, ◌≡◌, ◌≤◌, List, Option, Some, false, length, slice_get, take, true, ℕ}
 use Rattle.wt_seam_spec.specs.Joined.{join_all}
-use Rattle.wt_turn.specs.Log.{Log, is_open}
+use Rattle.wt_seam_spec.specs.Streams.{peer_bi}
+use Rattle.wt_turn.specs.Log.{Log, calls_of, is_open}
 use Rattle.wt_turn.specs.declared.answer.Answer.{Answer}
+use Rattle.wt_turn.specs.declared.call.Call.{Call}
 use Rattle.wt_turn.specs.declared.turn.Turn.{Turn}
 use Rattle.wt_turn.specs.declared.turn.Turn.TheVariants as turns
+use Rattle.wt_wire.specs.HeaderList.{Fields}
+use Rattle.wt_wire.specs.declared.lookup.ConnectOutcome.{ConnectOutcome}
+use Rattle.wt_wire.specs.declared.lookup.Lookup.{Lookup}
 use Rattle.wt_wire.specs.declared.side.Side.{Side}
-use Rattle.wt_laws.specs.Laws.{ActionsHaveCauses, DatagramsInOrder, FaultCloses, GoesOnFrom, HeadersOut, NothingAfterEnd, OneSession, OpenExactly, ReadsInOrder, ReplyHasCause, ResultStays, SendsEnd, SendsInOrder, SessionStreamOut, SessionTold, SessionsRightly, SettingsOut, StreamsAcceptedRightly, TakenGoesOut}
+use Rattle.wt_laws.specs.Exactly.{AsksFirst, ConnectGoesOn, ConnectsAnswer, HeadsGoOut, MaySend, ReceivingCallsAnswer, RequestGoesOn, RequestsAnswer, ResponsesAnswer, SendingCallsAnswer, SessionCallsAnswer}
+use Rattle.wt_laws.specs.GivenOnce.{GivenOnce}
+use Rattle.wt_laws.specs.Laws.{DatagramsInOrder, FaultCloses, GoesOnFrom, HeadersOut, NothingAfterEnd, OneSession, OpenExactly, ReadsFromStart, ReadsInOrder, ReplyHasCause, ResultStays, SendsAll, SendsEnd, SendsInOrder, SessionStreamOut, SessionTold, SessionsRightly, SettingsOut, StreamsAcceptedRightly, TakenGoesOut, WithinCredit}
 use Rattle.wt_laws.specs.Left.{PendingExactly, is_pending}
 use Rattle.wt_laws.specs.Reachable.{Exchange, exchanges}
+use Rattle.wt_laws.specs.ReplyCauses.{is_call}
+use Rattle.wt_laws.specs.Runs.{DoneLate, InOrderOfOpening, StaysSo}
+use Rattle.wt_laws.specs.TurnCauses.{ActionsWentOut, EntriesHaveCauses, ReplyIsRecorded}
 use Rattle.wt_spec.specs.Answers.{answer_to, run}
+use Rattle.wt_spec.specs.Driver.{established, stream_table}
+use Rattle.wt_spec.specs.Halves.{has_receiving_half, has_sending_half}
+use Rattle.wt_spec.specs.Handshake.{Connecting, handshake_state}
 use Rattle.wt_trace.specs.Trace.{log_at}
 
 -- ---- where a law holds
@@ -39,6 +52,39 @@ ResultStaysAfterEnd side log turn = is_open log ≡ false → ResultStays side l
 -- once the connection has ended no call is answered Pending
 abbrev pub NonePendingAfterEnd : Side → Log → Turn → Type 0
 NonePendingAfterEnd side log turn = is_open log ≡ false → is_pending (answer_to side log turn).reply ≡ false
+
+-- a turn of the transport after the end is answered Done, and nothing goes out
+abbrev pub DoneAfterEnd : Side → Log → Turn → Type 0
+DoneAfterEnd side log turn = is_call turn ≡ false → is_open log ≡ false → DoneLate side log turn
+
+-- what was settled at an earlier moment stays
+abbrev pub SettledStays : Side → Log → Type 0
+SettledStays side log = (earlier : Log) → GoesOnFrom earlier log → StaysSo side earlier log
+
+-- the peer's bidirectional streams are classified in the order in which they were opened
+abbrev pub BiStreamsInOrder : Side → Log → Type 0
+BiStreamsInOrder side log = InOrderOfOpening (peer_bi side) (stream_table side log).classified
+
+-- ---- what a call answers
+
+-- each call that asks for a session or a stream answers exactly as it stands with these
+pub record CallsAnswer (side : Side) (log : Log) : Type 0 where
+  pub first : (call : Call) → AsksFirst side log call
+  pub session : (s at : ℕ) → established (calls_of log) ≡ Some (s, at) → SessionCallsAnswer side log s
+  pub sending : (k : ℕ) → has_sending_half side log k ≡ true → SendingCallsAnswer side log k
+  pub receiving : (k : ℕ) → has_receiving_half side log k ≡ true → ReceivingCallsAnswer side log k
+
+-- each call of a handshake answers exactly as far as that is
+pub record HandshakesAnswer (side : Side) (log : Log) : Type 0 where
+  pub request : RequestsAnswer side log
+  pub response : (call : Call) → ResponsesAnswer side log call
+  pub connect : (text : List ℕ) (headers : Fields) (lookup : Lookup) (outcome : ConnectOutcome) → ConnectsAnswer side log text headers lookup outcome
+  pub dialled : (reserved : Option (List ℕ)) (head : List ℕ) → handshake_state (calls_of log) ≡ Connecting reserved head → ConnectGoesOn side log reserved head
+  pub sent : (head : List ℕ) → MaySend side log head → RequestGoesOn side log head
+
+-- a call that sends a head sends it as far as credit goes
+abbrev pub HeadGoesOut : Side → Log → Turn → Type 0
+HeadGoesOut side log turn = (call : Call) → turn ≡ turns.Call call → HeadsGoOut side log call
 
 -- ---- cutting
 
@@ -71,20 +117,32 @@ pub record KeepsLaws (side : Side) (all : List Turn) (answers : List Answer) : T
   pub one_session : AtEachTurn side (OneSession side) all answers
   pub told : AtEachTurn side (SessionTold side) all answers
   pub streams : AtEachTurn side (StreamsAcceptedRightly side) all answers
+  pub given_once : OfExchanges side (λ before log. GivenOnce before) all answers
+  pub bi_order : Throughout side (BiStreamsInOrder side) all answers
   pub reads : OfExchanges side (ReadsInOrder side) all answers
+  pub local_reads : Throughout side (ReadsFromStart side) all answers
   pub datagrams : OfExchanges side (DatagramsInOrder side) all answers
   pub pending : AtEachTurn side (PendingExactly side) all answers
   pub none_pending : AtEachTurn side (NonePendingAfterEnd side) all answers
+  pub calls : Throughout side (CallsAnswer side) all answers
+  pub handshakes : Throughout side (HandshakesAnswer side) all answers
   pub replies : AtEachTurn side (ReplyHasCause side) all answers
-  pub actions : Throughout side (ActionsHaveCauses side) all answers
+  pub recorded : AtEachTurn side (ReplyIsRecorded side) all answers
+  pub actions : Throughout side (ActionsWentOut side) all answers
+  pub entries : AtEachTurn side (EntriesHaveCauses side) all answers
   pub opened : Throughout side (OpenExactly side) all answers
   pub faults : Throughout side (FaultsClose side) all answers
   pub result_stays : AtEachTurn side (ResultStaysAfterEnd side) all answers
   pub after_end : Throughout side NothingAfterEnd all answers
+  pub late : AtEachTurn side (DoneAfterEnd side) all answers
+  pub settled : Throughout side (SettledStays side) all answers
   pub settings : Throughout side (SettingsOut side) all answers
   pub headers : Throughout side (HeadersOut side) all answers
-  pub sends : AtEachTurn side (SendsInOrder side) all answers
-  pub sends_end : AtEachTurn side (SendsEnd side) all answers
+  pub heads : AtEachTurn side (HeadGoesOut side) all answers
   pub session_stream : OfExchanges side (SessionStreamOut side) all answers
+  pub sends : AtEachTurn side (SendsInOrder side) all answers
+  pub sends_all : OfExchanges side (SendsAll side) all answers
+  pub sends_end : AtEachTurn side (SendsEnd side) all answers
+  pub credit : Throughout side (WithinCredit side) all answers
   pub taken : Throughout side (TakenGoesOut side) all answers
   pub cutting : MayBeCut side all answers

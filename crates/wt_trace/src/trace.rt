@@ -1,10 +1,12 @@
 //! A whole list of turns.
 ghost use Rattle.std.specs.Prelude.{◌≡◌, [], IfErr, List, length, take};
-ghost use Rattle.wt_laws.specs.Laws.{ActionsHaveCauses, DatagramsInOrder, HeadersOut, NothingAfterEnd, OneSession, OpenExactly, ReadsInOrder, ReplyHasCause, SendsEnd, SendsInOrder, SessionStreamOut, SessionTold, SessionsRightly, SettingsOut, StreamsAcceptedRightly, TakenGoesOut};
+ghost use Rattle.wt_laws.specs.GivenOnce.{GivenOnce};
+ghost use Rattle.wt_laws.specs.Laws.{DatagramsInOrder, HeadersOut, NothingAfterEnd, OneSession, OpenExactly, ReadsFromStart, ReadsInOrder, ReplyHasCause, SendsAll, SendsEnd, SendsInOrder, SessionStreamOut, SessionTold, SessionsRightly, SettingsOut, StreamsAcceptedRightly, TakenGoesOut, WithinCredit};
 ghost use Rattle.wt_laws.specs.Left.{PendingExactly};
 ghost use Rattle.wt_laws.specs.Reachable.{AllLawful};
+ghost use Rattle.wt_laws.specs.TurnCauses.{ActionsWentOut, EntriesHaveCauses, ReplyIsRecorded};
 ghost use Rattle.wt_spec.specs.Answers.{answers_to};
-ghost use Rattle.wt_trace.specs.Laws.{AtEachTurn, FaultsClose, MayBeCut, NonePendingAfterEnd, OfExchanges, ResultStaysAfterEnd, Throughout};
+ghost use Rattle.wt_trace.specs.Laws.{AtEachTurn, BiStreamsInOrder, CallsAnswer, DoneAfterEnd, FaultsClose, HandshakesAnswer, HeadGoesOut, MayBeCut, NonePendingAfterEnd, OfExchanges, ResultStaysAfterEnd, SettledStays, Throughout};
 ghost use Rattle.wt_trace.specs.Trace.{EachAnswered, IfAnswered, IsTrace, StopsRightly};
 
 use std::alloc::Global;
@@ -38,10 +40,11 @@ impl From<OutOfMemory> for TraceError {
 /// lawful.
 ///
 /// `trace` says them whole, `answers` and `each` one by one, `lawful`, `stop` and `complete` up to where.
-/// The clauses after these say what is true of them, of every list: `sessions` to `session_stream` where
-/// a session is established, which streams and datagrams it gives and in what order, what reads give,
-/// where a call is pending, why each reply and each action comes, what ends the connection and how that
-/// is told, what goes out; `cutting` that a piece may come in two parts.
+/// The clauses after these say what is true of them, of every list: where a session is established, which
+/// streams and datagrams it gives and in what order, what reads give (`sessions` to `datagrams`); where a
+/// call is pending, what it answers, why each reply and each action comes (`pending` to `entries`); what
+/// ends the connection, how that is told, and what stays (`opened` to `settled`); what goes out
+/// (`settings` to `taken`); and that a piece may come in two parts (`cutting`).
 pub fn run_trace(alloc: Global, side: Side, turns: &[Turn]) -> Result<Answers, TraceError>
     ensures trace { IsTrace side turns.now result }
     ensures answers { IfAnswered result (λ answers. answers ≡ answers_to side (take (length answers) turns.now)) }
@@ -53,21 +56,33 @@ pub fn run_trace(alloc: Global, side: Side, turns: &[Turn]) -> Result<Answers, T
     ensures one_session { IfAnswered result (AtEachTurn side (OneSession side) turns.now) }
     ensures told { IfAnswered result (AtEachTurn side (SessionTold side) turns.now) }
     ensures streams { IfAnswered result (AtEachTurn side (StreamsAcceptedRightly side) turns.now) }
+    ensures given_once { IfAnswered result (OfExchanges side (λ before log. GivenOnce before) turns.now) }
+    ensures bi_order { IfAnswered result (Throughout side (BiStreamsInOrder side) turns.now) }
     ensures reads { IfAnswered result (OfExchanges side (ReadsInOrder side) turns.now) }
+    ensures local_reads { IfAnswered result (Throughout side (ReadsFromStart side) turns.now) }
     ensures datagrams { IfAnswered result (OfExchanges side (DatagramsInOrder side) turns.now) }
     ensures pending { IfAnswered result (AtEachTurn side (PendingExactly side) turns.now) }
     ensures none_pending { IfAnswered result (AtEachTurn side (NonePendingAfterEnd side) turns.now) }
+    ensures calls { IfAnswered result (Throughout side (CallsAnswer side) turns.now) }
+    ensures handshakes { IfAnswered result (Throughout side (HandshakesAnswer side) turns.now) }
     ensures replies { IfAnswered result (AtEachTurn side (ReplyHasCause side) turns.now) }
-    ensures actions { IfAnswered result (Throughout side (ActionsHaveCauses side) turns.now) }
+    ensures recorded { IfAnswered result (AtEachTurn side (ReplyIsRecorded side) turns.now) }
+    ensures actions { IfAnswered result (Throughout side (ActionsWentOut side) turns.now) }
+    ensures entries { IfAnswered result (AtEachTurn side (EntriesHaveCauses side) turns.now) }
     ensures opened { IfAnswered result (Throughout side (OpenExactly side) turns.now) }
     ensures faults { IfAnswered result (Throughout side (FaultsClose side) turns.now) }
     ensures result_stays { IfAnswered result (AtEachTurn side (ResultStaysAfterEnd side) turns.now) }
     ensures after_end { IfAnswered result (Throughout side NothingAfterEnd turns.now) }
+    ensures late { IfAnswered result (AtEachTurn side (DoneAfterEnd side) turns.now) }
+    ensures settled { IfAnswered result (Throughout side (SettledStays side) turns.now) }
     ensures settings { IfAnswered result (Throughout side (SettingsOut side) turns.now) }
     ensures headers { IfAnswered result (Throughout side (HeadersOut side) turns.now) }
-    ensures sends { IfAnswered result (AtEachTurn side (SendsInOrder side) turns.now) }
-    ensures sends_end { IfAnswered result (AtEachTurn side (SendsEnd side) turns.now) }
+    ensures heads { IfAnswered result (AtEachTurn side (HeadGoesOut side) turns.now) }
     ensures session_stream { IfAnswered result (OfExchanges side (SessionStreamOut side) turns.now) }
+    ensures sends { IfAnswered result (AtEachTurn side (SendsInOrder side) turns.now) }
+    ensures sends_all { IfAnswered result (OfExchanges side (SendsAll side) turns.now) }
+    ensures sends_end { IfAnswered result (AtEachTurn side (SendsEnd side) turns.now) }
+    ensures credit { IfAnswered result (Throughout side (WithinCredit side) turns.now) }
     ensures taken { IfAnswered result (Throughout side (TakenGoesOut side) turns.now) }
     ensures cutting { IfAnswered result (MayBeCut side turns.now) }
 {

@@ -1,14 +1,16 @@
 use Rattle.std.proofs.Common.{◌≡◌, [], List, length, take, subst, sym, ap, ◌∙◌}
 use Rattle.std.specs.Prelude.{Err, IfErr, Ok, Result}
-use Rattle.wt_laws.specs.Laws.{ActionsHaveCauses, DatagramsInOrder, HeadersOut, NothingAfterEnd, OneSession, OpenExactly, ReadsInOrder, ReplyHasCause, SendsEnd, SendsInOrder, SessionStreamOut, SessionTold, SessionsRightly, SettingsOut, StreamsAcceptedRightly, TakenGoesOut}
+use Rattle.wt_laws.specs.GivenOnce.{GivenOnce}
+use Rattle.wt_laws.specs.Laws.{DatagramsInOrder, HeadersOut, NothingAfterEnd, OneSession, OpenExactly, ReadsFromStart, ReadsInOrder, ReplyHasCause, SendsAll, SendsEnd, SendsInOrder, SessionStreamOut, SessionTold, SessionsRightly, SettingsOut, StreamsAcceptedRightly, TakenGoesOut, WithinCredit}
 use Rattle.wt_laws.specs.Left.{PendingExactly}
 use Rattle.wt_laws.specs.Reachable.{AllLawful}
+use Rattle.wt_laws.specs.TurnCauses.{ActionsWentOut, EntriesHaveCauses, ReplyIsRecorded}
 use Rattle.wt_spec.specs.Answers.{answers_to}
 use Rattle.wt_trace.proofs.LawsHold.{laws}
 use Rattle.wt_trace.proofs.PrefixLaws.{answered, completes, each-answered, stops-rightly}
 use Rattle.wt_trace.proofs.RunLaws.{run-answers, run-lawful}
 use Rattle.wt_trace.proofs.trace.run_trace.Goals as goal
-use Rattle.wt_trace.specs.Laws.{AtEachTurn, FaultsClose, MayBeCut, NonePendingAfterEnd, OfExchanges, ResultStaysAfterEnd, Throughout}
+use Rattle.wt_trace.specs.Laws.{AtEachTurn, BiStreamsInOrder, CallsAnswer, DoneAfterEnd, FaultsClose, HandshakesAnswer, HeadGoesOut, MayBeCut, NonePendingAfterEnd, OfExchanges, ResultStaysAfterEnd, SettledStays, Throughout}
 use Rattle.wt_trace.specs.Trace.{EachAnswered}
 
 pub returns-clause-answers : goal.returns-clause-answers
@@ -40,8 +42,17 @@ returns-clause-told c = answered c.args.side c.args.turns.now _ (AtEachTurn c.ar
 pub returns-clause-streams : goal.returns-clause-streams
 returns-clause-streams c = answered c.args.side c.args.turns.now _ (AtEachTurn c.args.side (StreamsAcceptedRightly c.args.side) c.args.turns.now) c.run_turns.ensures.trace (laws c.args.side c.args.turns.now).streams
 
+pub returns-clause-given_once : goal.returns-clause-given_once
+returns-clause-given_once c = answered c.args.side c.args.turns.now _ (OfExchanges c.args.side (λ before log. GivenOnce before) c.args.turns.now) c.run_turns.ensures.trace (laws c.args.side c.args.turns.now).given_once
+
+pub returns-clause-bi_order : goal.returns-clause-bi_order
+returns-clause-bi_order c = answered c.args.side c.args.turns.now _ (Throughout c.args.side (BiStreamsInOrder c.args.side) c.args.turns.now) c.run_turns.ensures.trace (laws c.args.side c.args.turns.now).bi_order
+
 pub returns-clause-reads : goal.returns-clause-reads
 returns-clause-reads c = answered c.args.side c.args.turns.now _ (OfExchanges c.args.side (ReadsInOrder c.args.side) c.args.turns.now) c.run_turns.ensures.trace (laws c.args.side c.args.turns.now).reads
+
+pub returns-clause-local_reads : goal.returns-clause-local_reads
+returns-clause-local_reads c = answered c.args.side c.args.turns.now _ (Throughout c.args.side (ReadsFromStart c.args.side) c.args.turns.now) c.run_turns.ensures.trace (laws c.args.side c.args.turns.now).local_reads
 
 pub returns-clause-datagrams : goal.returns-clause-datagrams
 returns-clause-datagrams c = answered c.args.side c.args.turns.now _ (OfExchanges c.args.side (DatagramsInOrder c.args.side) c.args.turns.now) c.run_turns.ensures.trace (laws c.args.side c.args.turns.now).datagrams
@@ -52,11 +63,23 @@ returns-clause-pending c = answered c.args.side c.args.turns.now _ (AtEachTurn c
 pub returns-clause-none_pending : goal.returns-clause-none_pending
 returns-clause-none_pending c = answered c.args.side c.args.turns.now _ (AtEachTurn c.args.side (NonePendingAfterEnd c.args.side) c.args.turns.now) c.run_turns.ensures.trace (laws c.args.side c.args.turns.now).none_pending
 
+pub returns-clause-calls : goal.returns-clause-calls
+returns-clause-calls c = answered c.args.side c.args.turns.now _ (Throughout c.args.side (CallsAnswer c.args.side) c.args.turns.now) c.run_turns.ensures.trace (laws c.args.side c.args.turns.now).calls
+
+pub returns-clause-handshakes : goal.returns-clause-handshakes
+returns-clause-handshakes c = answered c.args.side c.args.turns.now _ (Throughout c.args.side (HandshakesAnswer c.args.side) c.args.turns.now) c.run_turns.ensures.trace (laws c.args.side c.args.turns.now).handshakes
+
 pub returns-clause-replies : goal.returns-clause-replies
 returns-clause-replies c = answered c.args.side c.args.turns.now _ (AtEachTurn c.args.side (ReplyHasCause c.args.side) c.args.turns.now) c.run_turns.ensures.trace (laws c.args.side c.args.turns.now).replies
 
+pub returns-clause-recorded : goal.returns-clause-recorded
+returns-clause-recorded c = answered c.args.side c.args.turns.now _ (AtEachTurn c.args.side (ReplyIsRecorded c.args.side) c.args.turns.now) c.run_turns.ensures.trace (laws c.args.side c.args.turns.now).recorded
+
 pub returns-clause-actions : goal.returns-clause-actions
-returns-clause-actions c = answered c.args.side c.args.turns.now _ (Throughout c.args.side (ActionsHaveCauses c.args.side) c.args.turns.now) c.run_turns.ensures.trace (laws c.args.side c.args.turns.now).actions
+returns-clause-actions c = answered c.args.side c.args.turns.now _ (Throughout c.args.side (ActionsWentOut c.args.side) c.args.turns.now) c.run_turns.ensures.trace (laws c.args.side c.args.turns.now).actions
+
+pub returns-clause-entries : goal.returns-clause-entries
+returns-clause-entries c = answered c.args.side c.args.turns.now _ (AtEachTurn c.args.side (EntriesHaveCauses c.args.side) c.args.turns.now) c.run_turns.ensures.trace (laws c.args.side c.args.turns.now).entries
 
 pub returns-clause-opened : goal.returns-clause-opened
 returns-clause-opened c = answered c.args.side c.args.turns.now _ (Throughout c.args.side (OpenExactly c.args.side) c.args.turns.now) c.run_turns.ensures.trace (laws c.args.side c.args.turns.now).opened
@@ -70,20 +93,35 @@ returns-clause-result_stays c = answered c.args.side c.args.turns.now _ (AtEachT
 pub returns-clause-after_end : goal.returns-clause-after_end
 returns-clause-after_end c = answered c.args.side c.args.turns.now _ (Throughout c.args.side NothingAfterEnd c.args.turns.now) c.run_turns.ensures.trace (laws c.args.side c.args.turns.now).after_end
 
+pub returns-clause-late : goal.returns-clause-late
+returns-clause-late c = answered c.args.side c.args.turns.now _ (AtEachTurn c.args.side (DoneAfterEnd c.args.side) c.args.turns.now) c.run_turns.ensures.trace (laws c.args.side c.args.turns.now).late
+
+pub returns-clause-settled : goal.returns-clause-settled
+returns-clause-settled c = answered c.args.side c.args.turns.now _ (Throughout c.args.side (SettledStays c.args.side) c.args.turns.now) c.run_turns.ensures.trace (laws c.args.side c.args.turns.now).settled
+
 pub returns-clause-settings : goal.returns-clause-settings
 returns-clause-settings c = answered c.args.side c.args.turns.now _ (Throughout c.args.side (SettingsOut c.args.side) c.args.turns.now) c.run_turns.ensures.trace (laws c.args.side c.args.turns.now).settings
 
 pub returns-clause-headers : goal.returns-clause-headers
 returns-clause-headers c = answered c.args.side c.args.turns.now _ (Throughout c.args.side (HeadersOut c.args.side) c.args.turns.now) c.run_turns.ensures.trace (laws c.args.side c.args.turns.now).headers
 
+pub returns-clause-heads : goal.returns-clause-heads
+returns-clause-heads c = answered c.args.side c.args.turns.now _ (AtEachTurn c.args.side (HeadGoesOut c.args.side) c.args.turns.now) c.run_turns.ensures.trace (laws c.args.side c.args.turns.now).heads
+
+pub returns-clause-session_stream : goal.returns-clause-session_stream
+returns-clause-session_stream c = answered c.args.side c.args.turns.now _ (OfExchanges c.args.side (SessionStreamOut c.args.side) c.args.turns.now) c.run_turns.ensures.trace (laws c.args.side c.args.turns.now).session_stream
+
 pub returns-clause-sends : goal.returns-clause-sends
 returns-clause-sends c = answered c.args.side c.args.turns.now _ (AtEachTurn c.args.side (SendsInOrder c.args.side) c.args.turns.now) c.run_turns.ensures.trace (laws c.args.side c.args.turns.now).sends
+
+pub returns-clause-sends_all : goal.returns-clause-sends_all
+returns-clause-sends_all c = answered c.args.side c.args.turns.now _ (OfExchanges c.args.side (SendsAll c.args.side) c.args.turns.now) c.run_turns.ensures.trace (laws c.args.side c.args.turns.now).sends_all
 
 pub returns-clause-sends_end : goal.returns-clause-sends_end
 returns-clause-sends_end c = answered c.args.side c.args.turns.now _ (AtEachTurn c.args.side (SendsEnd c.args.side) c.args.turns.now) c.run_turns.ensures.trace (laws c.args.side c.args.turns.now).sends_end
 
-pub returns-clause-session_stream : goal.returns-clause-session_stream
-returns-clause-session_stream c = answered c.args.side c.args.turns.now _ (OfExchanges c.args.side (SessionStreamOut c.args.side) c.args.turns.now) c.run_turns.ensures.trace (laws c.args.side c.args.turns.now).session_stream
+pub returns-clause-credit : goal.returns-clause-credit
+returns-clause-credit c = answered c.args.side c.args.turns.now _ (Throughout c.args.side (WithinCredit c.args.side) c.args.turns.now) c.run_turns.ensures.trace (laws c.args.side c.args.turns.now).credit
 
 pub returns-clause-taken : goal.returns-clause-taken
 returns-clause-taken c = answered c.args.side c.args.turns.now _ (Throughout c.args.side (TakenGoesOut c.args.side) c.args.turns.now) c.run_turns.ensures.trace (laws c.args.side c.args.turns.now).taken
