@@ -1,5 +1,5 @@
 -- What the public clauses of a core rest on. STAND-IN.
-use Rattle.std.proofs.Common.{Bool, ◌≡◌}
+use Rattle.std.proofs.Common.{◌≡◌}
 use Rattle.wt_core.specs.CoreState.{CoreState, Refines, may_turn}
 use Rattle.wt_spec.specs.Answers.{is_lawful}
 use Rattle.wt_turn.specs.Log.{Log}

@@ -10,7 +10,7 @@ use Rattle.wt_spec.specs.Answers.{Run, answer_to, is_lawful, log_after, receive,
 use Rattle.wt_spec.specs.Driver.{apply_if, flush, is_moment, log_and_flush, pending_actions}
 use Rattle.wt_trace.specs.Laws.{IsCut, MayBeCut}
 use Rattle.wt_trace.proofs.RunLaws.{run-goes, run-unlawful}
-use Rattle.wt_turn.specs.Log.{Entry, Log, Received, Sent, actions_of, all_events_of, is_open, with_actions}
+use Rattle.wt_turn.specs.Log.{Log, Received, Sent, actions_of, all_events_of, is_open, with_actions}
 use Rattle.wt_turn.specs.declared.action.Action.{Action}
 use Rattle.wt_turn.specs.declared.answer.Answer.{Answer}
 use Rattle.wt_turn.specs.declared.turn.Turn.{Turn}

@@ -1,6 +1,5 @@
 -- Every run keeps the laws.
-use Rattle.std.proofs.Common.{arith, ◌≡◌, ◌<◌, ◌≤◌, ℕ, List, length, subst, sym, take, true}
-use Rattle.std.specs.Prelude.{Some, slice_get}
+use Rattle.std.proofs.Common.{arith, ◌≡◌, ◌<◌, ℕ, List, length, subst, sym, take, true}
 use Rattle.wt_laws.proofs.GivenOnce.{given_once_theorem}
 use Rattle.wt_laws.proofs.Theorems.{accepted_theorem, after_end_theorem, asks_first_theorem, connect_theorem, connects_theorem, datagrams_theorem, ended_theorem, fault_theorem, headers_theorem, heads_theorem, late_theorem, one_session_theorem, open_theorem, order_theorem, own_reads_theorem, pending_theorem, reads_theorem, receiving_calls_theorem, reply_theorem, request_theorem, requests_theorem, responses_theorem, result_theorem, sending_calls_theorem, sends_all_theorem, sends_end_theorem, sends_theorem, session_calls_theorem, session_stream_theorem, session_told_theorem, sessions_theorem, settings_theorem, stays_theorem, taken_theorem, within_credit_theorem}
 use Rattle.wt_laws.proofs.TurnCauses.{entries_theorem, recorded_theorem, went_out_theorem}

@@ -1,13 +1,13 @@
 -- The turns of a run that have answers, one by one, and where it stops.
-use Rattle.std.proofs.Common.{arith, ◌≡◌, ◌<◌, ◌≤◌, ℕ, zero, suc, Bool, true, false, List, [], ◌∷◌, length, take, refl, sym, subst, ap, ◌∙◌}
+use Rattle.std.proofs.Common.{arith, ◌≡◌, ◌<◌, ◌≤◌, ℕ, zero, suc, true, false, List, [], ◌∷◌, length, take, refl, sym, subst, ap, ◌∙◌}
 use Rattle.std.specs.Prelude.{Err, IfErr, None, Ok, Option, Result, Some, slice_get}
 use Rattle.wt_laws.specs.Reachable.{AllLawful, IsReachable}
 use Rattle.wt_laws.proofs.Theorems.{lawful_runs_theorem, reachable_theorem}
-use Rattle.wt_spec.specs.Answers.{AtUnlawful, Finished, Run, RunEnd, answer_to, is_lawful, log_after, log_from, run, run_from}
+use Rattle.wt_spec.specs.Answers.{AtUnlawful, Finished, Run, RunEnd, answer_to, is_lawful, log_after, log_from, run}
 use Rattle.wt_trace.specs.Trace.{EachAnswered, IfAnswered, IsTrace, StopsRightly, log_at}
 use Rattle.wt_trace.specs.declared.trace.TraceError.{TraceError}
 use Rattle.wt_trace.specs.declared.trace.TraceError.TheVariants as errors
-use Rattle.wt_trace.proofs.RunLaws.{along, run-answers, run-lawful}
+use Rattle.wt_trace.proofs.RunLaws.{along, run-lawful}
 use Rattle.wt_turn.specs.Log.{Log}
 use Rattle.wt_turn.specs.declared.answer.Answer.{Answer}
 use Rattle.wt_turn.specs.declared.turn.Turn.{Turn}

@@ -1,5 +1,5 @@
 -- A run goes on from the answers so far.
-use Rattle.std.proofs.Common.{◌≡◌, Bool, true, false, List, [], ◌∷◌, ◌++◌, length, take, refl, sym, subst, ap, ◌∙◌, append-nil, append_assoc}
+use Rattle.std.proofs.Common.{◌≡◌, Bool, true, false, List, [], ◌∷◌, ◌++◌, length, take, refl, sym, subst, ap, ◌∙◌, append_assoc}
 use Rattle.wt_laws.specs.Reachable.{AllLawful}
 use Rattle.wt_spec.specs.Answers.{AtUnlawful, Finished, Run, answer_to, answers_from, is_lawful, log_after, run_from, with_answer}
 use Rattle.wt_turn.specs.Log.{Log}
