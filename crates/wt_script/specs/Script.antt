@@ -49,14 +49,14 @@ with_words before (Some side) line = option_map (with_turn before) (turn_of line
 abbrev pub with_line : Lines → List ℕ → Option Lines
 with_line before line = if is_left_out line then Some before else with_words before before.side line
 
--- a script without a side is refused behind its last line
-abbrev pub finished : ℕ → List Turn → Option Side → Result Script ScriptRefused
-finished number turns None = Err (record { line = number })
-finished number turns (Some side) = Ok (record { side = side; turns = turns })
+-- what a script comes to at its end: without a side it is refused after its last line
+abbrev pub script_at_end : ℕ → List Turn → Option Side → Result Script ScriptRefused
+script_at_end number turns None = Err (record { line = number })
+script_at_end number turns (Some side) = Ok (record { side = side; turns = turns })
 
 -- the lines one after another, the first of this number; the first that is none of a script's refuses it
 abbrev pub read_lines : ℕ → Lines → List (List ℕ) → Result Script ScriptRefused
-read_lines number before [] = finished number before.turns before.side
+read_lines number before [] = script_at_end number before.turns before.side
 read_lines number before (line ∷ lines) = elim (with_line before line) [ Some next ↦ read_lines (number + 1) next lines | None ↦ Err (record { line = number }) ]
 
 -- no line yet

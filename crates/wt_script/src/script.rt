@@ -2,7 +2,7 @@
 ghost use Rattle.std.specs.Prelude.{◌≡◌, ◌+◌, ◌<◌, ◌^◌, [], IfOk, Some, None, Ok, if◌then◌else◌};
 ghost use Rattle.std.specs.Option.{option_map};
 ghost use Rattle.wt_script.specs.Words.{lines_from};
-ghost use Rattle.wt_script.specs.Script.{finished, no_lines, read_lines, script_of, side_of, turn_of, with_line, with_side, with_turn};
+ghost use Rattle.wt_script.specs.Script.{no_lines, read_lines, script_at_end, script_of, side_of, turn_of, with_line, with_side, with_turn};
 
 mod addresses;
 mod calls;
@@ -30,7 +30,7 @@ pub struct Script {
 }
 
 /// A script is refused for this line, counted from 1: the first that isn't in the grammar, or the one
-/// behind the last where no line tells the side.
+/// after the last where no line tells the side.
 #[derive(Clone, Copy, PartialEq, Eq, Debug)]
 pub struct ScriptRefused {
     pub line: u64,
@@ -101,7 +101,7 @@ impl Draft {
 
     /// The script, or its refusal at this line where no line told the side.
     fn finish(self, number: u64) -> Result<Script, ScriptRefused>
-        ensures { result ≡ finished number self.turns self.side }
+        ensures { result ≡ script_at_end number self.turns self.side }
     {
         match self.side {
             Some(side) => Ok(Script {

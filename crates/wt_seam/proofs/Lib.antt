@@ -8,3 +8,4 @@ pub mod Arriving
 pub mod Calls
 pub mod Refining
 pub mod HalfLaws
+pub mod Asking

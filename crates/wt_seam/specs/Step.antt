@@ -234,6 +234,32 @@ after_give_up t id = with_change t id stream.give_up
 abbrev pub end_now : TransportState → ℕ → StreamEnd
 end_now t id = if stream.has_stream t.streams id then (stream.stream_at t.streams id).signals.end else ends.Running
 
+-- ---- what was told of a stream, and what went out on it
+
+-- how many bytes may go out on it in all; before it is opened, what a new one may
+abbrev pub credit_now : TransportState → ℕ → ℕ
+credit_now t id = if stream.has_stream t.streams id then (stream.stream_at t.streams id).credit else t.initial_credit
+
+-- the code with which the peer stopped this end's half
+abbrev pub stop_now : TransportState → ℕ → Option ℕ
+stop_now t id = if stream.has_stream t.streams id then (stream.stream_at t.streams id).signals.stop else None
+
+-- how many bytes went out on it
+abbrev pub sent_now : TransportState → ℕ → ℕ
+sent_now t id = if stream.has_stream t.streams id then (stream.stream_at t.streams id).sent else 0
+
+-- this end finished its half
+abbrev pub is_finished_now : TransportState → ℕ → Bool
+is_finished_now t id = stream.has_stream t.streams id && (stream.stream_at t.streams id).finished
+
+-- this end reset its half
+abbrev pub is_reset_now : TransportState → ℕ → Bool
+is_reset_now t id = stream.has_stream t.streams id && (stream.stream_at t.streams id).reset
+
+-- all of this end's half was acknowledged
+abbrev pub is_acknowledged_now : TransportState → ℕ → Bool
+is_acknowledged_now t id = stream.has_stream t.streams id && (stream.stream_at t.streams id).signals.acknowledged
+
 -- at first
 abbrev pub nothing_connected : Side → TransportState
 nothing_connected side = record {

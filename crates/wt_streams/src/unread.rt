@@ -1,5 +1,5 @@
 //! The bytes of a stream that came and weren't read.
-ghost use Rattle.std.specs.Prelude.{◌≡◌, ◌≤◌, ◌+◌, ◌-◌, ◌++◌, [], length, min, take, drop, OnErr, OnOk};
+ghost use Rattle.std.specs.Prelude.{◌≡◌, ◌≤◌, ◌<◌, ◌+◌, ◌-◌, ◌++◌, [], length, min, take, drop, OnErr, OnOk};
 ghost use Rattle.std.specs.List.{concat};
 ghost use Rattle.wt_streams.specs.Pieces.{AreFilled, first_piece, skip, with_piece};
 
@@ -58,7 +58,8 @@ impl Unread {
 
     /// The unread bytes of the first piece.
     pub fn first(&self) -> &[u8]
-        ensures { result.now ≡ first_piece self.now }
+        ensures piece { result.now ≡ first_piece self.now }
+        ensures some { 0 < length (concat self.now) → 0 < length result.now }
     {
         match self.pieces.front() {
             Some(piece) => piece.as_slice(),

@@ -24,6 +24,7 @@ impl Transport {
     /// nothing is unread, as where the stream has no receiving half.
     pub fn peek(&self, id: StreamId) -> &[u8]
         ensures now { result.now ≡ first_piece (pieces_now self.now id) }
+        ensures some { 0 < length (unread_now self.now id) → 0 < length result.now }
         ensures log { (side : Side) (log : Log) (position : ℕ → ReadPosition) (untaken : List Action) → Refines side self.now log position untaken → IsFront result.now (unread log position id) }
         ensures no_half { (side : Side) (log : Log) (position : ℕ → ReadPosition) (untaken : List Action) → Refines side self.now log position untaken → can_receive side log id ≡ false → result.now ≡ [] }
     {
@@ -31,7 +32,8 @@ impl Transport {
     }
 
     fn peek_now(&self, id: StreamId) -> &[u8]
-        ensures { result.now ≡ first_piece (pieces_now self.now id) }
+        ensures piece { result.now ≡ first_piece (pieces_now self.now id) }
+        ensures some { 0 < length (unread_now self.now id) → 0 < length result.now }
     {
         if self.has(id) {
             return self.stream(id).unread.first();

@@ -250,7 +250,7 @@ impl Transport {
 }
 
 /// The id of a kind's stream, counted from 0.
-fn stream_id(kind: u64, index: u64) -> StreamId
+pub(super) fn stream_id(kind: u64, index: u64) -> StreamId
     requires kind { kind < 4 }
     requires index { index < 2 ^ 60 }
     ensures { result ≡ 4 * index + kind }

@@ -1,0 +1,70 @@
+//! The theorems, each a function with an empty body whose contract is the theorem.
+ghost use Rattle.std.specs.Prelude.{◌&&◌, ◌≡◌, ◌∷◌, ℕ, List, [], None, true};
+ghost use Rattle.wt_driver_spec.specs.Bounds.{Bounded, HasDistinctSlots};
+ghost use Rattle.wt_driver_spec.specs.Claims.{AcceptFollows, ByteRests, DequeuedAsk, IsOnce, MomentFollows, NothingLeft, ReceiveFollows, RestsOn, StreamsStay};
+ghost use Rattle.wt_driver_spec.specs.DriverState.{state_of};
+ghost use Rattle.wt_driver_spec.specs.Moment.{Fits, MayCall, MayFollow};
+ghost use Rattle.wt_driver_spec.specs.Rest.{AtRest, DriverFacts, IsQuiet, RestsWhileOpen};
+ghost use Rattle.wt_driver_spec.specs.Step.{after_call};
+ghost use Rattle.wt_seam_spec.specs.Streams.{contents};
+ghost use Rattle.wt_spec.specs.Answers.{log_after, log_from};
+ghost use Rattle.wt_spec.specs.Driver.{is_moment, log_and_flush, stream_table, transport_view};
+ghost use Rattle.wt_spec.specs.Scan.{has};
+ghost use Rattle.wt_spec.specs.StreamTable.{verdict_of};
+ghost use Rattle.wt_turn.specs.Log.{CallRecord, Called, Entry, Log, Received, is_open};
+ghost use Rattle.wt_turn.specs.declared.reply.Reply.{Reply};
+ghost use Rattle.wt_turn.specs.declared.turn.Turn.{Turn};
+ghost use Rattle.wt_wire.specs.declared.side.Side.{Side};
+
+/// What a driver asks of a log holds of every log that turns lead to: each entry might follow those
+/// before it, and all is at rest while the connection is open.
+#[tactic(auto, using(crate::proofs::Turns::start_theorem, crate::proofs::Turns::turn_theorem, crate::proofs::Turns::turns_theorem))]
+pub fn turns_keep_what_a_driver_asks()
+    ensures start { (side : Side) → DriverFacts side [] }
+    ensures turn { (side : Side) (log : Log) (turn : Turn) → DriverFacts side log → DriverFacts side (log_after side log turn) }
+    ensures turns { (side : Side) (all : List Turn) → DriverFacts side (log_from side [] all) }
+{}
+
+/// One entry more, whatever it is: what is kept behind its moment is the step of what was kept, and
+/// what goes out is what the step sends.
+#[tactic(auto, using(crate::proofs::Theorems::moment_theorem))]
+pub fn moments_are_followed()
+    ensures moment { (side : Side) (log : Log) (e : Entry) → MayFollow side log e → Fits side log → MomentFollows side log e }
+{}
+
+/// Accepts that pass streams of other sessions, and receives that pass datagrams, are those of the
+/// definitions; and where they give nothing, nothing is left that they could give.
+#[tactic(auto, using(crate::proofs::Theorems::accept_theorem, crate::proofs::Theorems::receive_theorem, crate::proofs::Theorems::nothing_theorem))]
+pub fn accepts_and_receives_are_followed()
+    ensures accept { (side : Side) (log : Log) (reply : ℕ → Reply) (kind session : ℕ) → DriverFacts side log → AcceptFollows side log reply kind session }
+    ensures receive { (side : Side) (log : Log) (session : ℕ) → DriverFacts side log → ReceiveFollows side log session }
+    ensures nothing { (side : Side) (log : Log) (session : ℕ) → DriverFacts side log → NothingLeft side log session }
+{}
+
+/// One scan brings a driver to rest; a call record that it doesn't ask of, and a byte that says
+/// nothing new, are then themselves alone.
+#[tactic(auto, using(crate::proofs::Theorems::rest_theorem, crate::proofs::Theorems::call_theorem, crate::proofs::Theorems::byte_theorem))]
+pub fn one_scan_brings_to_rest()
+    ensures rest { (side : Side) (log : Log) (e : Entry) → MayFollow side log e → Fits side log → is_moment e ≡ true → RestsWhileOpen side (log_and_flush side log e) }
+    ensures call { (side : Side) (log : Log) (r : CallRecord) → MayCall side log r → DriverFacts side log → after_call r (state_of side log) ≡ state_of side log
+        → RestsOn side log (Called r) }
+    ensures byte { (side : Side) (log : Log) (id byte : ℕ) → Fits side log → is_open log ≡ true → AtRest side log
+        → IsQuiet (transport_view side log) (contents (Received id byte ∷ log)) id (state_of side log) → ByteRests side log id byte }
+{}
+
+/// Behind the first few slots of a kind none is dequeued, and no stream has two slots.
+#[tactic(auto, using(crate::proofs::Theorems::bounded_theorem, crate::proofs::Theorems::distinct_theorem))]
+pub fn few_slots_are_dequeued()
+    ensures bounded { (side : Side) (log : Log) → Fits side log → Bounded (state_of side log) }
+    ensures distinct { (side : Side) (log : Log) → HasDistinctSlots (state_of side log) }
+{}
+
+/// A stream is classified once, and what is dequeued, classified or released stays so; a dequeued
+/// stream that isn't classified doesn't tell yet what it is.
+#[tactic(auto, using(crate::proofs::Theorems::once_theorem, crate::proofs::Theorems::stay_theorem, crate::proofs::Theorems::ask_theorem))]
+pub fn streams_are_classified_once()
+    ensures once { (side : Side) (log : Log) → Fits side log → IsOnce (stream_table side log).classified }
+    ensures stay { (side : Side) (log : Log) (e : Entry) → StreamsStay side log e }
+    ensures ask { (side : Side) (log : Log) (k : ℕ) → AtRest side log → has k (stream_table side log).dequeued ≡ true
+        → verdict_of k (stream_table side log).classified ≡ None → DequeuedAsk side log k }
+{}

@@ -1,0 +1,10 @@
+pub mod Streams
+pub mod Consuming
+pub mod ReadOn
+pub mod QuietLaws
+pub mod Shelves
+pub mod Offsets
+pub mod Reaching
+pub mod Asked
+pub mod Staging
+pub mod Passing

@@ -1,0 +1,173 @@
+-- A reader that takes piece after piece of what is unread stands as one that took all.
+use Rattle.std.proofs.Common.{arith, ◌≡◌, ◌<◌, ◌≤◌, ◌+◌, ◌-◌, ℕ, zero, suc, Bool, true, false, List, [], ◌∷◌, ◌++◌, length, take, drop, Option, Some, None, refl, sym, ap, subst, ◌∙◌, append_assoc, ◌⊎◌, inl, inr}
+use Rattle.std.specs.List.{concat}
+use Rattle.std.proofs.lemmas.List.{append-nil, length-drop, take-append-drop, take-append-le}
+use Rattle.std.proofs.lemmas.Bool.{cases_lt}
+use Rattle.wt_wire.specs.declared.side.StreamEnd.{StreamEnd}
+use Rattle.wt_wire.specs.declared.side.StreamEnd.TheVariants.{Running}
+use Rattle.wt_proto.specs.declared.walk.Step.{Step}
+use Rattle.wt_proto.specs.Walk.{outcome_at}
+use Rattle.wt_proto.specs.Progress.{HasRead, Progress, Reading, fed, fed_reading, progress_over, reached, reached_at}
+use Rattle.wt_proto.specs.Reading.{outcome_in}
+use Rattle.wt_proto.specs.Steady.{IsSteady}
+use Rattle.wt_proto.proofs.ProgressLaws.{fed-append, fed-fed}
+use Rattle.wt_streams.specs.Pieces.{first_piece}
+use Rattle.wt_seam.specs.State.{TransportState}
+use Rattle.wt_streams.proofs.PieceLaws.{drop_none}
+use Rattle.wt_seam.specs.Step.{after_consume, end_now, pieces_now, unread_now}
+use Rattle.wt_inbox.specs.Kept.{Consumes, Takes, Pulls, outcome_after}
+use Rattle.wt_inbox.proofs.Consuming.{consume-consumes, consumes-twice}
+
+-- ---- bytes
+
+pub take-first : (k : ℕ) (pieces : List (List ℕ)) → k ≤ length (first_piece pieces) → take k (concat pieces) ≡ take k (first_piece pieces)
+take-first k [] l = refl
+take-first k (p ∷ later) l = take-append-le k p (concat later) l
+
+pub first-within : (pieces : List (List ℕ)) → length (first_piece pieces) ≤ length (concat pieces)
+first-within [] = omega arith
+first-within (p ∷ later) = within p (concat later)
+  where
+    within : (p xs : List ℕ) → length p ≤ length (p ++ xs)
+    within [] xs = omega arith
+    within (x ∷ p) xs = omega (arith, within p xs)
+
+pub take-more : (m n : ℕ) (xs : List ℕ) → take (m + n) xs ≡ take m xs ++ take n (drop m xs)
+take-more zero n xs = ap (λ i. take i xs) (omega arith)
+take-more (suc m) n [] = none (suc m + n) ∙ sym (none n)
+  where
+    none : (n : ℕ) → take {A = ℕ} n [] ≡ []
+    none zero = refl
+    none (suc n) = refl
+take-more (suc m) n (x ∷ xs) =
+    let e : suc m + n ≡ suc (m + n) = omega arith in
+    ap (λ i. take i (x ∷ xs)) e ∙ ap (λ ys. x ∷ ys) (take-more m n xs)
+
+-- ---- the first piece
+
+module _ (t u : TransportState) (id n : ℕ) (piece : List ℕ) (is : piece ≡ first_piece (pieces_now t id)) (within : n ≤ length piece) where
+  front : (k : ℕ) → k ≤ length piece → take k piece ≡ take k (unread_now t id)
+  front k l = ap (λ (xs : List ℕ). take k xs) is ∙ sym (take-first k (pieces_now t id) (subst (λ (xs : List ℕ). k ≤ length xs) is l))
+
+  below : n ≤ length (unread_now t id)
+  below = let few : length piece ≤ length (unread_now t id) = subst (λ (xs : List ℕ). length xs ≤ length (unread_now t id)) (sym is) (first-within (pieces_now t id)) in omega arith
+
+  pub front-takes_ : {S O : Type 0} (start : S) (decide : S → List ℕ → Step S O) (final : O → Bool) (outcome_of : List ℕ → StreamEnd → O) (old new : Reading S O) → new ≡ fed_reading decide old (take n piece) → ((bytes : List ℕ) (end : StreamEnd) (k : ℕ) → HasRead decide start old bytes end → k < n → final (outcome_of (bytes ++ take k piece) end) ≡ false)
+      → u ≡ after_consume t id n → Takes start decide final outcome_of old new t u id n
+  front-takes_ start decide final outcome_of old new taken running after = record {
+    consumes = subst (λ (v : TransportState). Consumes t v id n) (sym after) (consume-consumes t id n below);
+    taken = taken ∙ ap (λ (xs : List ℕ). fed_reading decide old xs) (front n within);
+    running = λ bytes end has m l. ap (λ (xs : List ℕ). final (outcome_of (bytes ++ xs) end)) (sym (front m (omega arith))) ∙ running bytes end m has l;
+  }
+
+  pub front-less : u ≡ after_consume t id n → 0 < n → length (unread_now u id) < length (unread_now t id)
+  front-less after some =
+      let c = consume-consumes t id n below in
+      let rest : length (unread_now (after_consume t id n) id) ≡ length (unread_now t id) - n = ap length c.here ∙ length-drop n (unread_now t id) in
+      let same : length (unread_now u id) ≡ length (unread_now (after_consume t id n) id) = ap (λ (v : TransportState). length (unread_now v id)) after in
+      omega (arith, below)
+
+  -- nothing was taken of an empty piece: nothing is unread
+  pub front-none : u ≡ after_consume t id n → (0 < length (unread_now t id) → 0 < length piece) → length piece ≡ 0 → unread_now u id ≡ []
+  front-none after some zero_ =
+      let c = consume-consumes t id n below in
+      ap (λ (v : TransportState). unread_now v id) after ∙ (c.here ∙ none (unread_now t id) (λ l. let more = some l in omega arith))
+    where
+      none : (xs : List ℕ) → (0 < length xs → ⊥) → drop n xs ≡ []
+      none [] no_ = drop_none n
+      none (x ∷ xs) no_ = absurd (no_ (omega arith))
+
+pub front-takes : {S O : Type 0} (start : S) (decide : S → List ℕ → Step S O) (final : O → Bool) (outcome_of : List ℕ → StreamEnd → O) (old new : Reading S O) (t u : TransportState) (id n : ℕ) (piece : List ℕ)
+    → piece ≡ first_piece (pieces_now t id) → n ≤ length piece → new ≡ fed_reading decide old (take n piece)
+    → ((bytes : List ℕ) (end : StreamEnd) (k : ℕ) → HasRead decide start old bytes end → k < n → final (outcome_of (bytes ++ take k piece) end) ≡ false)
+    → u ≡ after_consume t id n → Takes start decide final outcome_of old new t u id n
+front-takes start decide final outcome_of old new t u id n piece is within taken running after = front-takes_ t u id n piece is within start decide final outcome_of old new taken running after
+
+-- ---- one piece after another
+
+module _ {S O : Type 0} (start : S) (decide : S → List ℕ → Step S O) (steady : IsSteady decide) (final : O → Bool) (outcome_of : List ℕ → StreamEnd → O) where
+  fed-read : (r : Reading S O) (bytes more : List ℕ) (end : StreamEnd) → HasRead decide start r bytes end → HasRead decide start (fed_reading decide r more) (bytes ++ more) end
+  fed-read r bytes more end has =
+      ap (λ (x : Reading S O). fed_reading decide x more) has
+      ∙ ap (λ (p : Progress S O). record { progress = p; end = end }) (fed-append decide steady bytes more start None 0)
+
+  module _ (old mid new : Reading S O) (t u v : TransportState) (id m n : ℕ) (a : Takes start decide final outcome_of old mid t u id m) (b : Takes start decide final outcome_of mid new u v id n) where
+    joined : take m (unread_now t id) ++ take n (unread_now u id) ≡ take (m + n) (unread_now t id)
+    joined = ap (λ (ys : List ℕ). take m (unread_now t id) ++ take n ys) a.consumes.here ∙ sym (take-more m n (unread_now t id))
+
+    taken-twice : new ≡ fed_reading decide old (take (m + n) (unread_now t id))
+    taken-twice = b.taken ∙ (ap (λ (r : Reading S O). fed_reading decide r (take n (unread_now u id))) a.taken
+        ∙ ap (λ (p : Progress S O). record { progress = p; end = old.end }) (fed-fed decide steady old.progress (take m (unread_now t id)) (take n (unread_now u id)) ∙ ap (λ (ys : List ℕ). fed decide old.progress ys) joined))
+
+    running-twice : (bytes : List ℕ) (end : StreamEnd) → HasRead decide start old bytes end → (k : ℕ) → k < m + n → final (outcome_of (bytes ++ take k (unread_now t id)) end) ≡ false
+    running-twice bytes end has k l = elim (cases_lt k m) [
+      | inl lt ↦ a.running bytes end has k lt
+      | inr le ↦
+          let read : HasRead decide start mid (bytes ++ take m (unread_now t id)) end = a.taken ∙ fed-read old bytes (take m (unread_now t id)) end has in
+          let at : m + (k - m) ≡ k = omega arith in
+          let split : take k (unread_now t id) ≡ take m (unread_now t id) ++ take (k - m) (unread_now u id) =
+          ap (λ i. take i (unread_now t id)) (sym at) ∙ (take-more m (k - m) (unread_now t id) ∙ ap (λ (ys : List ℕ). take m (unread_now t id) ++ take (k - m) ys) (sym a.consumes.here)) in
+          ap (λ (ys : List ℕ). final (outcome_of ys end)) (ap (λ (ys : List ℕ). bytes ++ ys) split ∙ sym (append_assoc bytes (take m (unread_now t id)) (take (k - m) (unread_now u id))))
+          ∙ b.running (bytes ++ take m (unread_now t id)) end read (k - m) (omega arith)
+    ]
+
+    pub takes-twice : Takes start decide final outcome_of old new t v id (m + n)
+    takes-twice = record { consumes = consumes-twice t u v id m n a.consumes b.consumes; taken = taken-twice; running = running-twice }
+
+  -- ---- all of it
+
+  module _ (unfinished : StreamEnd → S → Bool → O) (goes_on : (s : S) (b : Bool) → final (unfinished Running s b) ≡ false) where
+    over : (s : S) (o : O) (ys : List ℕ) → progress_over decide s (Some o) 0 ys ≡ record { state = s; stop = Some o; skip = 0; kept = [] }
+    over s o [] = refl
+    over s o (y ∷ ys) = refl
+
+    -- what is final while the stream runs was stopped: more bytes change nothing
+    stays-at : (s : S) (stop : Option O) (skip : ℕ) (kept more : List ℕ) → final (outcome_at unfinished Running (reached_at s stop skip kept)) ≡ true
+        → fed decide (record { state = s; stop = stop; skip = skip; kept = kept }) more ≡ record { state = s; stop = stop; skip = skip; kept = kept }
+    stays-at s stop (suc skip) kept more e = let no_ = goes_on s false in absurd cc
+    stays-at s stop zero (b ∷ kept) more e = let no_ = goes_on s false in absurd cc
+    stays-at s None zero [] more e = let no_ = goes_on s true in absurd cc
+    stays-at s (Some o) zero [] more e = over s o more
+
+    stays : (r : Reading S O) (more : List ℕ) → r.end ≡ Running → final (outcome_in unfinished r) ≡ true → fed decide r.progress more ≡ r.progress
+    stays r more e f = stays-at r.progress.state r.progress.stop r.progress.skip r.progress.kept more (ap (λ (end : StreamEnd). final (outcome_at unfinished end (reached r.progress))) (sym e) ∙ f)
+
+    module _ (old new : Reading S O) (t u : TransportState) (id n : ℕ) (a : Takes start decide final outcome_of old new t u id n) (runs : old.end ≡ Running) where
+      took-front : new.progress ≡ fed decide old.progress (take n (unread_now t id))
+      took-front = ap (λ (r : Reading S O). r.progress) a.taken
+
+      all-if : (final (outcome_in unfinished new) ≡ true) ⊎ (unread_now u id ≡ []) → fed decide new.progress (unread_now u id) ≡ new.progress
+      all-if (inl f) = stays new (unread_now u id) (ap (λ (r : Reading S O). r.end) a.taken ∙ runs) f
+      all-if (inr none) = ap (λ (xs : List ℕ). fed decide new.progress xs) none
+          ∙ (ap (λ (p : Progress S O). fed decide p []) took-front
+          ∙ (fed-fed decide steady old.progress (take n (unread_now t id)) []
+          ∙ (ap (λ (xs : List ℕ). fed decide old.progress xs) (append-nil (take n (unread_now t id))) ∙ sym took-front)))
+
+      -- it stands as if it had taken all
+      pub took-all : (final (outcome_in unfinished new) ≡ true) ⊎ (unread_now u id ≡ []) → new.progress ≡ fed decide old.progress (unread_now t id)
+      took-all done =
+          sym (all-if done)
+          ∙ (ap (λ (p : Progress S O). fed decide p (unread_now u id)) took-front
+          ∙ (fed-fed decide steady old.progress (take n (unread_now t id)) (unread_now u id)
+          ∙ ap (λ (xs : List ℕ). fed decide old.progress xs) (ap (λ (ys : List ℕ). take n (unread_now t id) ++ ys) a.consumes.here ∙ take-append-drop n (unread_now t id))))
+
+      -- its reading on, of a reader whose progress was the same
+      pub pulled-all : (first last : Reading S O) → old.progress ≡ first.progress → last.progress ≡ new.progress → last.end ≡ end_now t id
+          → (final (outcome_in unfinished new) ≡ true) ⊎ (unread_now u id ≡ []) → Pulls start decide final outcome_of first last t u id
+      pulled-all first last same told end done =
+          let progress : last.progress ≡ fed decide first.progress (unread_now t id) = told ∙ (took-all done ∙ ap (λ (p : Progress S O). fed decide p (unread_now t id)) same) in
+          record {
+            count = n;
+            consumes = a.consumes;
+            all = λ i. record { progress = progress i; end = end i };
+            taken = told ∙ (took-front ∙ ap (λ (p : Progress S O). fed decide p (take n (unread_now t id))) same);
+            running = λ bytes e. a.running bytes Running (λ i. record { progress = (same ∙ e) i; end = runs i });
+          }
+
+      -- the outcome while the stream runs is that of all bytes
+      pub decided-all : (first : Reading S O) → old.progress ≡ first.progress → (final (outcome_in unfinished new) ≡ true) ⊎ (unread_now u id ≡ [])
+          → final (outcome_in unfinished new) ≡ final (outcome_after decide unfinished first (unread_now t id) Running)
+      decided-all first same done =
+          let progress : new.progress ≡ fed decide first.progress (unread_now t id) = took-all done ∙ ap (λ (p : Progress S O). fed decide p (unread_now t id)) same in
+          let end : new.end ≡ Running = ap (λ (r : Reading S O). r.end) a.taken ∙ runs in
+          λ i. final (outcome_at unfinished (end i) (reached (progress i)))

@@ -1,0 +1,10 @@
+use Rattle.std.proofs.Common.{ap, ◌∙◌}
+use Rattle.wt_turn.specs.Log.{events_of}
+use Rattle.wt_seam_spec.specs.Reports.{credit}
+use Rattle.wt_seam_spec.specs.Streams.{local_uni}
+use Rattle.wt_seam.proofs.Refining.{refined_side}
+use Rattle.wt_inbox.proofs.inbox.Inbox.control_credit.Goals as goal
+
+pub returns-clause-log : goal.returns-clause-log
+returns-clause-log c = λ side log stage untaken r o.
+    c.credit.ensures.log side log stage untaken r o ∙ ap (credit (events_of log)) (c.control_id.ensures ∙ ap local_uni (refined_side side c.args.self.now.transport log r.position untaken r.transport))

@@ -1,0 +1,22 @@
+use Rattle.std.proofs.Common.{◌∙◌}
+use Rattle.wt_inbox.proofs.Asked.{control-same, control-others, control-quiet, control-answered}
+use Rattle.wt_inbox.proofs.Staging.{control-says, control_read_refines}
+use Rattle.wt_inbox.proofs.inbox.Inbox.control_walk.Goals as goal
+
+pub returns-clause-now : goal.returns-clause-now
+returns-clause-now c = c.control_outcome.ensures ∙ control-answered c.args.self.now c.pull_control.new.self c.args.id c.in_ok-pull_control.ensures
+
+pub returns-clause-same : goal.returns-clause-same
+returns-clause-same c = control-same c.args.self.now c.pull_control.new.self c.args.id c.in_ok-pull_control.ensures
+
+pub returns-clause-others : goal.returns-clause-others
+returns-clause-others c = control-others c.args.self.now c.pull_control.new.self c.args.id c.in_ok-pull_control.ensures
+
+pub returns-clause-quiet : goal.returns-clause-quiet
+returns-clause-quiet c = control-quiet c.args.self.now c.pull_control.new.self c.args.id c.in_ok-pull_control.ensures
+
+pub returns-clause-log_answer : goal.returns-clause-log_answer
+returns-clause-log_answer c = λ side log stage untaken r from a. c.control_outcome.ensures ∙ control-answered c.args.self.now c.pull_control.new.self c.args.id c.in_ok-pull_control.ensures ∙ control-says side c.args.self.now log stage untaken r c.args.id from a
+
+pub returns-clause-log : goal.returns-clause-log
+returns-clause-log c = λ side log stage untaken r from a. control_read_refines side c.args.self.now log stage untaken r c.args.id from a c.pull_control.new.self c.in_ok-pull_control.ensures

@@ -1,0 +1,23 @@
+use Rattle.std.proofs.Common.{ap, ◌∙◌}
+use Rattle.wt_proto.specs.Uni.{is_final}
+use Rattle.wt_inbox.proofs.Asked.{bi-same, bi-others, bi-quiet, bi-answered}
+use Rattle.wt_inbox.proofs.Staging.{bi-says, bi_read_refines}
+use Rattle.wt_inbox.proofs.inbox.Inbox.has_bi_verdict.Goals as goal
+
+pub returns-clause-now : goal.returns-clause-now
+returns-clause-now c = c.is_bi_final.ensures ∙ ap is_final (bi-answered c.args.self.now c.pull_bi.new.self c.args.id c.in_ok-pull_bi.ensures)
+
+pub returns-clause-same : goal.returns-clause-same
+returns-clause-same c = bi-same c.args.self.now c.pull_bi.new.self c.args.id c.in_ok-pull_bi.ensures
+
+pub returns-clause-others : goal.returns-clause-others
+returns-clause-others c = bi-others c.args.self.now c.pull_bi.new.self c.args.id c.in_ok-pull_bi.ensures
+
+pub returns-clause-quiet : goal.returns-clause-quiet
+returns-clause-quiet c = bi-quiet c.args.self.now c.pull_bi.new.self c.args.id c.in_ok-pull_bi.ensures
+
+pub returns-clause-log_answer : goal.returns-clause-log_answer
+returns-clause-log_answer c = λ side log stage untaken r a. c.is_bi_final.ensures ∙ ap is_final (bi-answered c.args.self.now c.pull_bi.new.self c.args.id c.in_ok-pull_bi.ensures ∙ bi-says side c.args.self.now log stage untaken r c.args.id a)
+
+pub returns-clause-log : goal.returns-clause-log
+returns-clause-log c = λ side log stage untaken r a. bi_read_refines side c.args.self.now log stage untaken r c.args.id a c.pull_bi.new.self c.in_ok-pull_bi.ensures

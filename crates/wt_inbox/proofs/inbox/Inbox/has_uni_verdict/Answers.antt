@@ -1,0 +1,23 @@
+use Rattle.std.proofs.Common.{ap, ◌∙◌}
+use Rattle.wt_proto.specs.Uni.{is_final}
+use Rattle.wt_inbox.proofs.Asked.{uni-same, uni-others, uni-quiet, uni-answered}
+use Rattle.wt_inbox.proofs.Staging.{uni-says, uni_read_refines}
+use Rattle.wt_inbox.proofs.inbox.Inbox.has_uni_verdict.Goals as goal
+
+pub returns-clause-now : goal.returns-clause-now
+returns-clause-now c = c.is_uni_final.ensures ∙ ap is_final (uni-answered c.args.self.now c.pull_uni.new.self c.args.id c.in_ok-pull_uni.ensures)
+
+pub returns-clause-same : goal.returns-clause-same
+returns-clause-same c = uni-same c.args.self.now c.pull_uni.new.self c.args.id c.in_ok-pull_uni.ensures
+
+pub returns-clause-others : goal.returns-clause-others
+returns-clause-others c = uni-others c.args.self.now c.pull_uni.new.self c.args.id c.in_ok-pull_uni.ensures
+
+pub returns-clause-quiet : goal.returns-clause-quiet
+returns-clause-quiet c = uni-quiet c.args.self.now c.pull_uni.new.self c.args.id c.in_ok-pull_uni.ensures
+
+pub returns-clause-log_answer : goal.returns-clause-log_answer
+returns-clause-log_answer c = λ side log stage untaken r a. c.is_uni_final.ensures ∙ ap is_final (uni-answered c.args.self.now c.pull_uni.new.self c.args.id c.in_ok-pull_uni.ensures ∙ uni-says side c.args.self.now log stage untaken r c.args.id a)
+
+pub returns-clause-log : goal.returns-clause-log
+returns-clause-log c = λ side log stage untaken r a. uni_read_refines side c.args.self.now log stage untaken r c.args.id a c.pull_uni.new.self c.in_ok-pull_uni.ensures

@@ -1,0 +1,19 @@
+use Rattle.std.proofs.Common.{◌∙◌}
+use Rattle.wt_inbox.proofs.Asked.{bi-answered, bi-released-others, bi-released-quiet}
+use Rattle.wt_inbox.proofs.Staging.{bi-says, bi_released_refines}
+use Rattle.wt_inbox.proofs.inbox.Inbox.release_bi.Goals as goal
+
+pub returns-clause-now : goal.returns-clause-now
+returns-clause-now c = c.take_bi.ensures.outcome ∙ bi-answered c.args.self.now c.pull_bi.new.self c.args.id c.in_ok-pull_bi.ensures
+
+pub returns-clause-others : goal.returns-clause-others
+returns-clause-others c = bi-released-others c.args.self.now c.pull_bi.new.self c.args.id c.in_ok-pull_bi.ensures c.take_bi.new.self c.take_bi.ensures.taken
+
+pub returns-clause-quiet : goal.returns-clause-quiet
+returns-clause-quiet c = bi-released-quiet c.args.self.now c.pull_bi.new.self c.args.id c.in_ok-pull_bi.ensures c.take_bi.new.self c.take_bi.ensures.taken
+
+pub returns-clause-log_answer : goal.returns-clause-log_answer
+returns-clause-log_answer c = λ side log stage untaken r a. c.take_bi.ensures.outcome ∙ (bi-answered c.args.self.now c.pull_bi.new.self c.args.id c.in_ok-pull_bi.ensures ∙ bi-says side c.args.self.now log stage untaken r c.args.id a)
+
+pub returns-clause-log : goal.returns-clause-log
+returns-clause-log c = λ side log stage untaken r a. bi_released_refines side c.args.self.now log stage untaken r c.args.id a c.pull_bi.new.self c.in_ok-pull_bi.ensures c.take_bi.new.self c.take_bi.ensures.taken

@@ -1,0 +1,19 @@
+use Rattle.std.proofs.Common.{◌∙◌}
+use Rattle.wt_inbox.proofs.Asked.{uni-answered, uni-released-others, uni-released-quiet}
+use Rattle.wt_inbox.proofs.Staging.{uni-says, uni_released_refines}
+use Rattle.wt_inbox.proofs.inbox.Inbox.release_uni.Goals as goal
+
+pub returns-clause-now : goal.returns-clause-now
+returns-clause-now c = c.take_uni.ensures.outcome ∙ uni-answered c.args.self.now c.pull_uni.new.self c.args.id c.in_ok-pull_uni.ensures
+
+pub returns-clause-others : goal.returns-clause-others
+returns-clause-others c = uni-released-others c.args.self.now c.pull_uni.new.self c.args.id c.in_ok-pull_uni.ensures c.take_uni.new.self c.take_uni.ensures.taken
+
+pub returns-clause-quiet : goal.returns-clause-quiet
+returns-clause-quiet c = uni-released-quiet c.args.self.now c.pull_uni.new.self c.args.id c.in_ok-pull_uni.ensures c.take_uni.new.self c.take_uni.ensures.taken
+
+pub returns-clause-log_answer : goal.returns-clause-log_answer
+returns-clause-log_answer c = λ side log stage untaken r a. c.take_uni.ensures.outcome ∙ (uni-answered c.args.self.now c.pull_uni.new.self c.args.id c.in_ok-pull_uni.ensures ∙ uni-says side c.args.self.now log stage untaken r c.args.id a)
+
+pub returns-clause-log : goal.returns-clause-log
+returns-clause-log c = λ side log stage untaken r a. uni_released_refines side c.args.self.now log stage untaken r c.args.id a c.pull_uni.new.self c.in_ok-pull_uni.ensures c.take_uni.new.self c.take_uni.ensures.taken

@@ -1,0 +1,20 @@
+use Rattle.std.proofs.Common.{sym, subst}
+use Rattle.std.proofs.lemmas.Result.{on_ok_weaker}
+use Rattle.wt_streams.specs.HalfRules.{is_closed}
+use Rattle.wt_seam.specs.Rules.{sending_half}
+use Rattle.wt_inbox.specs.State.{InboxState}
+use Rattle.wt_inbox.specs.Stage.{Refines}
+use Rattle.wt_inbox.proofs.Passing.{goes-reset-unless, passes}
+use Rattle.wt_inbox.proofs.inbox.Inbox.reset_half.Goals as goal
+
+pub returns-clause-log_answer : goal.returns-clause-log_answer
+returns-clause-log_answer c = λ side log stage untaken r.
+    let x : InboxState = record { transport = c.self.inside.transport; unis = c.self.inside.unis; bis = c.self.inside.bis; responses = c.self.inside.responses; controls = c.self.inside.controls; sessions = c.self.inside.sessions } in
+    let s : Refines side x log stage untaken = subst (λ (y : InboxState). Refines side y log stage untaken) (sym c.self.view_is) r in
+    c.reset.ensures.log_answer side log s.position untaken s.transport
+
+pub returns-clause-log : goal.returns-clause-log
+returns-clause-log c = λ side log stage untaken r.
+    let x : InboxState = record { transport = c.self.inside.transport; unis = c.self.inside.unis; bis = c.self.inside.bis; responses = c.self.inside.responses; controls = c.self.inside.controls; sessions = c.self.inside.sessions } in
+    let s : Refines side x log stage untaken = subst (λ (y : InboxState). Refines side y log stage untaken) (sym c.self.view_is) r in
+    on_ok_weaker c.reset.result (λ q. passes side x log stage untaken s c.reset.new.t _ _ (goes-reset-unless side log c.args.id c.args.code (is_closed (sending_half log c.args.id))) q) (c.reset.ensures.log side log s.position untaken s.transport)

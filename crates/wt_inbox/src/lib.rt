@@ -1,0 +1,15 @@
+//! The transport of one connection together with the readers of what the peer sends on streams: headers,
+//! the control stream, sessions' streams, responses.
+//!
+//! An [`Inbox`] feeds each reader the unread bytes of its stream as it is asked, and consumes what the
+//! reader takes. What it answers doesn't depend on when it was asked before: the definitions beside it
+//! say the same of the whole log of a connection.
+#![tactic(auto)]
+
+pub mod inbox;
+mod reading;
+mod shelf;
+#[cfg(test)]
+mod tests;
+
+pub use inbox::Inbox;

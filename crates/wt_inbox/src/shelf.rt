@@ -1,0 +1,163 @@
+//! The readers of one kind, each with its stream.
+ghost use Rattle.std.specs.Prelude.{◌≡◌, ◌==◌, ℕ, Bool, [], None, IfOk, IfSome, OnOk, length, false};
+ghost use Rattle.std.specs.List.{position};
+ghost use Rattle.wt_wire.specs.declared.side.StreamEnd.TheVariants.{Running};
+ghost use Rattle.wt_proto.specs.Reading.{outcome_in};
+ghost use Rattle.wt_proto.specs.Steady.{IsSteady};
+ghost use Rattle.wt_seam.specs.Step.{unread_now};
+ghost use Rattle.wt_inbox.specs.Kept.{Pulled, Pulls, StandsAt, no_reading, outcome_after, outcome_by, reading_of};
+
+use crate::reading::read_all;
+use std::alloc::Global;
+use std::marker::Model;
+use wt_proto::reader::StreamReader;
+use wt_proto::walk::Walk;
+use wt_seam::Transport;
+use wt_wire::error::OutOfMemory;
+use wt_wire::ids::StreamId;
+
+/// A reader, and its stream.
+#[derive(Drop)]
+pub(crate) struct Entry<W: Walk> {
+    id: StreamId,
+    reader: StreamReader<W>,
+}
+
+impl<W: Walk> Model for Entry<W> {
+    ghost use Rattle.wt_inbox.specs.Kept.{Kept};
+
+    ghost Value = { Kept W.State W.Outcome };
+
+    ghost view = { λ e. record { id = e.id; reading = e.reader } };
+}
+
+/// The readers of one kind. Contracts see the list of them.
+#[derive(Drop)]
+pub(crate) struct Shelf<W: Walk> {
+    entries: Vec<Entry<W>>,
+}
+
+impl<W: Walk> Model for Shelf<W> {
+    ghost use Rattle.std.specs.Prelude.{List};
+    ghost use Rattle.wt_inbox.specs.Kept.{Kept};
+
+    ghost Value = { List (Kept W.State W.Outcome) };
+
+    ghost view = { λ s. s.entries.items };
+}
+
+impl<W: Walk> Entry<W> {
+    fn is_of(&self, id: StreamId) -> bool
+        ensures { result ≡ (self.now.id == id) }
+    {
+        self.id == id
+    }
+
+    /// Reads on, and tells whether the bytes alone made the outcome final.
+    fn read(&mut self, transport: &mut Transport) -> Result<bool, OutOfMemory>
+        requires steady { IsSteady W.decides }
+        requires goes_on { (s : W.State) (between : Bool) → W.is_final_outcome (W.unfinished_at Running s between) ≡ false }
+        ensures id { self.new.id ≡ self.old.id }
+        ensures pulls { IfOk result (λ _. Pulls W.start_state W.decides W.is_final_outcome W.outcome_of self.old.reading self.new.reading transport.old transport.new self.old.id) }
+        ensures decided { IfOk result (λ decided. decided ≡ W.is_final_outcome (outcome_after W.decides W.unfinished_at self.old.reading (unread_now transport.old self.old.id) Running)) }
+    {
+        read_all(transport, self.id, &mut self.reader)
+    }
+
+    fn outcome(&self) -> &W::Outcome
+        ensures { result.now ≡ outcome_in W.unfinished_at self.now.reading }
+    {
+        self.reader.outcome()
+    }
+
+    fn into_outcome(self) -> W::Outcome
+        ensures { result ≡ outcome_in W.unfinished_at self.reading }
+    {
+        let Entry { id: _, reader } = self;
+        reader.into_outcome()
+    }
+}
+
+impl<W: Walk> Shelf<W> {
+    /// No readers.
+    pub(crate) fn new(alloc: Global) -> Self
+        ensures { result ≡ [] }
+    {
+        Shelf {
+            entries: Vec::new(alloc),
+        }
+    }
+
+    /// How many there are.
+    pub(crate) fn len(&self) -> usize
+        ensures { result ≡ length self.now }
+    {
+        self.entries.len()
+    }
+
+    /// Where the reader of a stream stands.
+    fn index_of(&self, id: StreamId) -> Option<usize>
+        ensures { result ≡ position (λ kept. kept.id == id) self.now }
+    {
+        self.entries.iter().position(|entry| entry.is_of(id))
+    }
+
+    /// Where the reader of a stream stands; the fresh one is kept where there was none.
+    fn index_for(&mut self, id: StreamId, fresh: StreamReader<W>) -> Result<usize, OutOfMemory>
+        requires { fresh ≡ no_reading W.start_state }
+        ensures at { IfOk result (λ index. StandsAt W.start_state self.new id index) }
+        ensures same { OnOk result ((k : ℕ) → reading_of W.start_state self.new k ≡ reading_of W.start_state self.old k) }
+    {
+        match self.index_of(id) {
+            Some(index) => Ok(index),
+            None => {
+                let index = self.entries.len();
+                self.entries.push(Entry { id, reader: fresh })?;
+                Ok(index)
+            }
+        }
+    }
+
+    /// The reader of a stream reads on; where there was none, it is the fresh one. Tells whether the
+    /// bytes alone made the outcome final.
+    pub(crate) fn pull(
+        &mut self,
+        transport: &mut Transport,
+        id: StreamId,
+        fresh: StreamReader<W>,
+    ) -> Result<bool, OutOfMemory>
+        requires steady { IsSteady W.decides }
+        requires goes_on { (s : W.State) (between : Bool) → W.is_final_outcome (W.unfinished_at Running s between) ≡ false }
+        requires fresh { fresh ≡ no_reading W.start_state }
+        ensures pulled { OnOk result (Pulled W.start_state W.decides W.is_final_outcome W.outcome_of self.old self.new transport.old transport.new id) }
+        ensures decided { IfOk result (λ decided. decided ≡ W.is_final_outcome (outcome_by W.decides W.start_state W.unfinished_at self.old transport.old id Running)) }
+    {
+        let index = self.index_for(id, fresh)?;
+        let entry = &mut self.entries[index];
+        entry.read(transport)
+    }
+
+    /// The outcome of a stream's reader, where there is one.
+    pub(crate) fn outcome(&self, id: StreamId) -> Option<&W::Outcome>
+        ensures some { IfSome result (λ outcome. outcome.now ≡ outcome_in W.unfinished_at (reading_of W.start_state self.now id)) }
+        ensures none { result ≡ None → reading_of W.start_state self.now id ≡ no_reading W.start_state }
+    {
+        match self.index_of(id) {
+            Some(index) => Some(self.entries[index].outcome()),
+            None => None,
+        }
+    }
+
+    /// Lets the reader of a stream go, and tells its outcome; where there was none, that of the fresh
+    /// one.
+    pub(crate) fn release(&mut self, id: StreamId, fresh: StreamReader<W>) -> W::Outcome
+        requires { fresh ≡ no_reading W.start_state }
+        ensures outcome { result ≡ outcome_in W.unfinished_at (reading_of W.start_state self.old id) }
+        ensures others { (k : ℕ) → (id == k) ≡ false → reading_of W.start_state self.new k ≡ reading_of W.start_state self.old k }
+    {
+        match self.index_of(id) {
+            Some(index) => self.entries.remove(index).into_outcome(),
+            None => fresh.into_outcome(),
+        }
+    }
+}

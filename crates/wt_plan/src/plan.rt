@@ -1,0 +1,132 @@
+//! What a call of the application does, as data.
+ghost use Rattle.std.specs.Prelude.{◌≡◌, ◌++◌, ◌∷◌, [], IfOk, OnOk, if◌then◌else◌, ℕ};
+ghost use Rattle.wt_seam_spec.specs.Joined.{send_of};
+ghost use Rattle.wt_turn.specs.Log.{HandshakeOver, Polled};
+ghost use Rattle.wt_turn.specs.declared.action.Action.TheVariants as actions;
+ghost use Rattle.wt_plan.specs.Planned.{planned};
+ghost use Rattle.wt_plan.specs.Records.{record_of};
+ghost use Rattle.wt_session_spec.specs.Plan as session;
+
+use crate::record::Record;
+use std::alloc::Global;
+use wt_turn::action::Action;
+use wt_turn::piece::Piece;
+use wt_turn::reply::Reply;
+use wt_wire::error::OutOfMemory;
+use wt_wire::ids::{SessionId, StreamId};
+use wt_wire::varint::VarInt;
+
+/// What a call does.
+#[derive(Debug, Drop)]
+pub enum Plan {
+    /// These actions go out, this is recorded, and this is the reply.
+    Step {
+        own: Vec<Action>,
+        call: Record,
+        reply: Reply,
+    },
+    /// These actions go out, and the session is established.
+    Establish {
+        own: Vec<Action>,
+        id: SessionId,
+        at: usize,
+    },
+    /// The next unidirectional stream of the session is given.
+    AcceptUni(SessionId),
+    /// The next bidirectional stream of the session is given.
+    AcceptBi(SessionId),
+    /// The next datagram of the session is given.
+    Receive(SessionId),
+}
+
+/// A list of this action alone.
+pub fn one(alloc: Global, action: Action) -> Result<Vec<Action>, OutOfMemory>
+    ensures { IfOk result (λ own. own.items ≡ action ∷ []) }
+{
+    let mut own = Vec::new(alloc);
+    own.push(action)?;
+    Ok(own)
+}
+
+/// These actions, and then this one.
+pub fn with(own: Vec<Action>, action: Action) -> Result<Vec<Action>, OutOfMemory>
+    ensures { IfOk result (λ all. all.items ≡ own.items ++ action ∷ []) }
+{
+    let mut own = own;
+    own.push(action)?;
+    Ok(own)
+}
+
+/// These actions, and then the one that sends these bytes; no bytes send nothing.
+pub fn with_send(
+    alloc: Global,
+    own: Vec<Action>,
+    id: StreamId,
+    bytes: &[u8],
+) -> Result<Vec<Action>, OutOfMemory>
+    ensures { IfOk result (λ all. all.items ≡ own.items ++ send_of id bytes.now) }
+{
+    if bytes.is_empty() {
+        return Ok(own);
+    }
+    let piece = Piece::from_slice(alloc, bytes)?;
+    with(own, Action::Send { id, piece })
+}
+
+/// These actions, and then a close with this code and no reason where the connection is open.
+pub fn with_close(
+    alloc: Global,
+    own: Vec<Action>,
+    is_open: bool,
+    code: VarInt,
+) -> Result<Vec<Action>, OutOfMemory>
+    ensures { IfOk result (λ all. all.items ≡ own.items ++ (if is_open then actions.Close code [] ∷ [] else [])) }
+{
+    if !is_open {
+        return Ok(own);
+    }
+    let reason = Piece::new(alloc);
+    with(own, Action::Close { code, reason })
+}
+
+impl Plan {
+    /// These go out, and nothing else is recorded.
+    pub fn send_and_reply(own: Vec<Action>, reply: Reply) -> Plan
+        ensures { planned result ≡ session.Step own.items Polled reply }
+    {
+        Plan::Step {
+            own,
+            call: Record::Polled,
+            reply,
+        }
+    }
+
+    /// Nothing goes out, and nothing else is recorded.
+    pub fn only_reply(alloc: Global, reply: Reply) -> Plan
+        ensures { planned result ≡ session.Step [] Polled reply }
+    {
+        Plan::send_and_reply(Vec::new(alloc), reply)
+    }
+
+    /// Nothing goes out, and this is recorded.
+    pub fn only_record(alloc: Global, call: Record, reply: Reply) -> Plan
+        ensures { planned result ≡ session.Step [] (record_of call) reply }
+    {
+        Plan::Step {
+            own: Vec::new(alloc),
+            call,
+            reply,
+        }
+    }
+
+    /// The handshake is over, with no session.
+    pub fn fail_with(own: Vec<Action>, reply: Reply) -> Plan
+        ensures { planned result ≡ session.Step own.items HandshakeOver reply }
+    {
+        Plan::Step {
+            own,
+            call: Record::HandshakeOver,
+            reply,
+        }
+    }
+}

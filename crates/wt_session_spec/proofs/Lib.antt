@@ -1,0 +1,5 @@
+pub mod Uses
+pub mod HandshakeSame
+pub mod HalfSame
+pub mod ConnectionSame
+pub mod Theorems

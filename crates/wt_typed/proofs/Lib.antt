@@ -1,0 +1,8 @@
+pub mod Consuming
+pub mod Taking
+pub mod HeaderLaws
+pub mod NextFrameLaws
+pub mod ReadLaws
+pub mod SessionFrames
+pub mod WriteLaws
+pub mod AcceptLaws

@@ -1,0 +1,68 @@
+-- How a stream's bytes are read up to the end of an item, whatever the pieces are in which they come.
+use Rattle.std.specs.Prelude.{◌≡◌, ℕ, ◌<◌, ◌≤◌, List, length, take, Option, Some, None, is_some, Result, Ok, Err, Bool, true, false, ◌==◌, ◌&&◌, if◌then◌else◌}
+use Rattle.wt_wire.specs.declared.error.ErrorCode.{ErrorCode}
+use Rattle.wt_wire.specs.declared.side.StreamEnd.{StreamEnd}
+use Rattle.wt_wire.specs.declared.side.StreamEnd.TheVariants.{Running, Fin, Reset}
+use Rattle.wt_turn.specs.declared.poll.Poll.{Poll}
+use Rattle.wt_turn.specs.declared.poll.Poll.TheVariants as polls
+use Rattle.wt_turn.specs.declared.proto_error.IoReadError.TheVariants as ends
+use Rattle.wt_turn.specs.declared.proto_error.ProtoReadError.{ProtoReadError}
+use Rattle.wt_turn.specs.declared.proto_error.ProtoReadError.TheVariants.{H3, IO}
+use Rattle.wt_proto.specs.declared.walk.Step.{Step}
+use Rattle.wt_proto.specs.Progress.{Progress, IsProper, at_item, fed, progress_over, reached}
+use Rattle.wt_proto.specs.Steady.{IsSteady}
+use Rattle.wt_proto.specs.Walk.{Reached}
+use Rattle.wt_seam.specs.State.{TransportState}
+use Rattle.wt_seam.specs.Step.{after_consume, unread_now}
+
+-- what holds of a reader: its items are decided by their own bytes, and the bytes that it keeps decide nothing yet
+pub record IsReader {S O : Type 0} (decide : S → List ℕ → Step S O) (p : Progress S O) : Type 0 where
+  pub steady : IsSteady decide
+  pub proper : IsProper decide p
+
+-- an item stopped the reader, and no byte is to be skipped before it
+abbrev pub is_over : {S O : Type 0} → Progress S O → Bool
+is_over p = is_some p.stop && p.skip == 0
+
+-- after so many bytes of a stream were taken; where none was, the transport is as before
+abbrev pub after_taking : TransportState → ℕ → ℕ → TransportState
+after_taking t id n = if n == 0 then t else after_consume t id n
+
+-- The reader took the first n unread bytes of a stream: all of them, or up to the first item that stopped it.
+pub record Took {S O : Type 0} (decide : S → List ℕ → Step S O) (old new : Progress S O) (t u : TransportState) (id n : ℕ) : Type 0 where
+  pub within : n ≤ length (unread_now t id)
+  pub reading : new ≡ fed decide old (take n (unread_now t id))
+  pub running : (k : ℕ) → k < n → (reached (fed decide old (take k (unread_now t id)))).stop ≡ None
+  pub all : n < length (unread_now t id) → is_some (reached new).stop ≡ true
+  pub state : u ≡ after_taking t id n
+
+-- what is answered where the bytes end before an item is whole
+abbrev pub ended : {G : Type 0} → Bool → StreamEnd → Bool → Poll (Result G ProtoReadError)
+ended open_ Running between = if open_ then polls.Pending else polls.Ready (Err (IO ends.NotConnected))
+ended open_ Fin true = polls.Ready (Err (IO ends.ImmediateFin))
+ended open_ Fin false = polls.Ready (Err (IO ends.UnexpectedFin))
+ended open_ (Reset code) between = polls.Ready (Err (IO ends.Reset))
+
+-- the item that stopped a reader or its fault, else the end
+abbrev pub stopped_or_ended : {G : Type 0} → Bool → StreamEnd → Bool → Option (Result G ErrorCode) → Poll (Result G ProtoReadError)
+stopped_or_ended open_ end between (Some (Ok item)) = polls.Ready (Ok item)
+stopped_or_ended open_ end between (Some (Err fault)) = polls.Ready (Err (H3 fault))
+stopped_or_ended open_ end between None = ended open_ end between
+
+-- what a read answers that reached so far
+abbrev pub read_answer : {S G : Type 0} → Bool → StreamEnd → Reached S (Result G ErrorCode) → Poll (Result G ProtoReadError)
+read_answer open_ end r = stopped_or_ended open_ end r.between r.stop
+
+-- an item is handed out, and the next one follows; a fault stays
+abbrev pub handed_out : {S G : Type 0} → Option (Result G ErrorCode) → Progress S (Result G ErrorCode) → Progress S (Result G ErrorCode)
+handed_out (Some (Ok item)) p = at_item p.state
+handed_out (Some (Err fault)) p = p
+handed_out None p = p
+
+-- where a read leaves its reader
+abbrev pub after_read : {S G : Type 0} → Progress S (Result G ErrorCode) → Progress S (Result G ErrorCode)
+after_read p = handed_out (reached p).stop p
+
+-- these bytes came since the last item was handed out
+abbrev pub HasBegun : {S O : Type 0} → (S → List ℕ → Step S O) → S → Progress S O → List ℕ → Type 0
+HasBegun decide s p bytes = p ≡ progress_over decide s None 0 bytes
