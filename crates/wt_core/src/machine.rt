@@ -1,23 +1,27 @@
 //! One connection, driven turn by turn.
-ghost use Rattle.std.specs.Prelude.{◌≡◌, [], IfOk, OnOk, OnErr, IsErr, IsTrue};
-ghost use Rattle.wt_core.specs.CoreState.{Refines, may_turn};
-ghost use Rattle.wt_spec.specs.Answers.{answer_to, is_lawful, log_after};
-ghost use Rattle.wt_turn.specs.Log.{Log};
+ghost use Rattle.std.specs.Prelude.{◌≡◌, [], IfOk, OnOk, OnErr, IsErr, IsTrue, length, true};
+ghost use Rattle.wt_core.specs.CoreState.{Refines, may_come, may_turn};
+ghost use Rattle.wt_stub.specs.DriverValue.{KeepsCalls, Refines as DriverRefines};
+ghost use Rattle.wt_seam_spec.specs.Arrivals.{fits};
+ghost use Rattle.wt_spec.specs.Answers.{answer_to, call_effect, is_lawful, log_after, may_call, turn_effect};
+ghost use Rattle.wt_turn.specs.Log.{Log, actions_of, calls_of};
 
 use std::alloc::Global;
 use std::marker::Model;
-use wt_turn::{Answer, Turn};
+use wt_stub::{Driver, SessionTable, answer, may_call};
+use wt_turn::{Answer, Call, Reply, Turn};
 use wt_wire::error::OutOfMemory;
 use wt_wire::side::Side;
 
 /// What a core keeps of its connection.
-///
-/// STAND-IN: each body gives up for memory, which meets the contract.
-#[derive(Debug, Drop)]
+#[derive(Drop)]
 pub struct Core {
+    alloc: Global,
     /// A turn ran out of memory: no later turn is answered.
     failed: bool,
     side: Side,
+    driver: Driver,
+    session: SessionTable,
 }
 
 impl Model for Core {
@@ -25,38 +29,111 @@ impl Model for Core {
 
     ghost Value = { CoreState };
 
-    ghost view = { λ c. record { failed = c.failed; side = c.side } };
+    ghost view = { λ c. record { failed = c.failed; side = c.side; driver = c.driver; session = c.session } };
 }
 
 impl Core {
     /// A connection on this side, before its first turn.
-    pub fn new(_alloc: Global, _side: Side) -> Result<Core, OutOfMemory>
-        ensures side { IfOk result (λ core. core.side ≡ _side) }
+    pub fn new(alloc: Global, side: Side) -> Result<Core, OutOfMemory>
+        ensures side { IfOk result (λ core. core.side ≡ side) }
         ensures log { IfOk result (λ core. Refines core []) }
     {
-        Err(OutOfMemory)
+        Ok(Core {
+            alloc,
+            failed: false,
+            side,
+            driver: Driver::init(alloc, side),
+            session: SessionTable::new(alloc),
+        })
+    }
+
+    fn may_come(&self, turn: &Turn) -> bool
+        ensures now { result ≡ may_come self.now turn.now }
+        ensures log { (log : Log) → Refines self.now log → result ≡ is_lawful self.now.side log turn.now }
+    {
+        match turn {
+            Turn::Call(call) => may_call(&self.driver, &self.session, call),
+            _ => self.driver.fits(turn),
+        }
     }
 
     /// Whether the turn may come next; after a turn that ran out of memory each one may.
-    #[tactic(auto, using(crate::proofs::Refining::refines_lawful))]
-    pub fn is_lawful(&self, _turn: &Turn) -> bool
-        ensures state { result ≡ may_turn self.now _turn.now }
+    #[tactic(auto, using(crate::proofs::Refining::working_may))]
+    pub fn is_lawful(&self, turn: &Turn) -> bool
+        ensures state { result ≡ may_turn self.now turn.now }
         ensures failed { IsTrue self.now.failed → IsTrue result }
-        ensures log { (log : Log) → Refines self.now log → result ≡ is_lawful self.now.side log _turn.now }
+        ensures log { (log : Log) → Refines self.now log → result ≡ is_lawful self.now.side log turn.now }
     {
-        self.failed
+        self.failed || self.may_come(turn)
+    }
+
+    /// The reply to a call, whose actions stay with the driver.
+    fn call(&mut self, call: &Call) -> Result<Reply, OutOfMemory>
+        ensures reply { (log : Log) → Refines self.old log → may_call self.old.side log call.now ≡ true → IfOk result (λ r. r ≡ (call_effect self.old.side log call.now).reply) }
+        ensures driver { (log : Log) → Refines self.old log → may_call self.old.side log call.now ≡ true → OnOk result (DriverRefines self.old.side self.new.driver (call_effect self.old.side log call.now).log (length (actions_of log))) }
+        ensures session { (log : Log) → Refines self.old log → may_call self.old.side log call.now ≡ true → OnOk result (KeepsCalls self.new.session (calls_of (call_effect self.old.side log call.now).log)) }
+        ensures side { self.new.side ≡ self.old.side }
+        ensures failed { self.new.failed ≡ self.old.failed }
+    {
+        answer(self.alloc, &mut self.driver, &mut self.session, call)
+    }
+
+    /// The driver takes what the transport tells; its actions stay with the driver.
+    #[tactic(auto, using(crate::proofs::Refining::event_session))]
+    fn event(&mut self, turn: &Turn) -> Result<(), OutOfMemory>
+        ensures driver { (log : Log) → Refines self.old log → fits self.old.side log turn.now ≡ true → OnOk result (DriverRefines self.old.side self.new.driver (log_after self.old.side log turn.now) (length (actions_of log))) }
+        ensures session { (log : Log) → Refines self.old log → fits self.old.side log turn.now ≡ true → KeepsCalls self.new.session (calls_of (log_after self.old.side log turn.now)) }
+        ensures side { self.new.side ≡ self.old.side }
+        ensures failed { self.new.failed ≡ self.old.failed }
+    {
+        self.driver.turn(turn)
+    }
+
+    /// The reply to a turn, whose actions stay with the driver.
+    fn reply(&mut self, turn: &Turn) -> Result<Reply, OutOfMemory>
+        ensures reply { (log : Log) → Refines self.old log → is_lawful self.old.side log turn.now ≡ true → IfOk result (λ r. r ≡ (turn_effect self.old.side log turn.now).reply) }
+        ensures driver { (log : Log) → Refines self.old log → is_lawful self.old.side log turn.now ≡ true → OnOk result (DriverRefines self.old.side self.new.driver (log_after self.old.side log turn.now) (length (actions_of log))) }
+        ensures session { (log : Log) → Refines self.old log → is_lawful self.old.side log turn.now ≡ true → OnOk result (KeepsCalls self.new.session (calls_of (log_after self.old.side log turn.now))) }
+        ensures side { self.new.side ≡ self.old.side }
+        ensures failed { self.new.failed ≡ self.old.failed }
+    {
+        match turn {
+            Turn::Call(call) => self.call(call),
+            _ => {
+                self.event(turn)?;
+                Ok(Reply::Done)
+            }
+        }
+    }
+
+    fn step(&mut self, turn: &Turn) -> Result<Answer, OutOfMemory>
+        ensures answer { (log : Log) → Refines self.old log → is_lawful self.old.side log turn.now ≡ true → IfOk result (λ a. a ≡ answer_to self.old.side log turn.now) }
+        ensures state { (log : Log) → Refines self.old log → is_lawful self.old.side log turn.now ≡ true → OnOk result (Refines self.new (log_after self.old.side log turn.now)) }
+        ensures side { self.new.side ≡ self.old.side }
+    {
+        let reply = self.reply(turn)?;
+        let actions = self.driver.take_actions();
+        Ok(Answer { reply, actions })
     }
 
     /// The answer to a lawful turn. Out of memory may come at any turn, and then at each later one.
-    pub fn turn(&mut self, _turn: &Turn) -> Result<Answer, OutOfMemory>
-        requires { IsTrue (may_turn self.old _turn.now) }
-        ensures answer { (log : Log) → Refines self.old log → IfOk result (λ a. a ≡ answer_to self.old.side log _turn.now) }
-        ensures state { (log : Log) → Refines self.old log → OnOk result (Refines self.new (log_after self.old.side log _turn.now)) }
+    pub fn turn(&mut self, turn: &Turn) -> Result<Answer, OutOfMemory>
+        requires { IsTrue (may_turn self.old turn.now) }
+        ensures answer { (log : Log) → Refines self.old log → IfOk result (λ a. a ≡ answer_to self.old.side log turn.now) }
+        ensures state { (log : Log) → Refines self.old log → OnOk result (Refines self.new (log_after self.old.side log turn.now)) }
         ensures side { OnOk result (self.new.side ≡ self.old.side) }
         ensures failed { IsTrue self.old.failed → IsErr result }
         ensures fails { OnErr result (IsTrue self.new.failed) }
     {
-        self.failed = true;
-        Err(OutOfMemory)
+        if self.failed {
+            return Err(OutOfMemory);
+        }
+        match self.step(turn) {
+            Ok(answer) => Ok(answer),
+            Err(_) => {
+                self.failed = true;
+                Err(OutOfMemory)
+            }
+        }
     }
 }
