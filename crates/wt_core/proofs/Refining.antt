@@ -9,7 +9,7 @@ use Rattle.wt_turn.specs.Log.{CallRecord, Entry, Event, Log, Received, Reported,
 use Rattle.wt_turn.specs.declared.action.Action.{Action}
 use Rattle.wt_turn.specs.declared.call.Call.{Call}
 use Rattle.wt_stub.proofs.Stub.{stub_fits, stub_may_call}
-use Rattle.wt_stub.specs.DriverValue.{KeepsCalls, TableValue}
+use Rattle.wt_stub.specs.DriverValue.{KeepsCalls, TableValue, fits_now, is_call}
 use Rattle.wt_turn.specs.declared.reply.Reply.TheVariants as replies
 use Rattle.wt_turn.specs.declared.turn.Turn.{Turn}
 use Rattle.wt_turn.specs.declared.turn.Turn.TheVariants as turns
@@ -92,6 +92,20 @@ pub event_reply : (side : Side) (log : Log) (turn : Turn) → ((call : Call) →
 event_reply side log (turns.Call call) n = absurd (n call refl)
 event_reply side log (turns.Bytes id piece) n = refl
 event_reply side log _ n = refl
+
+-- a turn of the transport is no call
+pub fits_event : (side : Side) (log : Log) (turn : Turn) → fits side log turn ≡ true → is_call turn ≡ false
+fits_event side log (turns.Call call) f = absurd (cc)
+fits_event side log _ f = refl
+
+-- a turn that may come and is no call is one that the transport may tell
+pub event_may : (k : CoreState) (turn : Turn) → ((call : Call) → turn ≡ turns.Call call → ⊥) → IsTrue (may_come k turn) → IsTrue (fits_now k.driver turn)
+event_may k (turns.Call call) n m = absurd (n call refl)
+event_may k _ n m = m
+
+-- without the mark of a failed turn, a turn that may be asked for may come
+pub working_come : (k : CoreState) (turn : Turn) → k.failed ≡ false → IsTrue (may_turn k turn) → IsTrue (may_come k turn)
+working_come k turn w m = subst (λ (b : Bool). IsTrue (b || may_come k turn)) w m
 
 -- a turn that may be asked for is lawful
 pub asked_lawful : (k : CoreState) (log : Log) (turn : Turn) → Refines k log → IsTrue (may_turn k turn) → is_lawful k.side log turn ≡ true

@@ -1,6 +1,6 @@
 -- What a core keeps of a log, as data: what the driver and the session keep of it.
 use Rattle.std.specs.Prelude.{◌||◌, ◌≡◌, Bool, false, length}
-use Rattle.wt_stub.specs.DriverValue.{DriverValue, KeepsCalls, TableValue, fits_now, may_call_of, Refines as DriverRefines}
+use Rattle.wt_stub.specs.DriverValue.{DriverValue, KeepsCalls, TableValue, fits_now, may_call_of, Follows}
 use Rattle.wt_turn.specs.Log.{Log, actions_of, calls_of}
 use Rattle.wt_turn.specs.declared.turn.Turn.{Turn}
 use Rattle.wt_turn.specs.declared.turn.Turn.TheVariants as turns
@@ -25,5 +25,5 @@ may_turn k turn = k.failed || may_come k turn
 -- what is kept is that of this log, all of whose actions were taken
 pub record Refines (k : CoreState) (log : Log) : Type 0 where
   pub works : k.failed ≡ false
-  pub driver : DriverRefines k.side k.driver log (length (actions_of log))
+  pub driver : Follows k.side k.driver log (length (actions_of log))
   pub session : KeepsCalls k.session (calls_of log)

@@ -1,7 +1,7 @@
 //! One connection, driven turn by turn.
 ghost use Rattle.std.specs.Prelude.{◌≡◌, [], IfOk, OnOk, OnErr, IsErr, IsTrue, length, true};
 ghost use Rattle.wt_core.specs.CoreState.{Refines, may_come, may_turn};
-ghost use Rattle.wt_stub.specs.DriverValue.{KeepsCalls, Refines as DriverRefines};
+ghost use Rattle.wt_stub.specs.DriverValue.{Follows, KeepsCalls, fits_now, may_call_of};
 ghost use Rattle.wt_seam_spec.specs.Arrivals.{fits};
 ghost use Rattle.wt_spec.specs.Answers.{answer_to, call_effect, is_lawful, log_after, may_call, turn_effect};
 ghost use Rattle.wt_turn.specs.Log.{Log, actions_of, calls_of};
@@ -69,8 +69,9 @@ impl Core {
 
     /// The reply to a call, whose actions stay with the driver.
     fn call(&mut self, call: &Call) -> Result<Reply, OutOfMemory>
+        requires { IsTrue (may_call_of self.old.driver self.old.session call.now) }
         ensures reply { (log : Log) → Refines self.old log → may_call self.old.side log call.now ≡ true → IfOk result (λ r. r ≡ (call_effect self.old.side log call.now).reply) }
-        ensures driver { (log : Log) → Refines self.old log → may_call self.old.side log call.now ≡ true → OnOk result (DriverRefines self.old.side self.new.driver (call_effect self.old.side log call.now).log (length (actions_of log))) }
+        ensures driver { (log : Log) → Refines self.old log → may_call self.old.side log call.now ≡ true → OnOk result (Follows self.old.side self.new.driver (call_effect self.old.side log call.now).log (length (actions_of log))) }
         ensures session { (log : Log) → Refines self.old log → may_call self.old.side log call.now ≡ true → OnOk result (KeepsCalls self.new.session (calls_of (call_effect self.old.side log call.now).log)) }
         ensures side { self.new.side ≡ self.old.side }
         ensures failed { self.new.failed ≡ self.old.failed }
@@ -79,9 +80,9 @@ impl Core {
     }
 
     /// The driver takes what the transport tells; its actions stay with the driver.
-    #[tactic(auto, using(crate::proofs::Refining::event_session))]
     fn event(&mut self, turn: &Turn) -> Result<(), OutOfMemory>
-        ensures driver { (log : Log) → Refines self.old log → fits self.old.side log turn.now ≡ true → OnOk result (DriverRefines self.old.side self.new.driver (log_after self.old.side log turn.now) (length (actions_of log))) }
+        requires { IsTrue (fits_now self.old.driver turn.now) }
+        ensures driver { (log : Log) → Refines self.old log → fits self.old.side log turn.now ≡ true → OnOk result (Follows self.old.side self.new.driver (log_after self.old.side log turn.now) (length (actions_of log))) }
         ensures session { (log : Log) → Refines self.old log → fits self.old.side log turn.now ≡ true → KeepsCalls self.new.session (calls_of (log_after self.old.side log turn.now)) }
         ensures side { self.new.side ≡ self.old.side }
         ensures failed { self.new.failed ≡ self.old.failed }
@@ -91,8 +92,9 @@ impl Core {
 
     /// The reply to a turn, whose actions stay with the driver.
     fn reply(&mut self, turn: &Turn) -> Result<Reply, OutOfMemory>
+        requires { IsTrue (may_come self.old turn.now) }
         ensures reply { (log : Log) → Refines self.old log → is_lawful self.old.side log turn.now ≡ true → IfOk result (λ r. r ≡ (turn_effect self.old.side log turn.now).reply) }
-        ensures driver { (log : Log) → Refines self.old log → is_lawful self.old.side log turn.now ≡ true → OnOk result (DriverRefines self.old.side self.new.driver (log_after self.old.side log turn.now) (length (actions_of log))) }
+        ensures driver { (log : Log) → Refines self.old log → is_lawful self.old.side log turn.now ≡ true → OnOk result (Follows self.old.side self.new.driver (log_after self.old.side log turn.now) (length (actions_of log))) }
         ensures session { (log : Log) → Refines self.old log → is_lawful self.old.side log turn.now ≡ true → OnOk result (KeepsCalls self.new.session (calls_of (log_after self.old.side log turn.now))) }
         ensures side { self.new.side ≡ self.old.side }
         ensures failed { self.new.failed ≡ self.old.failed }
@@ -106,7 +108,9 @@ impl Core {
         }
     }
 
+    /// The answer to a turn that may come, while memory suffices.
     fn step(&mut self, turn: &Turn) -> Result<Answer, OutOfMemory>
+        requires { IsTrue (may_come self.old turn.now) }
         ensures answer { (log : Log) → Refines self.old log → is_lawful self.old.side log turn.now ≡ true → IfOk result (λ a. a ≡ answer_to self.old.side log turn.now) }
         ensures state { (log : Log) → Refines self.old log → is_lawful self.old.side log turn.now ≡ true → OnOk result (Refines self.new (log_after self.old.side log turn.now)) }
         ensures side { self.new.side ≡ self.old.side }

@@ -6,7 +6,7 @@ use Rattle.std.proofs.Math.Bool.{and-true}
 use Rattle.std.specs.Prelude.{◌&&◌, ◌^◌, false, nat_lt, not, true}
 use Rattle.wt_spec.specs.Answers.{is_client, may_call, may_respond}
 use Rattle.wt_spec.specs.Handshake.{awaits_request, handshake_state}
-use Rattle.wt_stub.specs.DriverValue.{DriverValue, Refines, TableValue, fits_now, may_call_of, may_connect_now}
+use Rattle.wt_stub.specs.DriverValue.{DriverValue, Follows, TableValue, fits_now, may_call_of, may_connect_now}
 use Rattle.wt_turn.specs.declared.datagram_fact.DatagramFact.{DatagramFact}
 use Rattle.wt_turn.specs.declared.loss.LossReason.{LossReason}
 use Rattle.wt_turn.specs.declared.turn.Turn.{Turn}
@@ -34,17 +34,17 @@ at_first side d s calls.NotFound e = sym (no_answer side)
 at_first side d s calls.TooManyRequests e = sym (no_answer side)
 at_first side d s _ e = refl
 
-pub stub_may_call : (side : Side) (d : DriverValue) (s : TableValue) (log : Log) (taken : ℕ) (call : Call) → Refines side d log taken → may_call_of d s call ≡ may_call side log call
-unfolding Refines
+pub stub_may_call : (side : Side) (d : DriverValue) (s : TableValue) (log : Log) (taken : ℕ) (call : Call) → Follows side d log taken → may_call_of d s call ≡ may_call side log call
+unfolding Follows
 stub_may_call side d s log taken call r =
     rw (r.none) (at_first side d s call r.side_is)
 
-pub stub_taken : (side : Side) (d : DriverValue) (log : Log) (taken : ℕ) → Refines side d log taken → [] ≡ joined (take (length (actions_of log) - taken) (actions_of log))
-unfolding Refines
+pub stub_taken : (side : Side) (d : DriverValue) (log : Log) (taken : ℕ) → Follows side d log taken → [] ≡ joined (take (length (actions_of log) - taken) (actions_of log))
+unfolding Follows
 stub_taken side d log taken r = rw (r.none, r.taken_is) refl
 
-pub stub_kept : (side : Side) (d : DriverValue) (log : Log) (taken : ℕ) → Refines side d log taken → Refines side d log (length (actions_of log))
-unfolding Refines
+pub stub_kept : (side : Side) (d : DriverValue) (log : Log) (taken : ℕ) → Follows side d log taken → Follows side d log (length (actions_of log))
+unfolding Follows
 stub_kept side d log taken r = record { side_is = r.side_is; none = r.none; taken_is = rw (r.none) refl }
 
 begins : (side : Side) (uni bi credit : ℕ) (datagrams : DatagramFact) →
@@ -62,6 +62,6 @@ fits_first side d (turns.Connected uni bi credit datagrams) e =
 fits_first side d (turns.Loss reason) e = not_lost side reason
 fits_first side d _ e = refl
 
-pub stub_fits : (side : Side) (d : DriverValue) (log : Log) (taken : ℕ) (turn : Turn) → Refines side d log taken → fits_now d turn ≡ fits side log turn
-unfolding Refines
+pub stub_fits : (side : Side) (d : DriverValue) (log : Log) (taken : ℕ) (turn : Turn) → Follows side d log taken → fits_now d turn ≡ fits side log turn
+unfolding Follows
 stub_fits side d log taken turn r = rw (r.none) (fits_first side d turn r.side_is)

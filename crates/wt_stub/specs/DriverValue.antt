@@ -1,5 +1,5 @@
 -- No part of the layer: stands for what a driver and the calls keep, of a log that never began.
-use Rattle.std.specs.Prelude.{[], ◌≡◌, Bool, List, false, not, nat_lt, ◌&&◌, ◌^◌, ℕ}
+use Rattle.std.specs.Prelude.{[], ◌≡◌, Bool, List, false, true, not, nat_lt, ◌&&◌, ◌^◌, ℕ}
 use Rattle.wt_spec.specs.Answers.{is_client}
 use Rattle.wt_turn.specs.Log.{CallRecord, Log}
 use Rattle.wt_turn.specs.declared.call.Call.{Call}
@@ -29,17 +29,22 @@ abbrev pub fits_now : DriverValue → Turn → Bool
 fits_now d (turns.Connected uni bi credit datagrams) = may_connect_now d uni bi credit
 fits_now d _ = false
 
+-- the turn is a call
+abbrev pub is_call : Turn → Bool
+is_call (turns.Call call) = true
+is_call _ = false
+
 -- the call may come
 abbrev pub may_call_of : DriverValue → TableValue → Call → Bool
 may_call_of d s (calls.Connect options lookup outcome) = is_client d.side
 may_call_of d s _ = false
 
 -- it refines a log of which so many actions were taken
-pub record RefinesSo (side : Side) (d : DriverValue) (log : Log) (taken : ℕ) : Type 0 where
+pub record FollowsSo (side : Side) (d : DriverValue) (log : Log) (taken : ℕ) : Type 0 where
   pub side_is : d.side ≡ side
   pub none : log ≡ []
   pub taken_is : taken ≡ 0
 
 -- the same, seen by no one above
-unfoldable pub Refines : Side → DriverValue → Log → ℕ → Type 0
-Refines side d log taken = RefinesSo side d log taken
+unfoldable pub Follows : Side → DriverValue → Log → ℕ → Type 0
+Follows side d log taken = FollowsSo side d log taken

@@ -4,11 +4,11 @@
 //! that never grows.
 #![tactic(auto)]
 
-ghost use Rattle.std.specs.Prelude.{◌≡◌, [], IfOk, OnOk, not, length, take, ◌-◌, ℕ, false, true};
+ghost use Rattle.std.specs.Prelude.{◌≡◌, [], IfOk, OnOk, IsTrue, not, length, take, ◌-◌, ℕ, false, true};
 ghost use Rattle.wt_seam_spec.specs.Arrivals.{fits};
 ghost use Rattle.wt_seam_spec.specs.Joined.{joined};
 ghost use Rattle.wt_spec.specs.Answers.{call_effect, is_client, log_after, may_call};
-ghost use Rattle.wt_stub.specs.DriverValue.{KeepsCalls, Refines, fits_now, may_call_of, may_connect_now};
+ghost use Rattle.wt_stub.specs.DriverValue.{KeepsCalls, Follows, fits_now, is_call, may_call_of, may_connect_now};
 ghost use Rattle.wt_turn.specs.Log.{Log, actions_of, calls_of};
 
 use std::alloc::Global;
@@ -32,9 +32,9 @@ impl Model for Driver {
 }
 
 impl Driver {
-    #[tactic(auto, unfolding(crate::specs::DriverValue::Refines))]
+    #[tactic(auto, unfolding(crate::specs::DriverValue::Follows))]
     pub fn init(alloc: Global, side: Side) -> Driver
-        ensures log { Refines side result [] 0 }
+        ensures log { Follows side result [] 0 }
     {
         Driver { alloc, side }
     }
@@ -68,21 +68,22 @@ impl Driver {
     #[tactic(auto, using(crate::proofs::Stub::stub_fits))]
     pub fn fits(&self, turn: &Turn) -> bool
         ensures now { result ≡ fits_now self.now turn.now }
-        ensures log { (side : Side) (log : Log) (taken : ℕ) → Refines side self.now log taken → result ≡ fits side log turn.now }
+        ensures log { (side : Side) (log : Log) (taken : ℕ) → Follows side self.now log taken → result ≡ fits side log turn.now }
     {
         self.may_come(turn)
     }
 
     pub fn turn(&mut self, _turn: &Turn) -> Result<(), OutOfMemory>
-        ensures log { (side : Side) (log : Log) (taken : ℕ) → Refines side self.old log taken → fits side log _turn.now ≡ true → OnOk result (Refines side self.new (log_after side log _turn.now) taken) }
+        requires { IsTrue (fits_now self.old _turn.now) }
+        ensures log { (side : Side) (log : Log) (taken : ℕ) → Follows side self.old log taken → is_call _turn.now ≡ false → OnOk result (Follows side self.new (log_after side log _turn.now) taken) }
     {
         Err(OutOfMemory)
     }
 
     #[tactic(auto, using(crate::proofs::Stub::stub_taken, crate::proofs::Stub::stub_kept))]
     pub fn take_actions(&mut self) -> Actions
-        ensures log_actions { (side : Side) (log : Log) (taken : ℕ) → Refines side self.old log taken → result ≡ joined (take (length (actions_of log) - taken) (actions_of log)) }
-        ensures log { (side : Side) (log : Log) (taken : ℕ) → Refines side self.old log taken → Refines side self.new log (length (actions_of log)) }
+        ensures log_actions { (side : Side) (log : Log) (taken : ℕ) → Follows side self.old log taken → result ≡ joined (take (length (actions_of log) - taken) (actions_of log)) }
+        ensures log { (side : Side) (log : Log) (taken : ℕ) → Follows side self.old log taken → Follows side self.new log (length (actions_of log)) }
     {
         Actions::new(self.alloc)
     }
@@ -125,7 +126,7 @@ fn may_call_now(d: &Driver, _s: &SessionTable, call: &Call) -> bool
 #[tactic(auto, using(crate::proofs::Stub::stub_may_call))]
 pub fn may_call(d: &Driver, s: &SessionTable, call: &Call) -> bool
     ensures now { result ≡ may_call_of d.now s.now call.now }
-    ensures log { (side : Side) (log : Log) (taken : ℕ) → Refines side d.now log taken → KeepsCalls s.now (calls_of log) → result ≡ may_call side log call.now }
+    ensures log { (side : Side) (log : Log) (taken : ℕ) → Follows side d.now log taken → KeepsCalls s.now (calls_of log) → result ≡ may_call side log call.now }
 {
     may_call_now(d, s, call)
 }
@@ -136,9 +137,10 @@ pub fn answer(
     _s: &mut SessionTable,
     _call: &Call,
 ) -> Result<Reply, OutOfMemory>
-    ensures reply { (side : Side) (log : Log) (taken : ℕ) → Refines side _d.old log taken → KeepsCalls _s.old (calls_of log) → may_call side log _call.now ≡ true → IfOk result (λ r. r ≡ (call_effect side log _call.now).reply) }
-    ensures log { (side : Side) (log : Log) (taken : ℕ) → Refines side _d.old log taken → KeepsCalls _s.old (calls_of log) → may_call side log _call.now ≡ true → OnOk result (Refines side _d.new (call_effect side log _call.now).log taken) }
-    ensures session { (side : Side) (log : Log) (taken : ℕ) → Refines side _d.old log taken → KeepsCalls _s.old (calls_of log) → may_call side log _call.now ≡ true → OnOk result (KeepsCalls _s.new (calls_of (call_effect side log _call.now).log)) }
+    requires { IsTrue (may_call_of _d.old _s.old _call.now) }
+    ensures reply { (side : Side) (log : Log) (taken : ℕ) → Follows side _d.old log taken → KeepsCalls _s.old (calls_of log) → may_call side log _call.now ≡ true → IfOk result (λ r. r ≡ (call_effect side log _call.now).reply) }
+    ensures log { (side : Side) (log : Log) (taken : ℕ) → Follows side _d.old log taken → KeepsCalls _s.old (calls_of log) → may_call side log _call.now ≡ true → OnOk result (Follows side _d.new (call_effect side log _call.now).log taken) }
+    ensures session { (side : Side) (log : Log) (taken : ℕ) → Follows side _d.old log taken → KeepsCalls _s.old (calls_of log) → may_call side log _call.now ≡ true → OnOk result (KeepsCalls _s.new (calls_of (call_effect side log _call.now).log)) }
 {
     Err(OutOfMemory)
 }
