@@ -1,0 +1,2 @@
+pub mod DriverValue
+pub mod Given
