@@ -199,3 +199,8 @@ may_next side (b ∷ done) a left log m = may_next side done a left (Sent b ∷ 
 pub accept_told : (side : Side) (reply : ℕ → Reply) (kind s : ℕ) (log : Log) (item : Option ℕ) (r : Reply) → r ≡ reply_given side reply (given_stream side kind log s).log item
     → item ≡ (given_stream side kind log s).item → r ≡ (accept_stream side reply kind log s).reply
 accept_told side reply kind s log item r e f = e ∙ ap (λ i. reply_given side reply (given_stream side kind log s).log i) f ∙ sym (accept_reply side reply kind s log)
+
+-- one more in front of the rest is one more behind
+pub one_behind : (front back : List Action) (a : Action) → front ++ (a ∷ back) ≡ (front ++ a ∷ []) ++ back
+one_behind [] back a = refl
+one_behind (b ∷ front) back a = ap (λ (all : List Action). b ∷ all) (one_behind front back a)
