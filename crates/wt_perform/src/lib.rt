@@ -1,4 +1,6 @@
-//! What a plan leads to, over a driver.
+//! Which calls may come, and what a plan leads to, over a driver.
 #![tactic(auto)]
 
+pub mod admission;
+pub mod halves;
 pub mod perform;
