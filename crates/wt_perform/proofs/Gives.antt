@@ -105,7 +105,7 @@ accept_kept side reply kind s log old new item e f x =
     let g = keeps_given side old kind s log x in
     let y : KeepsCalls new (Polled ∷ with_given item g.earlier) = f g.earlier g.keeps in
     let same : calls_of (accept_stream side reply kind log s).log ≡ Polled ∷ with_given item g.earlier =
-          ap calls_of (accept_log side reply kind s log) ∙ calls_flushed side (given_stream side kind log s).log Polled ∙ ap (λ rs. Polled ∷ rs) (g.calls ∙ ap (λ i. with_given i g.earlier) (sym e)) in
+    ap calls_of (accept_log side reply kind s log) ∙ calls_flushed side (given_stream side kind log s).log Polled ∙ ap (λ rs. Polled ∷ rs) (g.calls ∙ ap (λ i. with_given i g.earlier) (sym e)) in
     subst (KeepsCalls new) (sym same) y
 
 -- ---- receives
@@ -166,7 +166,7 @@ pub receive_kept : (side : Side) (s : ℕ) (log : Log) (old new : TableValue)
 receive_kept side s log old new f x =
     let g = taken-first side old s (suc (length (datagrams_of (events_of log)))) log x in
     let same : calls_of (receive_datagram side log s).log ≡ Polled ∷ calls_of (given_payload side log s).log =
-          ap calls_of (receive_log side s log) ∙ calls_flushed side (given_payload side log s).log Polled in
+    ap calls_of (receive_log side s log) ∙ calls_flushed side (given_payload side log s).log Polled in
     subst (KeepsCalls new) (sym same) (f (calls_of (given_payload side log s).log) g)
 
 -- ---- plans

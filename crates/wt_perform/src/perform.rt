@@ -85,11 +85,7 @@ fn given_by(given: Poll<Result<StreamId, DriverError>>) -> Option<StreamId>
 }
 
 /// The table takes in the stream that was given, and the poll is recorded.
-fn settle(
-    d: &mut Driver,
-    s: &mut SessionTable,
-    given: Option<StreamId>,
-) -> Result<(), OutOfMemory>
+fn settle(d: &mut Driver, s: &mut SessionTable, given: Option<StreamId>) -> Result<(), OutOfMemory>
     ensures log { (side : Side) (log : Log) (taken : ℕ) → Refines side d.old log taken → OnOk result (Refines side d.new (log_and_flush side log (Called Polled)) taken) }
     ensures session { (calls : List CallRecord) → KeepsCalls s.old calls → OnOk result (KeepsCalls s.new (Polled ∷ with_given given calls)) }
 {
@@ -133,11 +129,7 @@ fn payload_by(
     }
 }
 
-fn datagram_reply(
-    alloc: Global,
-    d: &Driver,
-    payload: Option<Piece>,
-) -> Result<Reply, OutOfMemory>
+fn datagram_reply(alloc: Global, d: &Driver, payload: Option<Piece>) -> Result<Reply, OutOfMemory>
     ensures { (side : Side) (log : Log) (taken : ℕ) → Refines side d.now log taken → IfOk result (λ r. r ≡ reply_given side replies.Datagram log payload) }
 {
     match payload {

@@ -8,4 +8,4 @@ pub returns-clause-session : goal.returns-clause-session
 returns-clause-session c = λ side log k.
     establish_calls side log c.args.own.items (SessionEstablished c.args.id c.args.at) c.record_call.new.s
     (subst (λ i. KeepsCalls c.record_call.new.s (Polled ∷ SessionEstablished i c.args.at ∷ calls_of log)) c.session_stream-stream.ensures.stream
-      (c.in_ok-record_call.ensures.session (SessionEstablished c.session_stream-stream.result c.args.at ∷ calls_of log) (c.in_ok-step.ensures.session (calls_of log) k)))
+    (c.in_ok-record_call.ensures.session (SessionEstablished c.session_stream-stream.result c.args.at ∷ calls_of log) (c.in_ok-step.ensures.session (calls_of log) k)))
