@@ -4,3 +4,4 @@
 pub mod admission;
 pub mod halves;
 pub mod perform;
+pub mod planning;
