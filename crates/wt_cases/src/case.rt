@@ -32,6 +32,16 @@ impl Case {
         Ok(self.is_answer(status, sink.taken()))
     }
 
+    /// What the program answers.
+    pub fn answer(&self, alloc: Global) -> Result<(u8, Vec<u8>), AllocError> {
+        let mut source = MemSource::new(self.script.clone()?, Vec::new(alloc));
+        let mut sink = MemSink::new(alloc, Vec::new(alloc));
+        let status = run_program(alloc, self.words.as_slice(), &mut source, &mut sink);
+        let mut text = Vec::new(alloc);
+        text.extend_from_slice(sink.taken())?;
+        Ok((status, text))
+    }
+
     /// Tells whether this is the recorded answer, and no fault and no want of memory.
     fn is_answer(&self, status: u8, text: &[u8]) -> bool
         ensures whole { IsTrue result → is_cut_short status ≡ false }

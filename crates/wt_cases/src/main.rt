@@ -18,6 +18,13 @@ fn print_differing(rt: &HostRuntime, cases: &[Case]) -> io::Result<bool> {
     let numbers = differing(rt.alloc(), cases)?;
     for number in &numbers {
         println!(rt; "case {number} differs")?;
+        if let Some(case) = cases.get(*number) {
+            let (status, text) = case.answer(rt.alloc())?;
+            println!(rt; "== {number} {status}")?;
+            if let Ok(text) = String::from_utf8(text) {
+                println!(rt; "{text}")?;
+            }
+        }
     }
     let (all, some) = (cases.len(), numbers.len());
     println!(rt; "{all} cases, {some} differ")?;

@@ -5,12 +5,3 @@ pub mod Places
 pub mod Found
 pub mod Rules
 pub mod Records
-pub mod Scanning
-pub mod Stages
-pub mod Moving
-pub mod Flushing
-pub mod DriverValue
-pub mod Results
-pub mod Tie
-pub mod Arriving
-pub mod Calling

@@ -1,4 +1,5 @@
 -- How the driver's enums stand for what the definitions name.
+use Rattle.std.specs.Prelude.{Bool, List, Option, Some, None, ℕ}
 use Rattle.wt_driver.specs.declared.ending.EndingKind.{EndingKind}
 use Rattle.wt_driver.specs.declared.ending.EndingKind.TheVariants as kinds
 use Rattle.wt_driver.specs.declared.slot.Place.{Place}

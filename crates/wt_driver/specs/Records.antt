@@ -1,4 +1,5 @@
 -- How the driver's records stand for those of the log.
+use Rattle.std.specs.Prelude.{Bool, List, Option, Some, None, ℕ}
 use Rattle.wt_driver.specs.declared.record.Record.{Record}
 use Rattle.wt_driver.specs.declared.record.Record.TheVariants as records
 use Rattle.wt_turn.specs.Log as log

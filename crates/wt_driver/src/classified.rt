@@ -1,7 +1,6 @@
 //! A stream with its verdict, and what it leads to that the verdict is known.
 ghost use Rattle.std.specs.Prelude.{◌≡◌, Some, false};
 ghost use Rattle.wt_proto.specs.Uni.{is_final};
-ghost use Rattle.wt_driver.specs.Scanning.{is_given_up};
 ghost use Rattle.wt_spec.specs.Connection.{is_for_session};
 ghost use Rattle.wt_spec.specs.Scan.{is_released};
 ghost use Rattle.wt_spec.specs.StreamTable.{faulty, none_of_it, stopped_with};
@@ -132,11 +131,6 @@ pub fn session_number(session: SessionId) -> u64
 }
 
 /// Whether nothing of a stream with this verdict is read any more.
-pub fn is_given_up(verdict: &Verdict) -> bool
-    ensures { result ≡ is_given_up verdict.now }
-{
-    match verdict {
-        Verdict::Dropped | Verdict::Refused(_) => true,
-        _ => false,
-    }
+pub fn is_given_up(verdict: &Verdict) -> bool {
+    matches!(verdict, Verdict::Dropped | Verdict::Refused(_))
 }

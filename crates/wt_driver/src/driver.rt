@@ -1,22 +1,17 @@
 //! The driver of one connection.
-ghost use Rattle.std.specs.Prelude.{◌≡◌, ◌^◌, ◌-◌, [], false, min, None, true};
-ghost use Rattle.wt_inbox.specs.State.{nothing_read, readers_now};
-ghost use Rattle.wt_driver.specs.DriverValue.{first_state};
-ghost use Rattle.wt_driver.specs.Tie.{Follows};
 
 mod accepts;
-mod acting;
 mod arrivals;
 mod calls;
 mod flush;
 mod moment;
+mod own;
 
 use crate::dispatched::DispatchedStreams;
 use crate::progress::Progress;
 use crate::slot::Slot;
 use std::alloc::Global;
 use std::collections::VecDeque;
-use std::marker::Model;
 use wt_inbox::Inbox;
 use wt_proto::settings::Settings;
 use wt_turn::piece::Piece;
@@ -47,39 +42,9 @@ pub struct Driver {
     has_given_settings: bool,
 }
 
-impl Model for Driver {
-    ghost use Rattle.wt_driver.specs.DriverValue.{DriverValue};
-
-    ghost Value = { DriverValue };
-
-    ghost view = { λ d. record {
-      inbox = d.inbox;
-      state = record {
-        unis = d.unis.items;
-        bis = d.bis.items;
-        dispatched = d.dispatched;
-        progress = d.progress;
-        control_sent = record { opened = d.control_opened; sent = d.control_sent };
-        datagrams = d.settled;
-        session = d.session;
-        is_open = d.inbox.transport.is_open;
-      };
-      queue = d.queue.items;
-      settings = d.settings;
-      has_given_settings = d.has_given_settings;
-    } };
-}
-
 impl Driver {
     /// The driver of a connection of which nothing was told yet.
-    pub fn init(alloc: Global, side: Side) -> Driver
-        ensures inbox { result.inbox ≡ nothing_read side }
-        ensures state { result.state ≡ first_state true }
-        ensures queue { result.queue ≡ [] }
-        ensures settings { result.settings ≡ None }
-        ensures given { result.has_given_settings ≡ false }
-        ensures log { Follows side result [] 0 }
-    {
+    pub fn init(alloc: Global, side: Side) -> Driver {
         Driver {
             alloc,
             inbox: Inbox::new(alloc, side),
@@ -98,16 +63,12 @@ impl Driver {
     }
 
     /// The transport and its readers, to be asked.
-    pub fn inbox(&self) -> &Inbox
-        ensures { result.now ≡ self.now.inbox }
-    {
+    pub fn inbox(&self) -> &Inbox {
         &self.inbox
     }
 
     /// How many readers are kept.
-    pub fn readers(&self) -> usize
-        ensures { result ≡ min (readers_now self.now.inbox) (2 ^ 64 - 1) }
-    {
+    pub fn readers(&self) -> usize {
         self.inbox.readers()
     }
 }

@@ -2,7 +2,7 @@
 ghost use Rattle.std.specs.Prelude.{◌≡◌, ◌↔◌, ◌<◌, ◌^◌, ◌++◌, ◌∷◌, [], ◌||◌, None, Some, is_some, false, OnOk, IsTrue, IfSome};
 ghost use Rattle.std.specs.Option.{option_copied};
 ghost use Rattle.wt_driver_spec.specs.Step.{with_no_stops};
-ghost use Rattle.wt_spec.specs.Scan.{control_read, critical_if, dequeued_datagram, ended_by, listed, session_ends, unless_ended, with_consequence, with_fault, fault_ending};
+ghost use Rattle.wt_spec.specs.Scan.{control_read, critical_if, dequeued_datagram, ended_by, listed, session_ends, with_consequence, with_fault, fault_ending};
 ghost use Rattle.wt_spec.specs.StreamTable.{ByFault};
 
 use crate::classified::{Consequence, Stopped};
@@ -159,15 +159,6 @@ impl Progress {
     {
         if is_closed {
             self.fault(ErrorCode::ClosedCriticalStream);
-        }
-    }
-
-    /// The same, unless the connection ended before.
-    pub fn fault_unless_ended(&mut self, is_closed: bool)
-        ensures { self.new ≡ unless_ended self.old.ending (critical_if is_closed) self.old }
-    {
-        if self.ending.is_none() {
-            self.fault_if(is_closed);
         }
     }
 

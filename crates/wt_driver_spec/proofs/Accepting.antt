@@ -1,9 +1,9 @@
--- A call that gives or passes, on what is kept, with the scan of each pass, is the call on the log.
+-- A call that gives or passes, on what is kept, with the work of each pass, is the call on the log.
 use Rattle.std.proofs.Common.{◌≡◌, ℕ, zero, suc, Bool, true, false, List, [], ◌∷◌, ◌++◌, length, refl, sym, ap, ◌∙◌}
-use Rattle.std.specs.Prelude.{Option, Some, None, ◌==◌, ◌*◌, not, if◌then◌else◌}
+use Rattle.std.specs.Prelude.{Option, Some, None, ◌==◌, ◌||◌, ◌&&◌, ◌%◌, ◌*◌, not, nat_lt, if◌then◌else◌}
 use Rattle.std.proofs.lemmas.Bool.{and_parts, or_right}
 use Rattle.wt_driver_spec.proofs.ClassifiedOnce.{found-in, in-classified, only-in}
-use Rattle.wt_driver_spec.proofs.Following.{Sound, events-with, moment-fits, moment-followed, moment-out, out-followed, sound, view-with}
+use Rattle.wt_driver_spec.proofs.Following.{Sound, moment-fits, moment-followed, moment-out, out-followed, sound}
 use Rattle.wt_driver_spec.proofs.RestMoments.{moment-rests-open, quiet-call, quiet-call-rests, quiet-call-state}
 use Rattle.wt_driver_spec.specs.DriverState.{DriverState, state_of}
 use Rattle.wt_driver_spec.specs.Due.{CallFollowed, DriverRun, Due, DueRule, Outcome, accepted, due_datagram, due_stream, ending_error, give_or_pass_due, given_reply, log_datagrams, log_streams, outcome_effect, passing, received, reply_or, run_action, run_from, run_moment, state_accepted, state_datagrams, state_next_datagram, state_next_due, state_pending_or_failed, state_received, state_reply, state_streams, take_due, take_next}
@@ -16,6 +16,7 @@ use Rattle.wt_seam_spec.specs.Streams.{peer_count}
 use Rattle.wt_spec.specs.Connection.{accept_due, accept_first, accept_stream, first_of, give_or_pass, is_due, is_for_session, next_datagram, next_due, pass_stream, receive_datagram, receive_first, receive_next, receive_or_pass}
 use Rattle.wt_spec.specs.Driver.{call_view, log_and_flush, stream_table, transport_view}
 use Rattle.wt_spec.specs.Effect.{error_of_ending, log_call, loss_or_local, pending_or_failed, transport_error}
+use Rattle.wt_spec.specs.Scan.{listed}
 use Rattle.wt_spec.specs.StreamTable.{ByFault, BySession, Classified, Ending, awaits_accept, dispatched, is_webtransport, verdict_of}
 use Rattle.wt_turn.specs.Log.{CallRecord, Called, DatagramPassed, DatagramReceived, Event, Log, Polled, Sent, StreamAccepted, StreamPassed, actions_of, events_of, is_open, with_actions}
 use Rattle.wt_turn.specs.declared.action.Action.{Action}
@@ -79,6 +80,14 @@ newest-both (x ∷ xs) ys before = newest-both xs ys (x ∷ before)
 pub actions-newest : (acts : List Action) (log : Log) → actions_of (with_actions acts log) ≡ newest_first acts (actions_of log)
 actions-newest [] log = refl
 actions-newest (a ∷ later) log = actions-newest later (Sent a ∷ log)
+
+events-with : (acts : List Action) (log : Log) → events_of (with_actions acts log) ≡ events_of log
+events-with [] log = refl
+events-with (a ∷ later) log = events-with later (Sent a ∷ log)
+
+view-with : (side : Side) (acts : List Action) (log : Log) → transport_view side (with_actions acts log) ≡ transport_view side log
+view-with side [] log = refl
+view-with side (a ∷ later) log = view-with side later (Sent a ∷ log)
 
 -- what is kept, and what went out, since a log
 pub record Tracks (side : Side) (since log : Log) (x : DriverRun) : Type 0 where

@@ -3,6 +3,7 @@ use Rattle.std.proofs.Common.{arith, ◌≡◌, ℕ, suc, Bool, true, false, con
 use Rattle.std.specs.Prelude.{Option, Some, None, ◌==◌, ◌&&◌, nat_lt}
 use Rattle.std.proofs.lemmas.Bool.{and_right, ltb-false, le-ltb, true≢false}
 use Rattle.wt_driver_spec.proofs.Following.{entry-followed, sound}
+use Rattle.wt_driver_spec.proofs.ScanSlots.{known}
 use Rattle.wt_driver_spec.specs.Bounds.{Bounded, IsBounded}
 use Rattle.wt_driver_spec.specs.DriverState.{Arrived, Dequeued, DriverState, Held, Slot, SlotPlace, slots, state_of}
 use Rattle.wt_driver_spec.specs.Moment.{Fits}

@@ -3,13 +3,16 @@ use Rattle.std.proofs.Common.{◌≡◌, ◌⊎◌, inl, inr, ℕ, Bool, true, f
 use Rattle.std.specs.Prelude.{Option, Some, None, ◌==◌, ◌||◌, ◌&&◌, nat_lt}
 use Rattle.std.proofs.lemmas.Bool.{eq-eqb, eqb-true, false_from_ne_true, true≢false}
 use Rattle.wt_driver_spec.proofs.ScanSlots.{classified-other}
-use Rattle.wt_driver_spec.specs.Claims.{IsOnce}
 use Rattle.wt_driver_spec.specs.Step.{with_no_stops}
 use Rattle.wt_proto.specs.Uni.{is_final}
 use Rattle.wt_proto.specs.declared.verdict.Verdict.{Verdict}
 use Rattle.wt_spec.specs.Connection.{first_of}
-use Rattle.wt_spec.specs.Scan.{Scan, SlotRule, bi_ids, bi_rule, classify, dequeue, has, scan, scan_order, scan_unis, uni_ids, uni_rule, unless_ended, visit, with_dequeued}
+use Rattle.wt_spec.specs.Scan.{Scan, SlotRule, bi_ids, bi_rule, classify, dequeue, has, occupied, scan, scan_order, scan_unis, uni_ids, uni_rule, unless_ended, visit, with_dequeued}
 use Rattle.wt_spec.specs.StreamTable.{CallView, Classified, Ending, StreamTable, TransportView, kept_if, only, verdict_of}
+
+abbrev pub IsOnce : List Classified → Type 0
+IsOnce [] = Unit {0}
+IsOnce (r ∷ rs) = (verdict_of r.id rs ≡ None) × IsOnce rs
 
 pub turned-round : (a b : ℕ) → (a == b) ≡ false → (b == a) ≡ false
 turned-round a b e = false_from_ne_true (b == a) (λ f. true≢false (sym (eq-eqb a b (sym (eqb-true b a f))) ∙ e))

@@ -1,7 +1,7 @@
 -- No stream has two slots, so what is known of one says nothing of those behind it.
-use Rattle.std.proofs.Common.{◌≡◌, ℕ, Bool, true, false, cond, List, [], ◌∷◌, ◌++◌, refl, sym, ap, ◌∙◌}
-use Rattle.std.specs.Prelude.{Option, Some, None, ◌==◌, ◌&&◌, nat_lt}
-use Rattle.std.proofs.lemmas.Bool.{or_from, or_parts, true≢false}
+use Rattle.std.proofs.Common.{◌≡◌, ℕ, suc, Bool, true, false, cond, List, [], ◌∷◌, ◌++◌, refl, sym, ap, ◌∙◌}
+use Rattle.std.specs.Prelude.{Option, Some, None, ◌==◌, ◌||◌, ◌&&◌, nat_lt}
+use Rattle.std.proofs.lemmas.Bool.{eqb-true, false_from_ne_true, or_from, or_parts, true≢false}
 use Rattle.wt_driver_spec.proofs.ScanSlots.{IsDistinct, apart}
 use Rattle.wt_driver_spec.proofs.Sending.{sent_at_once}
 use Rattle.wt_driver_spec.proofs.StreamIds.{apart-ids}

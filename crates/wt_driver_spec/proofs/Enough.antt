@@ -3,7 +3,7 @@ use Rattle.std.proofs.Common.{arith, ◌-◌, ◌≡◌, ℕ, zero, suc, ◌+◌
 use Rattle.std.specs.Prelude.{Option, Some, None, ◌==◌, ◌&&◌, ◌||◌, nat_lt, not, slice_get, if◌then◌else◌}
 use Rattle.std.proofs.lemmas.Bool.{and_parts, eq-eqb, eqb-true, or_right}
 use Rattle.wt_driver_spec.proofs.ClassifiedOnce.{found-in, in-classified, only-in}
-use Rattle.wt_driver_spec.proofs.Following.{Sound, events-with, moment-fits, moment-followed, out-followed, sound, without-append}
+use Rattle.wt_driver_spec.proofs.Following.{Sound, moment-fits, moment-followed, out-followed, sound}
 use Rattle.wt_driver_spec.proofs.Sending.{sends-are}
 use Rattle.wt_driver_spec.proofs.StreamIds.{bi-low, kind-is, kinds-differ, kinds-differ-so, uni-low}
 use Rattle.wt_driver_spec.specs.DriverState.{Arrived, Dequeued, DriverState, Held, Slot, SlotPlace, slot_by, slot_of, slots, state_of}
@@ -24,7 +24,7 @@ use Rattle.wt_turn.specs.declared.action.Action.{Action}
 use Rattle.wt_wire.specs.declared.side.Side.{Side}
 use Rattle.wt_proto.specs.declared.verdict.Verdict.TheVariants as verdicts
 
--- ---- looking again, in general
+-- ---- visiting again, in general
 
 module _ {S T : Type 0} (w : DueRule S T) (size : S → ℕ) (P : S → Type 0)
     (passes : (s : S) (f : Due T) → P s → w.next s ≡ Some f → P (w.pass f.item s) × (size (w.pass f.item s) < size s)) where
@@ -58,6 +58,15 @@ without-fewer k (l ∷ ls) = by (k == l.id) (without-fewer k ls)
     by true le = omega arith
     by false le = omega arith
 
+without-both : (k : ℕ) (xs ys : List Slot) → without_slot k (xs ++ ys) ≡ without_slot k xs ++ without_slot k ys
+without-both k [] ys = refl
+without-both k (x ∷ xs) ys = by (k == x.id) (without-both k xs ys)
+  where
+    by : (b : Bool) → without_slot k (xs ++ ys) ≡ without_slot k xs ++ without_slot k ys
+        → cond b (without_slot k (xs ++ ys)) (x ∷ without_slot k (xs ++ ys)) ≡ cond b (without_slot k xs) (x ∷ without_slot k xs) ++ without_slot k ys
+    by true e = e
+    by false e = ap (λ (ls : List Slot). x ∷ ls) e
+
 -- an unreleased stream has a slot
 slot-less : (d : CallView) (s : StreamTable) (k : ℕ) (v : Verdict) (ks : List ℕ) → has k ks ≡ true → verdict_of k s.classified ≡ Some v → is_released (d.released k) v ≡ false
     → length (without_slot k (slots d s ks)) < length (slots d s ks)
@@ -68,7 +77,7 @@ slot-less d s k v (j ∷ ks) i r e = by (j == k) refl i (slot-less d s k v ks)
     whole = length-append (slot_of d s j) (slots d s ks)
 
     less : length (without_slot k (slots d s (j ∷ ks))) ≡ length (without_slot k (slot_of d s j)) + length (without_slot k (slots d s ks))
-    less = ap length (without-append k (slot_of d s j) (slots d s ks)) ∙ length-append (without_slot k (slot_of d s j)) (without_slot k (slots d s ks))
+    less = ap length (without-both k (slot_of d s j) (slots d s ks)) ∙ length-append (without_slot k (slot_of d s j)) (without_slot k (slots d s ks))
 
     fewer : length (without_slot k (slot_of d s j)) ≤ length (slot_of d s j)
     fewer = without-fewer k (slot_of d s j)
@@ -297,8 +306,12 @@ flush-events : (side : Side) (log : Log) (m : Entry) → events_of (log_and_flus
 unfolding flush
 flush-events side log m = by (is_moment m && is_open (m ∷ log))
   where
+    with-events : (acts : List Action) (g : Log) → events_of (with_actions acts g) ≡ events_of g
+    with-events [] g = refl
+    with-events (a ∷ later) g = with-events later (Sent a ∷ g)
+
     by : (b : Bool) → events_of (apply_if b (with_actions (pending_actions side (m ∷ log))) (m ∷ log)) ≡ events_of (m ∷ log)
-    by true = events-with (pending_actions side (m ∷ log)) (m ∷ log)
+    by true = with-events (pending_actions side (m ∷ log)) (m ∷ log)
     by false = refl
 
 -- so many datagrams came, and weren't received or passed

@@ -3,11 +3,11 @@ use Rattle.std.proofs.Common.{add-one, add-zero, arith, length, length-append, �
 use Rattle.std.specs.Prelude.{Option, Some, None, ◌==◌, ◌||◌, ◌&&◌, is_some, not}
 use Rattle.std.proofs.lemmas.Bool.{eqb-true, false_from_ne_true}
 use Rattle.std.specs.List.{list_any}
-use Rattle.wt_driver_spec.proofs.ClassifiedOnce.{moment-once}
+use Rattle.wt_driver_spec.proofs.ClassifiedOnce.{IsOnce, moment-once}
 use Rattle.wt_driver_spec.proofs.MomentScan.{moment-later, moment-scanned}
-use Rattle.wt_driver_spec.proofs.ScanSlots.{ArePeers, Same, Untouched, is_queued, only-both, scan-same, untouched-later}
+use Rattle.wt_driver_spec.proofs.ScanSlots.{ArePeers, Same, Untouched, is_queued, scan-same, untouched-later}
 use Rattle.wt_driver_spec.proofs.StreamIds.{apart-ids, bi-low, fewer-miss, ids-more, kinds-differ, kinds-differ-so, kinds-miss, next-misses, uni-low}
-use Rattle.wt_driver_spec.specs.Claims.{IsOnce}
+use Rattle.wt_driver_spec.specs.AtOnce.{control_flushed, flushed, open_after}
 use Rattle.wt_driver_spec.specs.DriverState.{DriverState, Held, Slot, slot_by, slot_of, slots, state_by, state_of}
 use Rattle.wt_driver_spec.specs.Moment.{Fits, MayCall, MayFollow, actions_if, flush_state, is_local, may_release, moment_actions, moment_state, names_session, scan_if, scans, state_with_actions}
 use Rattle.wt_driver_spec.specs.Step.{after_call, after_entry, control_after, is_other, new_slot, release, scan_state, sent_length, step_actions, without_slot}
@@ -15,7 +15,7 @@ use Rattle.wt_proto.specs.declared.verdict.Verdict.{Verdict}
 use Rattle.wt_seam_spec.specs.Sent.{sent_on, with_sent_piece}
 use Rattle.wt_seam_spec.specs.Streams.{local_count, local_uni, one_more_if, opens, peer_bi, peer_count, peer_uni}
 use Rattle.wt_spec.specs.Driver.{ControlSent, apply_if, call_view, control_sent, flush, is_moment, log_and_flush, pending_actions, stream_table, transport_view}
-use Rattle.wt_spec.specs.Scan.{bi_ids, bi_rule, has, is_released, scan_bis, scan_order, scan_unis, stream_ids, uni_ids, uni_rule, without_stops}
+use Rattle.wt_spec.specs.Scan.{bi_ids, bi_rule, has, is_released, occupied, scan_bis, scan_order, scan_unis, stream_ids, uni_ids, uni_rule, without_stops}
 use Rattle.wt_spec.specs.StreamTable.{CallView, Classified, StreamTable, TransportView, dispatched, is_webtransport, kept_if, only, verdict_of}
 use Rattle.wt_turn.specs.Log.{CallRecord, Called, Entry, Event, Log, PeerBi, PeerUni, Reported, RequestDelivered, Sent, StreamAccepted, StreamPassed, actions_of, ends_by, events_of, is_open, with_actions}
 use Rattle.wt_turn.specs.declared.action.Action.{Action}
@@ -74,7 +74,7 @@ untouched-called side log (StreamPassed id) may un = record { released = untouch
 untouched-called side log (RequestDelivered id) may un = record { released = un.released; delivered = untouched-delivering side log id may un }
 untouched-called side log _ may un = record { released = un.released; delivered = un.delivered }
 
-pub untouched-entry : (side : Side) (log : Log) (m : Entry) → MayFollow side log m → Untouched (is_local side) (call_view log) (stream_table side log) → Untouched (is_local side) (call_view (m ∷ log)) (stream_table side log)
+untouched-entry : (side : Side) (log : Log) (m : Entry) → MayFollow side log m → Untouched (is_local side) (call_view log) (stream_table side log) → Untouched (is_local side) (call_view (m ∷ log)) (stream_table side log)
 untouched-entry side log (Called d) may un = untouched-called side log d may un
 untouched-entry side log _ may un = record { released = un.released; delivered = un.delivered }
 
@@ -212,6 +212,10 @@ slots-releasing local id d s [] peers may = refl
 slots-releasing local id d s (k ∷ ks) peers may =
     (λ i. slot-releasing local id d s k peers.0 may i ++ slots-releasing local id d s ks peers.1 may i) ∙ sym (without-append id (slot_of d s k) (slots d s ks))
 
+pub only-both : (holds : Classified → Bool) (xs ys : List Classified) → only holds (xs ++ ys) ≡ only holds xs ++ only holds ys
+only-both holds [] ys = refl
+only-both holds (x ∷ xs) ys = rw (only-both holds xs ys) (sym (append_assoc (kept_if (holds x) x) (only holds xs) (only holds ys)))
+
 or-true : (b : Bool) → (b || true) ≡ true
 or-true true = refl
 or-true false = refl
@@ -315,24 +319,24 @@ sent-control side log a = λ i. record {
   sent = sent-more (local_uni side) a (sent_on (actions_of log) (local_uni side)) i;
 }
 
-abbrev pub before_scan : Side → Log → Entry → DriverState
-before_scan side log m = state_by (transport_view side (m ∷ log)) (call_view (m ∷ log)) (control_sent side (m ∷ log)) (is_open (m ∷ log)) (stream_table side log)
+abbrev before_work : Side → Log → Entry → DriverState
+before_work side log m = state_by (transport_view side (m ∷ log)) (call_view (m ∷ log)) (control_sent side (m ∷ log)) (is_open (m ∷ log)) (stream_table side log)
 
 abbrev held : Side → Log → DriverState
 held side log = state_by (transport_view side log) (call_view log) (control_sent side log) (is_open log) (stream_table side log)
 
-reported-in : (side : Side) (log : Log) (e : Event) → Sound side log → before_scan side log (Reported e) ≡ after_entry (transport_view side log) (Reported e) (held side log)
+reported-in : (side : Side) (log : Log) (e : Event) → Sound side log → before_work side log (Reported e) ≡ after_entry (transport_view side log) (Reported e) (held side log)
 reported-in side log PeerUni s = reported-uni side log s.within
 reported-in side log PeerBi s = reported-bi side log s.within
 reported-in side log _ s = refl
 
-called-in : (side : Side) (log : Log) (d : CallRecord) → MayCall side log d → before_scan side log (Called d) ≡ after_entry (transport_view side log) (Called d) (held side log)
+called-in : (side : Side) (log : Log) (d : CallRecord) → MayCall side log d → before_work side log (Called d) ≡ after_entry (transport_view side log) (Called d) (held side log)
 called-in side log (StreamAccepted id) may = state-releasing (transport_view side log) (call_view log) (control_sent side log) (is_open log) (stream_table side log) id may
 called-in side log (StreamPassed id) may = state-releasing (transport_view side log) (call_view log) (control_sent side log) (is_open log) (stream_table side log) id may
 called-in side log (RequestDelivered id) may = state-delivering (transport_view side log) (call_view log) (control_sent side log) (is_open log) (stream_table side log) id
 called-in side log _ may = refl
 
-pub taken-in : (side : Side) (log : Log) (m : Entry) → MayFollow side log m → Sound side log → before_scan side log m ≡ after_entry (transport_view side log) m (held side log)
+taken-in : (side : Side) (log : Log) (m : Entry) → MayFollow side log m → Sound side log → before_work side log m ≡ after_entry (transport_view side log) m (held side log)
 taken-in side log (Reported e) may s = reported-in side log e s
 taken-in side log (Called d) may s = called-in side log d may
 taken-in side log (Sent a) may s = λ i. state_by (transport_view side log) (call_view log) (sent-control side log a i) (open-more (Sent a) log i) (stream_table side log)
@@ -341,7 +345,7 @@ taken-in side log _ may s = refl
 -- what is kept after one more entry, but for what goes out then
 scanned-where : (b : Bool) (side : Side) (log : Log) (m : Entry) → Untouched (is_local side) (call_view (m ∷ log)) (stream_table side log)
     → state_by (transport_view side (m ∷ log)) (call_view (m ∷ log)) (control_sent side (m ∷ log)) (is_open (m ∷ log)) (apply_if b (scan_order (transport_view side (m ∷ log)) (call_view (m ∷ log))) (stream_table side log))
-    ≡ apply_if b (scan_state (transport_view side (m ∷ log))) (before_scan side log m)
+    ≡ apply_if b (scan_state (transport_view side (m ∷ log))) (before_work side log m)
 scanned-where true side log m un = sym (moment-scanned (transport_view side (m ∷ log)) (call_view (m ∷ log)) (control_sent side (m ∷ log)) (is_open (m ∷ log)) (apart-ids (transport_view side (m ∷ log))) (stream_table side log) un)
 scanned-where false side log m un = refl
 
@@ -362,15 +366,6 @@ pub actions-followed : (side : Side) (acts : List Action) (log : Log) → state_
 actions-followed side [] log = refl
 actions-followed side (a ∷ later) log = actions-followed side later (Sent a ∷ log) ∙ ap (state_with_actions (transport_view side log) later) (out-followed side log a)
 
--- actions leave what the transport told as it is
-pub view-with : (side : Side) (acts : List Action) (log : Log) → transport_view side (with_actions acts log) ≡ transport_view side log
-view-with side [] log = refl
-view-with side (a ∷ later) log = view-with side later (Sent a ∷ log)
-
-pub events-with : (acts : List Action) (log : Log) → events_of (with_actions acts log) ≡ events_of log
-events-with [] log = refl
-events-with (a ∷ later) log = events-with later (Sent a ∷ log)
-
 -- what the definition sends is what the driver sends
 pub scanned-out : (side : Side) (log : Log) → pending_actions side log ≡ step_actions (transport_view side log) (state_of side log)
 unfolding state_of
@@ -382,7 +377,7 @@ unfolding state_of
 counts-so side log m = ap (λ b. is_moment m && b) (open-more m log)
 
 module _ (side : Side) (log : Log) (m : Entry) where
-  -- what is kept as the scan begins
+  -- what is kept as the work begins
   abbrev taken : DriverState
   taken = after_entry (transport_view side log) m (state_of side log)
 

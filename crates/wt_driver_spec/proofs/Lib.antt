@@ -14,7 +14,3 @@ pub mod Enough
 pub mod Turns
 pub mod DistinctSlots
 pub mod ScanLoop
-pub mod AcceptLoop
-pub mod Theorems
-pub mod ControlStream
-pub mod Asked

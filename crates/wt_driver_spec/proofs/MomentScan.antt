@@ -1,11 +1,11 @@
--- The scan of a moment on what is kept is that of the definitions.
+-- The checks of a moment on what is kept are those of the definition.
 use Rattle.std.proofs.Common.{◌≡◌, ℕ, Bool, true, false, List, sym, ap, ◌∙◌}
 use Rattle.wt_driver_spec.proofs.ScanSlots.{ArePeers, IsDistinct, Later, Untouched, scan-later, scan-same, scan-slots, slots-same, untouched-later}
 use Rattle.wt_driver_spec.specs.DriverState.{DriverState, Slot, slots, state_by}
 use Rattle.wt_driver_spec.specs.Moment.{is_local}
 use Rattle.wt_driver_spec.specs.Step.{run_checks, scan_bi_slots, scan_state, scan_uni_slots, with_scanned_bis, with_scanned_unis}
 use Rattle.wt_spec.specs.Driver.{ControlSent}
-use Rattle.wt_spec.specs.Scan.{bi_ids, bi_rule, has, scan_bis, scan_order, scan_unis, uni_ids, uni_rule, without_stops}
+use Rattle.wt_spec.specs.Scan.{bi_ids, bi_rule, has, occupied, scan_bis, scan_order, scan_unis, uni_ids, uni_rule, without_stops}
 use Rattle.wt_spec.specs.StreamTable.{CallView, StreamTable, TransportView}
 
 -- the ids of the peer's streams, each once

@@ -1,9 +1,11 @@
 -- A byte that classifies no stream, and with which no walk says anything new, changes nothing: so a whole piece may be taken at once.
 use Rattle.std.proofs.Common.{◌≡◌, ℕ, suc, Bool, true, false, List, [], ◌∷◌, refl, sym, ap, subst, ◌∙◌}
 use Rattle.std.specs.Prelude.{Option, Some, None, ◌==◌, ◌&&◌}
-use Rattle.wt_driver_spec.proofs.Following.{actions-followed, entry-followed, scanned-out, sound, view-with}
+use Rattle.wt_driver_spec.proofs.Following.{actions-followed, entry-followed, scanned-out, sound}
 use Rattle.wt_driver_spec.proofs.Resting.{rest-scanned, scanned-rest}
+use Rattle.wt_driver_spec.proofs.ScanSlots.{left}
 use Rattle.wt_driver_spec.proofs.Sending.{pass-again, pass-silent, sends-are}
+use Rattle.wt_driver_spec.specs.AtOnce.{control_flushed, flushed, open_after}
 use Rattle.wt_driver_spec.specs.DriverState.{Arrived, Dequeued, DriverState, Held, Slot, SlotPlace, state_of}
 use Rattle.wt_driver_spec.specs.Moment.{Fits, MayFollow, flush_state, scans, state_with_actions}
 use Rattle.wt_driver_spec.specs.Rest.{AtRest, IsQuiet, Resting, Rests, RestsAt, StillReads, with_contents}
@@ -11,11 +13,11 @@ use Rattle.wt_driver_spec.specs.Step.{after_entry, begin_scan, scan_state, step_
 use Rattle.wt_proto.specs.Bi.{bi_verdict_of}
 use Rattle.wt_proto.specs.Uni.{is_final, uni_verdict_of}
 use Rattle.wt_proto.specs.declared.verdict.Verdict.{Verdict}
-use Rattle.wt_seam_spec.specs.Streams.{contents}
+use Rattle.wt_seam_spec.specs.Streams.{contents, opens}
 use Rattle.wt_spec.specs.Driver.{apply_if, flush, is_moment, log_and_flush, pending_actions, transport_view}
 use Rattle.wt_spec.specs.Scan.{SlotRule, check_datagram, check_qpack}
 use Rattle.wt_spec.specs.StreamTable.{Consequence, Dispatched, Progress, TransportView, bi_consequence, uni_consequence}
-use Rattle.wt_turn.specs.Log.{Entry, Log, Received, is_open, with_actions}
+use Rattle.wt_turn.specs.Log.{Entry, Log, Received, Sent, is_open, with_actions}
 use Rattle.wt_turn.specs.declared.action.Action.{Action}
 use Rattle.wt_wire.specs.declared.side.Side.{Side}
 use Rattle.wt_wire.specs.declared.side.StreamEnd.{StreamEnd}
@@ -71,7 +73,7 @@ quiet-rests t bytes id k q r = record {
   );
 }
 
--- what is kept after the scan and its sends is at rest
+-- what is kept after the work and its sends is at rest
 pub sent-rests : (t : TransportView) (k : DriverState) → (scan_state t k).progress.ending ≡ None → Resting t (flush_state t (scan_state t k))
 sent-rests t k e =
     let w : DriverState = scan_state t k in
@@ -94,7 +96,7 @@ quiet-byte side log id b fits runs r q =
       record { unis = rest.unis; bis = rest.bis; stay = rest.stay },
     )
 
--- ---- in the words of logs
+-- ---- in the words of histories
 
 nothing-out : (side : Side) (g : Log) (k : DriverState) → state_of side g ≡ k → step_actions (transport_view side g) k ≡ [] → pending_actions side g ≡ []
 nothing-out side g k e silent = scanned-out side g ∙ ap (step_actions (transport_view side g)) e ∙ silent
@@ -117,6 +119,10 @@ quiet-moment side log id b fits runs r q =
         silent = ap (λ (k : DriverState). step_actions (transport_view side (Received id b ∷ log)) (begin_scan k)) quiet.0 ∙ r.silent;
       },
     )
+
+same-sight : (side : Side) (acts : List Action) (log : Log) → transport_view side (with_actions acts log) ≡ transport_view side log
+same-sight side [] log = refl
+same-sight side (a ∷ later) log = same-sight side later (Sent a ∷ log)
 
 -- Each moment that doesn't end the connection leaves all at rest.
 pub moment-rests : (side : Side) (log : Log) (m : Entry) → MayFollow side log m → Fits side log → (is_moment m && is_open (m ∷ log)) ≡ true
@@ -143,7 +149,7 @@ moment-rests side log m may fits scans none = by (is_moment m && is_open (m ∷ 
         ∙ ap (flush_state u) worked_so
 
     same : transport_view side (with_actions (pending_actions side (m ∷ log)) (m ∷ log)) ≡ u
-    same = view-with side (pending_actions side (m ∷ log)) (m ∷ log)
+    same = same-sight side (pending_actions side (m ∷ log)) (m ∷ log)
 
     by : (b : Bool) → b ≡ true → AtRest side (apply_if b (with_actions (pending_actions side (m ∷ log))) (m ∷ log))
     by true e = record {

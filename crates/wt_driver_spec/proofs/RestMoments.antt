@@ -1,15 +1,15 @@
 -- A moment leaves a driver at rest, and an entry that changes nothing the driver asks leaves it so and sends nothing.
 use Rattle.std.proofs.Common.{◌≡◌, ℕ, Bool, true, false, List, [], ◌∷◌, ◌++◌, refl, sym, ap, ◌∙◌}
-use Rattle.std.specs.Prelude.{Option, Some, None, ◌==◌, ◌&&◌, not, if◌then◌else◌}
+use Rattle.std.specs.Prelude.{Option, Some, None, ◌==◌, ◌||◌, ◌&&◌, not, if◌then◌else◌}
 use Rattle.std.proofs.lemmas.Bool.{eqb-true, false_from_ne_true, or_from, true≢false}
 use Rattle.wt_driver_spec.proofs.ClassifiedOnce.{turned-round}
-use Rattle.wt_driver_spec.proofs.Following.{actions-followed, entry-followed, open-more, scanned-out, slot-other, sound, without-append}
+use Rattle.wt_driver_spec.proofs.Following.{actions-followed, entry-followed, only-both, open-more, scanned-out, slot-other, sound, without-append}
 use Rattle.wt_driver_spec.proofs.Quiet.{moment-rests}
 use Rattle.wt_driver_spec.proofs.Resting.{rest-scanned}
-use Rattle.wt_driver_spec.proofs.ScanSlots.{ArePeers, only-both}
+use Rattle.wt_driver_spec.proofs.ScanSlots.{ArePeers, apart}
 use Rattle.wt_driver_spec.proofs.Sending.{sent_at_once}
 use Rattle.wt_driver_spec.proofs.StreamIds.{apart-ids}
-use Rattle.wt_driver_spec.specs.AtOnce.{open_after}
+use Rattle.wt_driver_spec.specs.AtOnce.{flushed, open_after}
 use Rattle.wt_driver_spec.specs.DriverState.{DriverState, slot_of, slots, state_by, state_of}
 use Rattle.wt_driver_spec.specs.Moment.{Fits, MayCall, MayFollow, flush_state, is_local, state_with_actions}
 use Rattle.wt_driver_spec.specs.Rest.{AtRest, RestsWhileOpen, begin_if, rested}

@@ -2,6 +2,8 @@
 use Rattle.std.proofs.Common.{arith, ◌≡◌, ℕ, suc, Bool, true, false, cond, List, [], ◌∷◌, ◌++◌, drop, refl, sym, ap, ◌∙◌}
 use Rattle.std.specs.Prelude.{is_some, Option, Some, None, Result, Ok, Err, ◌==◌, ◌||◌, ◌&&◌, nat_lt, not}
 use Rattle.std.proofs.lemmas.Bool.{eqb-true, false_from_ne_true}
+use Rattle.wt_driver_spec.proofs.ScanSlots.{known}
+use Rattle.wt_driver_spec.specs.AtOnce.{control_flushed, flushed, open_after}
 use Rattle.wt_driver_spec.specs.DriverState.{Arrived, Dequeued, DriverState, Held, Slot, SlotPlace}
 use Rattle.wt_driver_spec.specs.Rest.{AllStay, Resting, Rests, RestsAt}
 use Rattle.wt_driver_spec.specs.Step.{Known, Scanned, after_slots, begin_scan, classify_slot, dequeue_slot, keep_slot, kept_calls, known_of, run_checks, scan_bi_slots, scan_on, scan_slots, scan_state, scan_uni_slots, unless_ended_slots, visit_slot, with_no_stops, with_scanned_bis, with_scanned_unis}
@@ -87,14 +89,14 @@ module _ (ready : Bool) (rule : SlotRule) where
 
 -- ---- the checks behind the streams
 
--- a check changes no datagrams, no settings
+-- a visit changes no datagrams, no settings
 abbrev KeepsDatagrams : (Progress → Progress) → Type 0
 KeepsDatagrams f = (c : Progress) → (f c).datagrams ≡ c.datagrams
 
 abbrev KeepsSettings : (Progress → Progress) → Type 0
 KeepsSettings f = (c : Progress) → (f c).settings ≡ c.settings
 
--- a check that only may end the connection
+-- a visit that only may end the connection
 record Plain (f : Progress → Progress) : Type 0 where
   stays : (c : Progress) → (f c).ending ≡ None → (e : Progress) → f e ≡ e
   datagrams : KeepsDatagrams f
@@ -277,7 +279,7 @@ module _ (t : TransportView) (settled : ℕ) (session : Option (ℕ × ℕ)) (o 
       let last : (six c).ending ≡ None = ap (λ (d : Progress). d.ending) (sym is) ∙ e in
       rw is (all-stay c r last)
 
--- ---- a whole scan
+-- ---- a whole pass
 
 -- a scan that finds no ending comes to rest
 pub scanned-rest : (t : TransportView) (k : DriverState) → (scan_state t k).progress.ending ≡ None → Resting t (scan_state t k)

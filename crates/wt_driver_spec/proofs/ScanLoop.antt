@@ -6,9 +6,9 @@ use Rattle.std.proofs.lemmas.Bool.{le-ltb}
 use Rattle.std.proofs.lemmas.List.{drop_more, take_more_set, drop-set-lt, drop_all, take-append-drop, append-nil}
 use Rattle.wt_driver_spec.proofs.Bounded.{behind-stay, sooner}
 use Rattle.wt_driver_spec.proofs.DistinctSlots.{agree-but, agree-self, scan-agrees}
-use Rattle.wt_driver_spec.proofs.ScanSlots.{scan-cons, scan-ended}
+use Rattle.wt_driver_spec.proofs.ScanSlots.{known, scan-cons, scan-ended}
 use Rattle.wt_driver_spec.specs.Bounds.{AgreeOn, AreDistinct, IsBounded, has_slot}
-use Rattle.wt_driver_spec.specs.DriverState.{Slot}
+use Rattle.wt_driver_spec.specs.DriverState.{Slot, slots}
 use Rattle.wt_driver_spec.specs.Step.{Known, Scanned, Visited, after_slots, scan_on, scan_slots, visit_slot, visited_as}
 use Rattle.wt_spec.specs.Scan.{SlotRule}
 use Rattle.wt_spec.specs.StreamTable.{Ending}

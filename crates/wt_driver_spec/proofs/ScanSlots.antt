@@ -1,4 +1,4 @@
--- Scanning the slots of a kind is visiting all of its streams, any number of them.
+-- Scanning the slots of a kind is visiting at all of its streams, any number of them.
 use Rattle.std.proofs.Common.{◌≡◌, ℕ, suc, Bool, true, false, cond, List, [], ◌∷◌, ◌++◌, refl, sym, ap, ◌∙◌, append_assoc}
 use Rattle.std.specs.Prelude.{not, Option, Some, None, ◌==◌, ◌||◌, ◌&&◌, nat_lt}
 use Rattle.std.proofs.lemmas.Bool.{eq-eqb, eqb-true, or_parts, or_right, true≢false}
@@ -129,12 +129,9 @@ first-append step_actions (x ∷ xs) r =
     ap (or_later (paired x.id (step_actions x.verdict))) (first-append step_actions xs r)
     ∙ or-again (paired x.id (step_actions x.verdict)) (first_at step_actions xs) (paired r.id (step_actions r.verdict))
 
-pub only-both : (holds : Classified → Bool) (xs ys : List Classified) → only holds (xs ++ ys) ≡ only holds xs ++ only holds ys
-only-both holds [] ys = refl
-only-both holds (x ∷ xs) ys = rw (only-both holds xs ys) (sym (append_assoc (kept_if (holds x) x) (only holds xs) (only holds ys)))
-
 pub only-append : (holds : Classified → Bool) (rs : List Classified) (r : Classified) → only holds (rs ++ r ∷ []) ≡ only holds rs ++ kept_if (holds r) r
-only-append holds rs r = only-both holds rs (r ∷ []) ∙ ap (λ (cs : List Classified). only holds rs ++ cs) (append-nil (kept_if (holds r) r))
+only-append holds [] r = append-nil (kept_if (holds r) r)
+only-append holds (x ∷ xs) r = rw (only-append holds xs r) (sym (append_assoc (kept_if (holds x) x) (only holds xs) (kept_if (holds r) r)))
 
 -- a request that is queued
 abbrev pub is_queued : Classified → Bool
@@ -279,7 +276,7 @@ module _ (ready : Bool) (d : CallView) (rule : SlotRule) where
       by (Some e) rest = later-same p.table
       by None rest = later-again p.table q.table (scan ready d rule ks q).table (visit-later (verdict_of k p.table.classified) k p) rest
 
-  -- ---- one slot is visited as its stream is
+  -- ---- one slot is scanned as its stream is visited at
 
   module _ (k : ℕ) (ls : List Slot) (p : Scan) (runs : p.table.progress.ending ≡ None) (local : ℕ → Bool) (peers : local k ≡ false) (un : Untouched local d p.table) where
     -- what is left behind the stream, and its slot before it

@@ -4,6 +4,7 @@ use Rattle.std.specs.Prelude.{Option, Some, None, ◌==◌, ◌||◌, ◌&&◌}
 use Rattle.std.proofs.lemmas.Bool.{or_right, eqb-true}
 use Rattle.wt_driver_spec.proofs.MomentScan.{moment-later}
 use Rattle.wt_driver_spec.proofs.ScanSlots.{Later, later-again, later-same}
+use Rattle.wt_driver_spec.specs.AtOnce.{control_flushed, flushed, open_after}
 use Rattle.wt_driver_spec.specs.DriverState.{Held, slot_by, slots}
 use Rattle.wt_driver_spec.specs.Rest.{Rests}
 use Rattle.wt_proto.specs.Uni.{is_final}
@@ -44,13 +45,13 @@ pub record IsReleased (d : CallView) (s : StreamTable) (k : ℕ) : Type 0 where
   pub classified : verdict_of k s.classified ≡ Some verdict
   pub released : is_released (d.released k) verdict ≡ true
 
-pub by-accept-stays : (v : Verdict) (before after : Bool) → (before ≡ true → after ≡ true) → is_released before v ≡ true → is_released after v ≡ true
+by-accept-stays : (v : Verdict) (before after : Bool) → (before ≡ true → after ≡ true) → is_released before v ≡ true → is_released after v ≡ true
 by-accept-stays verdicts.Incomplete before after f e = absurd cc
 by-accept-stays (verdicts.WebTransport session at) before after f e = f e
 by-accept-stays (verdicts.Fault code) before after f e = absurd cc
 by-accept-stays _ before after f e = refl
 
-pub release-stays : (log : Log) (m : Entry) (k : ℕ) → (call_view log).released k ≡ true → (call_view (m ∷ log)).released k ≡ true
+release-stays : (log : Log) (m : Entry) (k : ℕ) → (call_view log).released k ≡ true → (call_view (m ∷ log)).released k ≡ true
 release-stays log (Called d) k e = or_right (releases k d) ((call_view log).released k) e
 release-stays log _ k e = e
 

@@ -1,8 +1,8 @@
 -- Each turn leads to a log whose entries might follow each other, with all at rest behind it.
-use Rattle.std.proofs.Common.{arith, ◌≡◌, ℕ, ℤ, ◌+◌, ◌*◌, ◌%◌, Bool, true, false, List, [], ◌∷◌, ◌++◌, length, refl, sym, ap, ◌∙◌, ◌⊎◌, inl, inr}
-use Rattle.std.specs.Prelude.{bytes_eq, ◌/◌, Option, Some, None, Result, Ok, Err, codes, is_some, nat_lt, not, ◌==◌, ◌||◌, if◌then◌else◌}
+use Rattle.std.proofs.Common.{arith, ◌≡◌, ℕ, ℤ, suc, ◌+◌, ◌*◌, ◌<◌, ◌%◌, Bool, true, false, List, [], ◌∷◌, ◌++◌, length, refl, sym, ap, subst, ◌∙◌, ◌⊎◌, inl, inr}
+use Rattle.std.specs.Prelude.{bytes_eq, ◌/◌, Option, Some, None, Result, Ok, Err, codes, is_some, nat_lt, not, ◌==◌, ◌||◌, ◌&&◌, if◌then◌else◌}
 use Rattle.std.specs.List.{list_any}
-use Rattle.std.proofs.lemmas.Bool.{and_parts, eqb-true, or_left, true≢false}
+use Rattle.std.proofs.lemmas.Bool.{and_parts, eq-eqb, eqb-true, or_left, true≢false}
 use Rattle.url.specs.Parts.{Parts}
 use Rattle.url.specs.declared.error.ParseError.{ParseError}
 use Rattle.url.specs.Parser.{parse_url}
@@ -29,7 +29,7 @@ use Rattle.wt_spec.specs.Connect.{address_of, authority_of, connect, connect_to,
 use Rattle.wt_spec.specs.Connection.{accept_stream, datagram_allowed, datagram_within, ends_opening, is_opening, open_stream, poll_opening, receive_datagram, send_datagram, send_header, starts_opening, stream_header}
 use Rattle.wt_spec.specs.Driver.{call_view, established, flush, is_moment, log_and_flush, settings_came, stream_table}
 use Rattle.wt_spec.specs.Effect.{Effect, closing, driver_error, head_left, is_covered, is_empty, log_call, poll_sending, reply_with, transport_error}
-use Rattle.wt_spec.specs.Halves.{all_written_reply, exact_at_end, finishing, has_receiving_half, has_sending_half, is_done, on_half, read, read_exact, read_reply, reset, set_priority, take_bytes, unread, write_by, write_error, written_reply}
+use Rattle.wt_spec.specs.Halves.{all_written_reply, exact_at_end, finishing, has_receiving_half, has_sending_half, is_accepted, is_done, on_half, read, read_exact, read_reply, reset, set_priority, take_bytes, unread, write, write_by, write_error, written_reply}
 use Rattle.wt_spec.specs.Handshake.{Connecting, HandshakeState, Responding, accept_response, await_or_fail, await_response, continue_by, establish, fail_handshake, handshake_state, has_success, incoming, is_refused, open_request, queued_requests, read_response, reject_response, requested, respond, send_request, start_response, unless_reserved}
 use Rattle.wt_spec.specs.StreamTable.{Classified, awaits_delivery, dispatched, verdict_of}
 use Rattle.wt_turn.specs.Log.{Acked, BytesRead, CallRecord, Called, ConnectStarted, Connected, Datagram, DatagramLimit, End, Entry, Event, HandshakeOver, Log, Loss, MaxBi, MaxData, MaxUni, OpeningFailed, OpeningStarted, PeerBi, PeerUni, Polled, PrioritySet, Received, Reported, RequestDelivered, Reset, ResetUnsent, ResponseStarted, SessionEstablished, Stop, StreamAccepted, StreamGivenUp, actions_of, calls_of, events_of, is_open, with_actions}
@@ -394,14 +394,3 @@ start-leads side = record { fits = tt; rests = start-rests side }
 pub turns-lead : (side : Side) (all : List Turn) (log : Log) → DriverFacts side log → DriverFacts side (log_from side log all)
 turns-lead side [] log facts = facts
 turns-lead side (turn ∷ later) log facts = turns-lead side later (log_after side log turn) (turn-leads side log turn facts)
-
--- ---- as they are claimed
-
-pub start_theorem : (side : Side) → DriverFacts side []
-start_theorem side = start-leads side
-
-pub turn_theorem : (side : Side) (log : Log) (turn : Turn) → DriverFacts side log → DriverFacts side (log_after side log turn)
-turn_theorem side log turn facts = turn-leads side log turn facts
-
-pub turns_theorem : (side : Side) (all : List Turn) → DriverFacts side (log_from side [] all)
-turns_theorem side all = turns-lead side all [] (start-leads side)

@@ -5,4 +5,3 @@ pub mod Due
 pub mod Bounds
 pub mod AtOnce
 pub mod Rest
-pub mod Claims

@@ -5,6 +5,7 @@ use Rattle.wt_spec.specs.Driver.{transport_view}
 use Rattle.wt_spec.specs.Scan.{SlotRule, bi_rule, check_control, check_session, checks, uni_rule}
 use Rattle.wt_spec.specs.StreamTable.{Progress, TransportView}
 use Rattle.wt_turn.specs.Log.{Log, is_open}
+use Rattle.wt_turn.specs.declared.action.Action.{Action}
 use Rattle.wt_wire.specs.declared.side.Side.{Side}
 use Rattle.wt_driver_spec.specs.DriverState.{Arrived, Dequeued, DriverState, Held, Slot, SlotPlace, state_of}
 use Rattle.wt_driver_spec.specs.Moment.{Fits}

@@ -1,5 +1,3 @@
-pub mod Quiet
 pub mod Kept
 pub mod State
 pub mod Stage
-pub mod Moves

@@ -1,5 +1,5 @@
 -- What an inbox keeps, as data, and what each stream's readers would say if all that is unread were read now.
-use Rattle.std.specs.Prelude.{◌≡◌, ◌+◌, ℕ, List, [], length, Bool, Option, None, is_some, nat_lt, not, ◌&&◌}
+use Rattle.std.specs.Prelude.{◌≡◌, ◌+◌, ℕ, List, [], ◌∷◌, length, map, Bool, false, Option, Some, None, is_some, nat_lt, not, ◌&&◌}
 use Rattle.wt_wire.specs.declared.side.Side.{Side}
 use Rattle.wt_wire.specs.declared.side.StreamEnd.TheVariants.{Running}
 use Rattle.wt_message.specs.declared.settings.Settings.{Settings}
@@ -12,6 +12,7 @@ use Rattle.wt_proto.specs.Bi.{bi_decides, bi_unfinished}
 use Rattle.wt_proto.specs.ControlWalk.{control_decides, control_unfinished}
 use Rattle.wt_proto.specs.SessionWalk.{session_decides, session_unfinished, is_over}
 use Rattle.wt_proto.specs.ResponseWalk.{response_decides, response_unfinished}
+use Rattle.wt_streams.specs.declared.stream.Stream.{Stream}
 use Rattle.wt_seam.specs.State.{TransportState}
 use Rattle.wt_message.specs.FixedBytes.{local_control_bytes}
 use Rattle.wt_seam_spec.specs.Streams.{local_uni, peer_bi, peer_uni}
@@ -100,3 +101,13 @@ control_stopped_now t = is_some (stop_now t (local_uni t.side))
 -- this end's SETTINGS are out, or can go out whole
 abbrev pub ready_now : TransportState → Bool
 ready_now t = t.is_connected && may_open_uni_now t && not (nat_lt (control_credit_now t) (length local_control_bytes))
+
+-- ---- what reading leaves
+
+-- a stream but for what its readers do
+abbrev pub quiet_stream : Stream → Stream
+quiet_stream s = record s { unread = []; given_up = false }
+
+-- a transport but for what the readers of its streams do: reading and giving up leave it as it is
+abbrev pub quiet : TransportState → TransportState
+quiet t = record t { streams = map (λ (row : List Stream). map quiet_stream row) t.streams }

@@ -1,5 +1,5 @@
 //! What is kept of a connection's streams: the transport, and the readers.
-ghost use Rattle.std.specs.Prelude.{◌≡◌, ◌^◌, ◌-◌, [], min};
+ghost use Rattle.std.specs.Prelude.{◌≡◌, ◌==◌, ℕ, List, Bool, [], Some, None, IfOk, IfSome, OnErr, OnOk, false, true};
 ghost use Rattle.wt_turn.specs.Log.{Log, events_of};
 ghost use Rattle.wt_turn.specs.declared.action.Action.{Action};
 ghost use Rattle.wt_wire.specs.declared.side.Side.{Side};
@@ -46,7 +46,6 @@ impl Model for Inbox {
 
 impl Inbox {
     /// The inbox of a connection of which nothing was told yet.
-    #[tactic(auto, using(crate::proofs::Passing::new_inbox_refines))]
     pub fn new(alloc: Global, side: Side) -> Inbox
         ensures now { result ≡ nothing_read side }
         ensures log { Refines side result [] all_untouched [] }
@@ -71,12 +70,8 @@ impl Inbox {
 
     /// How many readers are kept.
     pub fn readers(&self) -> usize
-        ensures { result ≡ min (readers_now self.now) (2 ^ 64 - 1) }
+        ensures { result ≡ readers_now self.now }
     {
-        let headers = self.unis.len().saturating_add(self.bis.len());
-        let walks = self.controls.len().saturating_add(self.sessions.len());
-        headers
-            .saturating_add(self.responses.len())
-            .saturating_add(walks)
+        self.unis.len() + self.bis.len() + self.responses.len() + self.controls.len() + self.sessions.len()
     }
 }

@@ -1,13 +1,13 @@
 //! Reading on: a stream's reader is fed what is unread of it.
-ghost use Rattle.std.specs.Prelude.{◌≡◌, ◌≤◌, ◌<◌, ◌++◌, ◌⊎◌, ℕ, List, Bool, [], IfOk, length, take, true, false};
-ghost use Rattle.wt_wire.specs.declared.side.StreamEnd.{StreamEnd};
+ghost use Rattle.std.specs.Prelude.{◌≡◌, ◌≤◌, ◌<◌, ◌++◌, ℕ, List, Bool, [], None, IfOk, OnOk, length, take, true, false};
 ghost use Rattle.wt_wire.specs.declared.side.StreamEnd.TheVariants.{Running};
-ghost use Rattle.wt_proto.specs.Progress.{HasRead, fed_reading};
+ghost use Rattle.wt_proto.specs.Progress.{HasRead, fed, fed_reading, progress_over};
 ghost use Rattle.wt_proto.specs.Reading.{outcome_in};
 ghost use Rattle.wt_proto.specs.Steady.{IsSteady};
-ghost use Rattle.wt_seam.specs.Step.{unread_now};
-ghost use Rattle.wt_inbox.specs.Kept.{Pulls, Takes, outcome_after};
+ghost use Rattle.wt_seam.specs.Step.{after_consume, end_now, unread_now};
+ghost use Rattle.wt_inbox.specs.Kept.{HasReadOn, read_on};
 
+use std::alloc::Global;
 use std::marker::Brand;
 use std::sync::ledger::{Blank, Ledger};
 use wt_proto::reader::StreamReader;
@@ -27,73 +27,41 @@ fn feed_counted<W: Walk, L: Ledger>(
     requires name { blank.name ≡ L.name }
     requires parts { blank.parts ≡ L.parts }
     requires some { 0 < L.parts }
-    ensures within { IfOk result (λ n. n ≤ length piece.now) }
-    ensures taken { IfOk result (λ n. reader.new ≡ fed_reading W.decides reader.old (take n piece.now)) }
-    ensures running { (bytes : List ℕ) (end : StreamEnd) (k : ℕ) → HasRead W.decides W.start_state reader.old bytes end → IfOk result (λ n. k < n → W.is_final_outcome (W.outcome_of (bytes ++ take k piece.now) end) ≡ false) }
-    ensures stands { IfOk result (λ n. n < length piece.now → W.is_final_outcome (outcome_in W.unfinished_at reader.new) ≡ true) }
 {
     let mut steps = Steps::<L>::new(blank);
     reader.feed(piece, &mut steps)
 }
 
-/// The same, where nobody counts.
-fn feed<W: Walk>(reader: &mut StreamReader<W>, piece: &[u8]) -> Result<usize, OutOfMemory>
-    ensures within { IfOk result (λ n. n ≤ length piece.now) }
-    ensures taken { IfOk result (λ n. reader.new ≡ fed_reading W.decides reader.old (take n piece.now)) }
-    ensures running { (bytes : List ℕ) (end : StreamEnd) (k : ℕ) → HasRead W.decides W.start_state reader.old bytes end → IfOk result (λ n. k < n → W.is_final_outcome (W.outcome_of (bytes ++ take k piece.now) end) ≡ false) }
-    ensures stands { IfOk result (λ n. n < length piece.now → W.is_final_outcome (outcome_in W.unfinished_at reader.new) ≡ true) }
-{
+/// Feeds a reader a piece, and tells how many bytes of it the reader took.
+fn feed<W: Walk>(reader: &mut StreamReader<W>, piece: &[u8]) -> Result<usize, OutOfMemory> {
     feed_counted::<W, Brand>(reader, piece, Blank::new(1))
 }
 
-/// Feeds a reader the first unread piece, and tells whether there may be more for it to take.
+/// Feeds a reader the first unread piece, and tells whether it took all of it.
 fn read_piece<W: Walk>(
     transport: &mut Transport,
     id: StreamId,
     reader: &mut StreamReader<W>,
-) -> Result<bool, OutOfMemory>
-    ensures takes { IfOk result (λ more. (count : ℕ) × Takes W.start_state W.decides W.is_final_outcome W.outcome_of reader.old reader.new transport.old transport.new id count) }
-    ensures more { IfOk result (λ more. more ≡ true → length (unread_now transport.new id) < length (unread_now transport.old id)) }
-    ensures done { IfOk result (λ more. more ≡ false → (W.is_final_outcome (outcome_in W.unfinished_at reader.new) ≡ true) ⊎ (unread_now transport.new id ≡ [])) }
-{
+) -> Result<bool, OutOfMemory> {
     let piece = transport.peek(id);
     let size = piece.len();
+    if size == 0 {
+        return Ok(false);
+    }
     let taken = feed(reader, piece)?;
     transport.consume(id, taken);
-    Ok(0 < taken && taken == size)
+    Ok(taken == size)
 }
 
-/// Feeds a reader what is unread, up to the byte with which its outcome is final.
-fn read_pieces<W: Walk>(
-    transport: &mut Transport,
-    id: StreamId,
-    reader: &mut StreamReader<W>,
-) -> Result<(), OutOfMemory>
-    requires { IsSteady W.decides }
-    ensures takes { IfOk result (λ _. (count : ℕ) × Takes W.start_state W.decides W.is_final_outcome W.outcome_of reader.old reader.new transport.old transport.new id count) }
-    ensures done { IfOk result (λ _. (W.is_final_outcome (outcome_in W.unfinished_at reader.new) ≡ true) ⊎ (unread_now transport.new id ≡ [])) }
-{
-    let mut goes = read_piece(transport, id, reader)?;
-    while goes {
-        goes = read_piece(transport, id, reader)?;
-    }
-    Ok(())
-}
-
-/// Feeds a reader what is unread, up to the byte with which its outcome is final, tells it the end, and
-/// answers whether the bytes alone made the outcome final.
+/// Feeds a reader all that is unread, up to the byte with which its outcome is final, tells it the end,
+/// and answers whether the bytes alone made the outcome final.
 pub(crate) fn read_all<W: Walk>(
     transport: &mut Transport,
     id: StreamId,
     reader: &mut StreamReader<W>,
-) -> Result<bool, OutOfMemory>
-    requires steady { IsSteady W.decides }
-    requires goes_on { (s : W.State) (between : Bool) → W.is_final_outcome (W.unfinished_at Running s between) ≡ false }
-    ensures pulls { IfOk result (λ _. Pulls W.start_state W.decides W.is_final_outcome W.outcome_of reader.old reader.new transport.old transport.new id) }
-    ensures decided { IfOk result (λ decided. decided ≡ W.is_final_outcome (outcome_after W.decides W.unfinished_at reader.old (unread_now transport.old id) Running)) }
-{
+) -> Result<bool, OutOfMemory> {
     reader.end(StreamEnd::Running);
-    read_pieces(transport, id, reader)?;
+    while read_piece(transport, id, reader)? {}
     let is_decided = W::is_final(reader.outcome());
     reader.end(transport.end(id));
     Ok(is_decided)

@@ -1,11 +1,9 @@
 //! The readers of one kind, each with its stream.
-ghost use Rattle.std.specs.Prelude.{◌≡◌, ◌==◌, ℕ, Bool, [], None, IfOk, IfSome, OnOk, length, false};
-ghost use Rattle.std.specs.List.{position};
+ghost use Rattle.std.specs.Prelude.{◌≡◌, ◌<◌, ◌==◌, ◌++◌, ◌∷◌, ℕ, [], None, IfOk, IfSome, OnErr, OnOk, length, false};
 ghost use Rattle.wt_wire.specs.declared.side.StreamEnd.TheVariants.{Running};
+ghost use Rattle.wt_proto.specs.Progress.{HasRead};
 ghost use Rattle.wt_proto.specs.Reading.{outcome_in};
-ghost use Rattle.wt_proto.specs.Steady.{IsSteady};
-ghost use Rattle.wt_seam.specs.Step.{unread_now};
-ghost use Rattle.wt_inbox.specs.Kept.{Pulled, Pulls, StandsAt, no_reading, outcome_after, outcome_by, reading_of};
+ghost use Rattle.wt_inbox.specs.Kept.{Kept, Pulled, no_reading, reading_of};
 
 use crate::reading::read_all;
 use std::alloc::Global;
@@ -54,13 +52,7 @@ impl<W: Walk> Entry<W> {
     }
 
     /// Reads on, and tells whether the bytes alone made the outcome final.
-    fn read(&mut self, transport: &mut Transport) -> Result<bool, OutOfMemory>
-        requires steady { IsSteady W.decides }
-        requires goes_on { (s : W.State) (between : Bool) → W.is_final_outcome (W.unfinished_at Running s between) ≡ false }
-        ensures id { self.new.id ≡ self.old.id }
-        ensures pulls { IfOk result (λ _. Pulls W.start_state W.decides W.is_final_outcome W.outcome_of self.old.reading self.new.reading transport.old transport.new self.old.id) }
-        ensures decided { IfOk result (λ decided. decided ≡ W.is_final_outcome (outcome_after W.decides W.unfinished_at self.old.reading (unread_now transport.old self.old.id) Running)) }
-    {
+    fn read(&mut self, transport: &mut Transport) -> Result<bool, OutOfMemory> {
         read_all(transport, self.id, &mut self.reader)
     }
 
@@ -96,18 +88,16 @@ impl<W: Walk> Shelf<W> {
     }
 
     /// Where the reader of a stream stands.
-    fn index_of(&self, id: StreamId) -> Option<usize>
-        ensures { result ≡ position (λ kept. kept.id == id) self.now }
-    {
+    fn index_of(&self, id: StreamId) -> Option<usize> {
         self.entries.iter().position(|entry| entry.is_of(id))
     }
 
     /// Where the reader of a stream stands; the fresh one is kept where there was none.
-    fn index_for(&mut self, id: StreamId, fresh: StreamReader<W>) -> Result<usize, OutOfMemory>
-        requires { fresh ≡ no_reading W.start_state }
-        ensures at { IfOk result (λ index. StandsAt W.start_state self.new id index) }
-        ensures same { OnOk result ((k : ℕ) → reading_of W.start_state self.new k ≡ reading_of W.start_state self.old k) }
-    {
+    fn index_for(
+        &mut self,
+        id: StreamId,
+        fresh: StreamReader<W>,
+    ) -> Result<usize, OutOfMemory> {
         match self.index_of(id) {
             Some(index) => Ok(index),
             None => {
@@ -125,23 +115,14 @@ impl<W: Walk> Shelf<W> {
         transport: &mut Transport,
         id: StreamId,
         fresh: StreamReader<W>,
-    ) -> Result<bool, OutOfMemory>
-        requires steady { IsSteady W.decides }
-        requires goes_on { (s : W.State) (between : Bool) → W.is_final_outcome (W.unfinished_at Running s between) ≡ false }
-        requires fresh { fresh ≡ no_reading W.start_state }
-        ensures pulled { OnOk result (Pulled W.start_state W.decides W.is_final_outcome W.outcome_of self.old self.new transport.old transport.new id) }
-        ensures decided { IfOk result (λ decided. decided ≡ W.is_final_outcome (outcome_by W.decides W.start_state W.unfinished_at self.old transport.old id Running)) }
-    {
+    ) -> Result<bool, OutOfMemory> {
         let index = self.index_for(id, fresh)?;
         let entry = &mut self.entries[index];
         entry.read(transport)
     }
 
-    /// The outcome of a stream's reader, where there is one.
-    pub(crate) fn outcome(&self, id: StreamId) -> Option<&W::Outcome>
-        ensures some { IfSome result (λ outcome. outcome.now ≡ outcome_in W.unfinished_at (reading_of W.start_state self.now id)) }
-        ensures none { result ≡ None → reading_of W.start_state self.now id ≡ no_reading W.start_state }
-    {
+    /// Whether the outcome of a stream's reader passes the test, where there is a reader.
+    pub(crate) fn outcome(&self, id: StreamId) -> Option<&W::Outcome> {
         match self.index_of(id) {
             Some(index) => Some(self.entries[index].outcome()),
             None => None,
@@ -150,11 +131,7 @@ impl<W: Walk> Shelf<W> {
 
     /// Lets the reader of a stream go, and tells its outcome; where there was none, that of the fresh
     /// one.
-    pub(crate) fn release(&mut self, id: StreamId, fresh: StreamReader<W>) -> W::Outcome
-        requires { fresh ≡ no_reading W.start_state }
-        ensures outcome { result ≡ outcome_in W.unfinished_at (reading_of W.start_state self.old id) }
-        ensures others { (k : ℕ) → (id == k) ≡ false → reading_of W.start_state self.new k ≡ reading_of W.start_state self.old k }
-    {
+    pub(crate) fn release(&mut self, id: StreamId, fresh: StreamReader<W>) -> W::Outcome {
         match self.index_of(id) {
             Some(index) => self.entries.remove(index).into_outcome(),
             None => fresh.into_outcome(),

@@ -71,7 +71,7 @@ module _ (side : Side) (turn : Turn) where
     caused-header : is_open log ≡ true → is_refused log k left ≡ false → (b : Bool) → is_covered log k left ≡ b → (c : Bool) → is_bidirectional k ≡ c
         → Caused side turn log (if b then reply_with (log_call side log (send_of k left) (StreamAccepted k)) (if c then replies.BiReady k else replies.SendReady k) else poll_sending side log (send_of k (covered log k left)) replies.Pending)
     unfolding left
-    caused-header o f true c x y = leaf side turn log (send_of k left) (StreamAccepted k) _ (own-send side turn log k left o (OfHeader s at p d i (sym (covered-whole log k left c)))) (ByOpening (record {
+    caused-header o f true c x y = leaf side turn log (send_of k left) (StreamAccepted k) _ (own-send side turn log k left o (OfHeader s at d i (sym (covered-whole log k left c)))) (ByOpening (record {
       polls = p;
       opening = still-opening (send_of k left) log k ∙ i;
       session = s;
@@ -87,7 +87,7 @@ module _ (side : Side) (turn : Turn) where
         ready : (x : Bool) → is_bidirectional k ≡ x → ReplyCause side turn log (if x then replies.BiReady k else replies.SendReady k)
         ready true y = (record { polls = p; opening = i; still_open = o; session = s; at = at; is_established = d; covers = c }, y)
         ready false y = (record { polls = p; opening = i; still_open = o; session = s; at = at; is_established = d; covers = c }, y)
-    caused-header o f false c x y = leaf side turn log (send_of k (covered log k left)) Polled replies.Pending (own-send side turn log k (covered log k left) o (OfHeader s at p d i refl)) tt refl (o, HeadUnsent k (stream_header k s) (OfTheStream s at p i d refl) c (not-stopped side turn (stop_of (events_of log) k) left (credit_left log k) f c))
+    caused-header o f false c x y = leaf side turn log (send_of k (covered log k left)) Polled replies.Pending (own-send side turn log k (covered log k left) o (OfHeader s at d i refl)) tt refl (o, HeadUnsent k (stream_header k s) (OfTheStream s at p i d refl) c (not-stopped side turn (stop_of (events_of log) k) left (credit_left log k) f c))
 
     caused-opening : Caused side turn log (continue_opening side log k left)
     unfolding left

@@ -1,14 +1,14 @@
 -- Every reply and every action has its cause.
-use Rattle.std.specs.Prelude.{[], ◌&&◌, ◌++◌, ◌==◌, ◌∷◌, ◌≡◌, ◌≢◌, Bool, List, None, Option, Some, drop, false, if◌then◌else◌, length, nat_lt, not, take, true, ℕ}
+use Rattle.std.specs.Prelude.{[], ◌&&◌, ◌++◌, ◌∷◌, ◌≡◌, ◌≢◌, Bool, List, None, Option, Some, drop, false, length, nat_lt, not, take, true, ℕ}
 use Rattle.std.proofs.Common.{◌∙◌, ap, arith, refl, subst, sym}
-use Rattle.std.proofs.lemmas.Bool.{eqb-true, ltb-true, not-false}
+use Rattle.std.proofs.lemmas.Bool.{ltb-true}
 use Rattle.wt_proto.specs.Bi.{bi_verdict_of}
 use Rattle.wt_message.specs.FixedBytes.{local_control_bytes}
 use Rattle.wt_proto.specs.declared.verdict.Verdict.{Verdict}
 use Rattle.wt_seam_spec.specs.Joined.{send_of}
 use Rattle.wt_seam_spec.specs.Reports.{credit, end_of, unis_allowed}
 use Rattle.wt_seam_spec.specs.Sent.{sent_on}
-use Rattle.wt_seam_spec.specs.Streams.{contents, local_count, local_uni, peer_bi, peer_count}
+use Rattle.wt_seam_spec.specs.Streams.{contents, local_uni, peer_bi, peer_count}
 use Rattle.wt_turn.specs.Log.{Called, Entry, Log, Received, Reported, Sent, actions_of, calls_of, events_of, is_open, with_actions}
 use Rattle.wt_turn.specs.declared.action.Action.{Action}
 use Rattle.wt_turn.specs.declared.turn.Turn.{Turn}
@@ -25,7 +25,7 @@ use Rattle.wt_laws.specs.Reachable.{IsReachable, is_among}
 use Rattle.wt_spec.specs.Answers.{is_lawful}
 use Rattle.wt_spec.specs.Driver.{apply_if, call_view, close_actions, control_actions, control_sent, established, flush, is_moment, log_and_flush, opened_if, pending_actions, reset_if, session_id, stop_actions, stream_table}
 use Rattle.wt_spec.specs.Scan.{listed}
-use Rattle.wt_spec.specs.StreamTable.{ByFault, BySession, Classified, Consequence, Dispatched, Ending, Stopped, StreamTable, awaits_delivery, bi_consequence, dispatched, kept_if, only, only_once, queued_behind, uni_consequence, verdict_of}
+use Rattle.wt_spec.specs.StreamTable.{ByFault, BySession, Classified, Consequence, Dispatched, Ending, Stopped, StreamTable, awaits_delivery, bi_consequence, dispatched, kept_if, only, only_once, queued_behind, uni_consequence}
 use Rattle.wt_turn.specs.declared.action.Action.TheVariants as actions
 use Rattle.wt_wire.specs.declared.error.ErrorCode.TheVariants as h3
 use Rattle.wt_proto.specs.declared.verdict.Verdict.TheVariants as verdicts
@@ -58,9 +58,9 @@ only-append keep (c ∷ cs) ds = ap (λ z. kept_if (keep c) c ++ z) (only-append
 -- what was queued stays so as more streams are classified
 stop-more : (side : Side) (log : Log) (cs ds : List Classified) (x : Stopped) → StoppedFor side log cs x → StoppedFor side log (cs ++ ds) x
 stop-more side log cs ds x (IsRefused a e) = IsRefused a e
-stop-more side log cs ds x (IsSurplus headers at queued later a e q o c) =
+stop-more side log cs ds x (IsSurplus headers at queued later a e q c) =
     let keep = awaits_delivery (call_view log).delivered in
-    IsSurplus headers at queued (later ++ only keep ds) a e (only-append keep cs ds ∙ ap (λ z. z ++ only keep ds) q) o c
+    IsSurplus headers at queued (later ++ only keep ds) a e (only-append keep cs ds ∙ ap (λ z. z ++ only keep ds) q) c
 
 stops-more : (side : Side) (log : Log) (cs ds : List Classified) (xs : List Stopped) → StopsFor side log cs xs → StopsFor side log (cs ++ ds) xs
 stops-more side log cs ds [] p = tt
@@ -85,33 +85,20 @@ no-uni-stop d k (verdicts.Decoder at) = once-stop d.decoder
     once-stop (Some x) = refl
 no-uni-stop d k _ = refl
 
--- the first that is kept is another stream than one that isn't in the list
-head-other : (keep : Classified → Bool) (cs : List Classified) (c : Classified) (later : List Classified) (k : ℕ) → only keep cs ≡ c ∷ later → verdict_of k cs ≡ None → (c.id == k) ≡ false
-head-other keep [] c later k q n = absurd (cc)
-head-other keep (x ∷ xs) c later k q n = at (x.id == k) refl n (λ r m. head-other keep xs c later k r m)
-  where
-    kept-one : (b : Bool) → kept_if b x ++ only keep xs ≡ c ∷ later → (x.id == k) ≡ false → verdict_of k xs ≡ None → (only keep xs ≡ c ∷ later → verdict_of k xs ≡ None → (c.id == k) ≡ false) → (c.id == k) ≡ false
-    kept-one true r e m f = let same : x ≡ c = cc in ap (λ (z : Classified). z.id == k) (sym same) ∙ e
-    kept-one false r e m f = f r m
-
-    at : (b : Bool) → (x.id == k) ≡ b → (if b then Some x.verdict else verdict_of k xs) ≡ None → (only keep xs ≡ c ∷ later → verdict_of k xs ≡ None → (c.id == k) ≡ false) → (c.id == k) ≡ false
-    at true e m f = absurd (cc)
-    at false e m f = kept-one (keep x) q e m f
-
-bi-stop : (side : Side) (log : Log) (cs : List Classified) (k : ℕ) (v : Verdict) → verdict_of k cs ≡ None → is_among (peer_bi side) (peer_count side (events_of log) (peer_bi side)) k ≡ true → bi_verdict_of (contents log k) (end_of (events_of log) k) ≡ v
+bi-stop : (side : Side) (log : Log) (cs : List Classified) (k : ℕ) (v : Verdict) → is_among (peer_bi side) (peer_count side (events_of log) (peer_bi side)) k ≡ true → bi_verdict_of (contents log k) (end_of (events_of log) k) ≡ v
     → StopsFor side log cs (listed (bi_consequence (dispatched (call_view log) cs) k v).stop)
-bi-stop side log cs k (verdicts.Fault code) n a e = tt
-bi-stop side log cs k (verdicts.Refused code) n a e = (IsRefused a e, tt)
-bi-stop side log cs k (verdicts.Request headers at) n a e = surplus (dispatched (call_view log) cs).requests refl
+bi-stop side log cs k (verdicts.Fault code) a e = tt
+bi-stop side log cs k (verdicts.Refused code) a e = (IsRefused a e, tt)
+bi-stop side log cs k (verdicts.Request headers at) a e = surplus (dispatched (call_view log) cs).requests refl
   where
     surplus : (queued : List Classified) → (dispatched (call_view log) cs).requests ≡ queued → StopsFor side log cs (listed (queued_behind queued k).stop)
     surplus [] q = tt
-    surplus (c ∷ later) q = (IsSurplus headers at c later a e q (head-other (awaits_delivery (call_view log).delivered) cs c later k q n) refl, tt)
-bi-stop side log cs k _ n a e = tt
+    surplus (c ∷ later) q = (IsSurplus headers at c later a e q refl, tt)
+bi-stop side log cs k _ a e = tt
 
-classified-stop : (side : Side) (log : Log) (t : StreamTable) (k : ℕ) (v : Verdict) (x : Consequence) → verdict_of k t.classified ≡ None → ClassifiedAs side log t k v x → StopsFor side log t.classified (listed x.stop)
-classified-stop side log t k v x n (AsUni a b c d) = subst (λ (o : Option Stopped). StopsFor side log t.classified (listed o)) (sym (ap (λ (y : Consequence). y.stop) d ∙ no-uni-stop (dispatched (call_view log) t.classified) k v)) tt
-classified-stop side log t k v x n (AsBi a b c d) = subst (λ (o : Option Stopped). StopsFor side log t.classified (listed o)) (sym (ap (λ (y : Consequence). y.stop) d)) (bi-stop side log t.classified k v n a b)
+classified-stop : (side : Side) (log : Log) (t : StreamTable) (k : ℕ) (v : Verdict) (x : Consequence) → ClassifiedAs side log t k v x → StopsFor side log t.classified (listed x.stop)
+classified-stop side log t k v x (AsUni a b c d) = subst (λ (o : Option Stopped). StopsFor side log t.classified (listed o)) (sym (ap (λ (y : Consequence). y.stop) d ∙ no-uni-stop (dispatched (call_view log) t.classified) k v)) tt
+classified-stop side log t k v x (AsBi a b c d) = subst (λ (o : Option Stopped). StopsFor side log t.classified (listed o)) (sym (ap (λ (y : Consequence). y.stop) d)) (bi-stop side log t.classified k v a b)
 
 stops-kept : (side : Side) (log : Log) → IsKept (causes side log) (λ t. StopsFor side log t.classified t.progress.stops)
 stops-kept side log = record {
@@ -121,7 +108,7 @@ stops-kept side log = record {
   by_datagram = λ t n p. p;
   by_dequeued = λ t k p. p;
   by_classified = λ t k v e x n p. stops-more side log t.classified (record { id = k; verdict = v; surplus = e.surplus } ∷ []) (t.progress.stops ++ listed e.stop)
-      (stops-append side log t.classified t.progress.stops (listed e.stop) p (classified-stop side log t k v e n x));
+      (stops-append side log t.classified t.progress.stops (listed e.stop) p (classified-stop side log t k v e x));
 }
 
 -- the stops of a moment are for streams that it classified
@@ -131,9 +118,9 @@ moment-stops side e log m o =
     rw (m, o) (kept-moment (λ t. StopsFor side (e ∷ log) t.classified t.progress.stops) side (e ∷ log) (stops-kept side (e ∷ log)) (stream_table side log) tt)
 
 module _ (side : Side) (log : Log) where
-  opened-cause : (b : Bool) → not (local_count (actions_of log) (local_uni side) == 0) ≡ b → unis_allowed (events_of log) ≢ 0 → DriverCauses side log (opened_if (not b) (local_uni side))
-  opened-cause false e n = (OpensControl n (eqb-true (local_count (actions_of log) (local_uni side)) 0 (not-false _ e)), tt)
-  opened-cause true e n = tt
+  opened-cause : (b : Bool) → unis_allowed (events_of log) ≢ 0 → DriverCauses side log (opened_if b (local_uni side))
+  opened-cause true n = (OpensControl n, tt)
+  opened-cause false n = tt
 
   send-cause : (piece : List ℕ) → piece ≡ drop (length (sent_on (actions_of log) (local_uni side))) (take (credit (events_of log) (local_uni side)) local_control_bytes) → DriverCauses side log (send_of (local_uni side) piece)
   send-cause [] e = tt
@@ -144,7 +131,7 @@ module _ (side : Side) (log : Log) where
   control-cause true f =
       let s = control_sent side log in
       all-append side log (opened_if (not s.opened) (local_uni side)) (send_of (local_uni side) (drop s.sent (take (credit (events_of log) (local_uni side)) local_control_bytes)))
-      (opened-cause s.opened refl (f refl)) (send-cause (drop s.sent (take (credit (events_of log) (local_uni side)) local_control_bytes)) refl)
+      (opened-cause (not s.opened) (f refl)) (send-cause (drop s.sent (take (credit (events_of log) (local_uni side)) local_control_bytes)) refl)
 
   stop-causes : (xs : List Stopped) → StopsFor side log (stream_table side log).classified xs → DriverCauses side log (stop_actions xs)
   stop-causes [] p = tt

@@ -368,7 +368,7 @@ module _ (side : Side) (turn : Turn) where
   sends-request log own left piece w x o e =
       own-append log own (send_of (local_bi side) piece) x.causes
       (own-send (with_actions own log) (local_bi side) piece (x.stays ∙ o)
-      (OfRequest w.reserved w.head w.call (ap handshake_state (calls-with own log) ∙ w.state) refl x.counted (e ∙ ap (λ n. take n left) (sym x.credit) ∙ ap (covered (with_actions own log) (local_bi side)) (sym x.left_is))))
+      (OfRequest w.reserved w.head (ap handshake_state (calls-with own log) ∙ w.state) refl x.counted (e ∙ ap (λ n. take n left) (sym x.credit) ∙ ap (covered (with_actions own log) (local_bi side)) (sym x.left_is))))
 
   with-appended : (as_ bs : List Action) (log : Log) → with_actions (as_ ++ bs) log ≡ with_actions bs (with_actions as_ log)
   with-appended [] bs log = refl
@@ -407,7 +407,7 @@ module _ (side : Side) (turn : Turn) where
   opens-first : (log : Log) (w : Onward log) (b : Bool) → local_count (actions_of log) (local_bi side) ≡ 0 → may_open side log (local_bi side) ≡ b → is_open log ≡ true → b ≡ true → Opens log (opening side log (local_bi side)) (head_left log (local_bi side) w.head) w.head
   opens-first log w true n m o e =
       rw m (record {
-        causes = ((o, local_bi side, m, refl, or_right (local_bi side == local_uni side) _ (eq-eqb (local_bi side) (local_bi side) refl), OfRequest w.reserved w.head w.call w.state w.settings refl n), tt);
+        causes = ((o, local_bi side, m, refl, or_right (local_bi side == local_uni side) _ (eq-eqb (local_bi side) (local_bi side) refl), OfRequest w.reserved w.head w.state w.settings refl n), tt);
         stays = refl;
         counted = λ z. one-opened z;
         credit = refl;
@@ -450,7 +450,7 @@ module _ (side : Side) (turn : Turn) where
 
   -- the handshake that is under way goes on
   pub caused-continue : (log : Log) (s : HandshakeState) → turn ≡ turns.Call calls.Handshake → handshake_state (calls_of log) ≡ s → is_continuable s ≡ true → Caused side turn log (continue_by s side log)
-  caused-continue log (Responding accepts head) t e c = caused-respond log accepts head Polled (record { from = FromBefore t e; under_way = under-way log (Responding accepts head) e refl; quiet = refl; waits = λ own. tt })
+  caused-continue log (Responding accepts head) t e c = caused-respond log accepts head Polled (record { from = FromBefore e; under_way = under-way log (Responding accepts head) e refl; quiet = refl; waits = λ own. tt })
   caused-continue log (Connecting reserved head) t e c = caused-connect log reserved head t e
   caused-continue log _ t e c = absurd (cc)
 

@@ -35,9 +35,9 @@ record Credited (log : Log) : Type 0 where
 
 piece-within : (side : Side) (turn : Turn) (log : Log) (id : ℕ) (piece : List ℕ) → SendCause side turn log id piece → length piece ≤ credit_left log id
 piece-within side turn log id piece (OfWrite bytes h w m q) = rw q (omega (arith, length-take (credit_left log id) bytes))
-piece-within side turn log id piece (OfHeader session u x d o q) = rw q (omega (arith, length-take {A = ℕ}))
+piece-within side turn log id piece (OfHeader session u d o q) = rw q (omega (arith, length-take {A = ℕ}))
 piece-within side turn log id piece (OfResponse accepts head f r q) = rw q (omega (arith, length-take {A = ℕ}))
-piece-within side turn log id piece (OfRequest reserved head c s r z q) = rw q (omega (arith, length-take {A = ℕ}))
+piece-within side turn log id piece (OfRequest reserved head s r z q) = rw q (omega (arith, length-take {A = ℕ}))
 
 sent-within : (side : Side) (turn : Turn) (log : Log) (k : ℕ) (a : Action) → ActionCause side turn log a → length (sent_on (actions_of log) k) ≤ credit (all_events_of log) k → length (sent_on (actions_of log) k ++ piece_on k a) ≤ credit (all_events_of log) k
 sent-within side turn log k (actions.Send id piece) c l = at (id == k) refl
@@ -53,7 +53,7 @@ own-within : (side : Side) (turn : Turn) (own : List Action) (log : Log) → Own
 own-within side turn [] log c p = p
 own-within side turn (a ∷ own) log c p = own-within side turn own (Sent a ∷ log) c.1 (record { within = λ k. rw (with-piece k a (sent_on (actions_of log) k)) (sent-within side turn log k a c.0 (p.within k)); none = p.none })
 
-pub closed-flush : (side : Side) (e : Entry) (log : Log) → is_open (e ∷ log) ≡ false → log_and_flush side log e ≡ e ∷ log
+closed-flush : (side : Side) (e : Entry) (log : Log) → is_open (e ∷ log) ≡ false → log_and_flush side log e ≡ e ∷ log
 unfolding flush
 closed-flush side e log o = ap (λ (b : Bool). apply_if b (with_actions (pending_actions side (e ∷ log))) (e ∷ log)) (closed (is_moment e) (is_open (e ∷ log)) o)
   where

@@ -64,9 +64,9 @@ fresh-piece side turn log k (actions.Send id piece) h l u c = at (id == k) refl 
     at : (b : Bool) → (id == k) ≡ b → SendCause side turn log id piece → (if b then piece else []) ≡ []
     at false e x = refl
     at true e (OfWrite bytes b w m p) = absurd (none (h.local_accepted k l (subst (λ (j : ℕ). is_accepted log j ≡ true) (eqb-true id k e) (and_parts (is_accepted log id) _ w).0)))
-    at true e (OfHeader session t z d o p) = absurd (none (subst (λ (j : ℕ). list_any (starts_opening j) (calls_of log) ≡ true) (eqb-true id k e) (and_parts (list_any (starts_opening id) (calls_of log)) _ o).0))
+    at true e (OfHeader session t d o p) = absurd (none (subst (λ (j : ℕ). list_any (starts_opening j) (calls_of log) ≡ true) (eqb-true id k e) (and_parts (list_any (starts_opening id) (calls_of log)) _ o).0))
     at true e (OfResponse accepts head f i p) = absurd (no-request side log k h l (from-request turn (calls_of log) accepts head f) (sym i ∙ eqb-true id k e))
-    at true e (OfRequest reserved head c s i z p) = absurd (by-side side (subst (λ (j : ℕ). local_count (actions_of log) (j % 4) ≤ j / 4) (sym (eqb-true id k e) ∙ i) u) z)
+    at true e (OfRequest reserved head s i z p) = absurd (by-side side (subst (λ (j : ℕ). local_count (actions_of log) (j % 4) ≤ j / 4) (sym (eqb-true id k e) ∙ i) u) z)
 fresh-piece side turn log k _ h l u c = refl
 
 take-more : (m c : ℕ) (xs : List ℕ) → m ≤ length xs → take m xs ++ take c (drop m xs) ≡ take (m + c) xs
@@ -100,7 +100,7 @@ begun-piece side turn log k s t (actions.Send id piece) h o d c = at (id == k) r
     at : (b : Bool) → (id == k) ≡ b → SendCause side turn log id piece → (n : ℕ) × (sent_on (actions_of log) k ++ (if b then piece else []) ≡ take n (stream_header k s))
     at false e x = (p.0, append-nil (sent_on (actions_of log) k) ∙ p.1)
     at true e (OfWrite bytes b w m q) = absurd (not-accepted log k o (subst (λ (j : ℕ). is_accepted log j ≡ true) (eqb-true id k e) (and_parts (is_accepted log id) _ w).0))
-    at true e (OfHeader session u z i j q) =
+    at true e (OfHeader session u i j q) =
         let same : session ≡ s = ap session_id (sym i ∙ d) in
         let x = subst (λ (m : ℕ). piece ≡ covered log m (head_left log m (stream_header m session))) (eqb-true id k e) q in
         let y = subst (λ (m : ℕ). piece ≡ covered log k (head_left log k (stream_header k m))) same x in (
@@ -109,7 +109,7 @@ begun-piece side turn log k s t (actions.Send id piece) h o d c = at (id == k) r
               ∙ subst (λ xs. xs ++ take (credit_left log k) (drop (length xs) (stream_header k s)) ≡ take (length xs + credit_left log k) (stream_header k s)) (sym p.1) (further (credit_left log k) p.0 (stream_header k s)),
         )
     at true e (OfResponse accepts head f i q) = absurd (no-request side log k h (local-opening side log k h o) (from-request turn (calls_of log) accepts head f) (sym i ∙ eqb-true id k e))
-    at true e (OfRequest reserved head c i j z q) = absurd (let x = h.given.handshakes.none_yet (ap is_under_way i) in cc)
+    at true e (OfRequest reserved head i j z q) = absurd (let x = h.given.handshakes.none_yet (ap is_under_way i) in cc)
 begun-piece side turn log k s t _ h o d c = ((h.begun k s t o d).0, append-nil (sent_on (actions_of log) k) ∙ (h.begun k s t o d).1)
 
 pub heads-action : (side : Side) (turn : Turn) (log : Log) (a : Action) → ActionCause side turn log a → Heads side log → Heads side (Sent a ∷ log)

@@ -28,7 +28,6 @@ pub mod OrderLaws
 pub mod CreditLaws
 pub mod HeadSends
 pub mod RunLaws
-pub mod LateLaws
 pub mod ExactLaws
 pub mod Theorems
 pub mod Recorded

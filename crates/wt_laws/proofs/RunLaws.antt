@@ -126,7 +126,7 @@ stays-behind side (e ∷ more) log =
 
 -- ---- after the end
 
-pub none-since : (xs : List Action) → joined (take (length xs - length xs) xs) ≡ []
+none-since : (xs : List Action) → joined (take (length xs - length xs) xs) ≡ []
 none-since xs = ap (λ n. joined (take n xs)) (nothing (length xs))
   where
     nothing : (n : ℕ) → n - n ≡ 0
@@ -137,7 +137,7 @@ unfolding flush
 late-event side log e true o = absurd (cc)
 late-event side log e false o = none-since (actions_of log)
 
-pub late-bytes : (side : Side) (log : Log) (id : ℕ) (piece : List ℕ) → is_open log ≡ false → receive side log id piece ≡ log
+late-bytes : (side : Side) (log : Log) (id : ℕ) (piece : List ℕ) → is_open log ≡ false → receive side log id piece ≡ log
 late-bytes side log id [] o = refl
 late-bytes side log id (b ∷ piece) o = ap (λ (c : Bool). receive side (if c then log_and_flush side log (Received id b) else log) id piece) o ∙ late-bytes side log id piece o
 

@@ -135,9 +135,9 @@ other-piece side turn k (actions.Send id piece) log n s c = at (id == k) refl c.
     at : (b : Bool) → (id == k) ≡ b → SendCause side turn log id piece → (if b then piece else []) ≡ []
     at false e x = refl
     at true e (OfWrite bytes h w m p) = absurd (let y = ap (λ j. bytes_for j turn) (eqb-true id k e) in cc)
-    at true e (OfHeader session t z d o p) = absurd (let y = s.no_opening in let q = ap (λ j. list_any (starts_opening j) (calls_of log) && not (list_any (ends_opening j) (calls_of log))) (eqb-true id k e) in cc)
+    at true e (OfHeader session t d o p) = absurd (let y = s.no_opening in let q = ap (λ j. list_any (starts_opening j) (calls_of log) && not (list_any (ends_opening j) (calls_of log))) (eqb-true id k e) in cc)
     at true e (OfResponse accepts head f i p) = absurd (s.no_request (from-request turn (calls_of log) accepts head f) (sym i ∙ eqb-true id k e))
-    at true e (OfRequest reserved head c h i z p) = absurd (s.no_connect reserved head h)
+    at true e (OfRequest reserved head h i z p) = absurd (s.no_connect reserved head h)
 other-piece side turn k _ log n s c = refl
 
 pub other-own : (side : Side) (turn : Turn) (k : ℕ) (own : List Action) (log : Log) → bytes_for k turn ≡ None → Alone side k (calls_of log) → OwnCauses side turn log own → sends_of k own ≡ []

@@ -84,12 +84,12 @@ handshakes-same side e log c f = record {
 pub from-request : (turn : Turn) (cs : List CallRecord) (accepts : Bool) (head : List ℕ) → ResponseFrom turn cs accepts head → has_request (handshake_state cs) ≡ true
 from-request turn cs accepts head (ByAcceptance id headers a t h s) = ap has_request s
 from-request turn cs accepts head (ByRejection id a t s) = ap has_request s
-from-request turn cs accepts head (FromBefore t s) = ap has_request s
+from-request turn cs accepts head (FromBefore s) = ap has_request s
 
 pub accepted-head : (side : Side) (turn : Turn) (log : Log) (head : List ℕ) → Handshakes side log → ResponseFrom turn (calls_of log) true head → IsAcceptance head
 accepted-head side turn log head f (ByAcceptance id headers a t h s) = (headers, h)
 accepted-head side turn log head f (ByRejection id a t s) = absurd (cc)
-accepted-head side turn log head f (FromBefore t s) = f.acceptance head s
+accepted-head side turn log head f (FromBefore s) = f.acceptance head s
 
 new-none : (side : Side) (turn : Turn) (log : Log) (r : CallRecord) → Handshakes side log → RecordCause side turn log r → is_under_way (handshake_state (r ∷ calls_of log)) ≡ true → established (r ∷ calls_of log) ≡ None
 new-none side turn log (SessionEstablished id at) f c e = absurd (cc)

@@ -190,7 +190,7 @@ module _ (side : Side) (frame : Option (List ℕ)) where
     response-frame : (log : Log) (accepts : Bool) (head : List ℕ) → Out side frame log → ResponseFrom turn (calls_of log) accepts head → frame ≡ Some head
     response-frame log accepts head h (ByAcceptance id headers a e f s) = t head (ap frame_of e ∙ ap Some (sym f))
     response-frame log accepts head h (ByRejection id a f s) = t head f
-    response-frame log accepts head h (FromBefore t s) = h.responding accepts head s
+    response-frame log accepts head h (FromBefore s) = h.responding accepts head s
 
     -- a rest of the frame goes out behind the prefix
     goes-on : (log : Log) (k : ℕ) (head piece : List ℕ) → frame ≡ Some head → (p : (n : ℕ) × (sent_on (actions_of log) k ≡ take n (unwrap_or frame []))) → piece ≡ covered log k (head_left log k head)
@@ -216,9 +216,9 @@ module _ (side : Side) (frame : Option (List ℕ)) where
         at : (b : Bool) → (id == k) ≡ b → SendCause side turn log id piece → (n : ℕ) × (sent_on (actions_of log) k ++ (if b then piece else []) ≡ take n (unwrap_or frame []))
         at false e x = ((h.begun k i).0, append-nil (sent_on (actions_of log) k) ∙ (h.begun k i).1)
         at true e (OfWrite bytes b w m q) = absurd (not-given log k h i (sends-written log id k e w))
-        at true e (OfHeader session u z d o q) = absurd (not-started log k h i (subst (λ (j : ℕ). list_any (starts_opening j) (calls_of log) ≡ true) (eqb-true id k e) (and_parts (list_any (starts_opening id) (calls_of log)) _ o).0))
+        at true e (OfHeader session u d o q) = absurd (not-started log k h i (subst (λ (j : ℕ). list_any (starts_opening j) (calls_of log) ≡ true) (eqb-true id k e) (and_parts (list_any (starts_opening id) (calls_of log)) _ o).0))
         at true e (OfResponse accepts head f r q) = goes-on log k head piece (response-frame log accepts head h f) (h.begun k i) (moved log id k head piece e q)
-        at true e (OfRequest reserved head c s r z q) = goes-on log k head piece (h.connecting reserved head s).0 (h.begun k i) (moved log id k head piece e q)
+        at true e (OfRequest reserved head s r z q) = goes-on log k head piece (h.connecting reserved head s).0 (h.begun k i) (moved log id k head piece e q)
     action-begun log k _ h i c = ((h.begun k i).0, append-nil (sent_on (actions_of log) k) ∙ (h.begun k i).1)
 
     -- nothing more goes out on it once the session is established
@@ -234,9 +234,9 @@ module _ (side : Side) (frame : Option (List ℕ)) where
         at : (b : Bool) → (id == k) ≡ b → SendCause side turn log id piece → (if b then piece else []) ≡ []
         at false e x = refl
         at true e (OfWrite bytes b w m q) = absurd (not-given log k h i (sends-written log id k e w))
-        at true e (OfHeader session u z d o q) = absurd (not-started log k h i (subst (λ (j : ℕ). list_any (starts_opening j) (calls_of log) ≡ true) (eqb-true id k e) (and_parts (list_any (starts_opening id) (calls_of log)) _ o).0))
+        at true e (OfHeader session u d o q) = absurd (not-started log k h i (subst (λ (j : ℕ). list_any (starts_opening j) (calls_of log) ≡ true) (eqb-true id k e) (and_parts (list_any (starts_opening id) (calls_of log)) _ o).0))
         at true e (OfResponse accepts head f r q) = absurd (over (under-way-request (handshake_state (calls_of log)) (from-request turn (calls_of log) accepts head f)))
-        at true e (OfRequest reserved head c s r z q) = absurd (over (ap is_under_way s))
+        at true e (OfRequest reserved head s r z q) = absurd (over (ap is_under_way s))
     action-whole log k at_ _ h d c = refl
 
     -- nor once the response is finished
@@ -252,9 +252,9 @@ module _ (side : Side) (frame : Option (List ℕ)) where
         at : (b : Bool) → (id == k) ≡ b → SendCause side turn log id piece → (if b then piece else []) ≡ []
         at false e x = refl
         at true e (OfWrite bytes b w m q) = absurd (not-given log k h i (sends-written log id k e w))
-        at true e (OfHeader session u z d o q) = absurd (not-started log k h i (subst (λ (j : ℕ). list_any (starts_opening j) (calls_of log) ≡ true) (eqb-true id k e) (and_parts (list_any (starts_opening id) (calls_of log)) _ o).0))
+        at true e (OfHeader session u d o q) = absurd (not-started log k h i (subst (λ (j : ℕ). list_any (starts_opening j) (calls_of log) ≡ true) (eqb-true id k e) (and_parts (list_any (starts_opening id) (calls_of log)) _ o).0))
         at true e (OfResponse accepts head f r q) = none head (response-frame log accepts head h f) (moved log id k head piece e q)
-        at true e (OfRequest reserved head c s r z q) = none head (h.connecting reserved head s).0 (moved log id k head piece e q)
+        at true e (OfRequest reserved head s r z q) = none head (h.connecting reserved head s).0 (moved log id k head piece e q)
     action-finished log k _ h i d c = refl
 
     -- the response is finished once all of it is out
@@ -276,9 +276,9 @@ module _ (side : Side) (frame : Option (List ℕ)) where
         at : (b : Bool) → (id == k) ≡ b → SendCause side turn log id piece → (if b then piece else []) ≡ []
         at false e x = refl
         at true e (OfWrite bytes b w m q) = absurd (let x = sends-written log id k e w in cc)
-        at true e (OfHeader session u z s o q) = absurd (let x = h.heads.given.facts_hold.openings k (subst (λ (j : ℕ). list_any (starts_opening j) (calls_of log) ≡ true) (eqb-true id k e) (and_parts (list_any (starts_opening id) (calls_of log)) _ o).0) in cc)
+        at true e (OfHeader session u s o q) = absurd (let x = h.heads.given.facts_hold.openings k (subst (λ (j : ℕ). list_any (starts_opening j) (calls_of log) ≡ true) (eqb-true id k e) (and_parts (list_any (starts_opening id) (calls_of log)) _ o).0) in cc)
         at true e (OfResponse accepts head f r q) = absurd (let x = subst (λ (j : ℕ). list_any (delivers j) (calls_of log) ≡ true) (sym r ∙ eqb-true id k e) (h.heads.given.handshakes.has_one (from-request turn (calls_of log) accepts head f)) in cc)
-        at true e (OfRequest reserved head c s r z q) = absurd (let x = is-local-bi side in let y = ap (is_local side) (sym r ∙ eqb-true id k e) in cc)
+        at true e (OfRequest reserved head s r z q) = absurd (let x = is-local-bi side in let y = ap (is_local side) (sym r ∙ eqb-true id k e) in cc)
     untouched-send log k _ h l n d c = refl
 
     untouched-finish : (log : Log) (k : ℕ) (a : Action) → Out side frame log → is_accepted log k ≡ false → list_any (delivers k) (calls_of log) ≡ false → ActionCause side turn log a → finishes k a ≡ false

@@ -73,9 +73,9 @@ own-piece side turn (actions.Send id piece) log s c = at (id == local_uni side) 
     at : (b : Bool) → (id == local_uni side) ≡ b → SendCause side turn log id piece → (if b then piece else []) ≡ []
     at false e x = refl
     at true e (OfWrite bytes h w n p) = absurd (let y = (and_parts (is_accepted log id) _ w).0 in let z = s.accepted in let q = ap (λ k. list_any (accepts_stream k) (calls_of log)) (eqb-true id (local_uni side) e) in cc)
-    at true e (OfHeader session t x d o p) = absurd (let y = (and_parts (list_any (starts_opening id) (calls_of log)) _ o).0 in let z = s.opening in let q = ap (λ k. list_any (starts_opening k) (calls_of log)) (eqb-true id (local_uni side) e) in cc)
+    at true e (OfHeader session t d o p) = absurd (let y = (and_parts (list_any (starts_opening id) (calls_of log)) _ o).0 in let z = s.opening in let q = ap (λ k. list_any (starts_opening k) (calls_of log)) (eqb-true id (local_uni side) e) in cc)
     at true e (OfResponse accepts head f k p) = absurd (s.requests (from-request turn (calls_of log) accepts head f) (sym k ∙ eqb-true id (local_uni side) e))
-    at true e (OfRequest reserved head x h k z p) = absurd (not-same-kind side (sym k ∙ eqb-true id (local_uni side) e))
+    at true e (OfRequest reserved head h k z p) = absurd (not-same-kind side (sym k ∙ eqb-true id (local_uni side) e))
 own-piece side turn _ log s c = refl
 
 own-silent : (side : Side) (turn : Turn) (own : List Action) (log : Log) → Silent side (calls_of log) → OwnCauses side turn log own → sends_of (local_uni side) own ≡ []

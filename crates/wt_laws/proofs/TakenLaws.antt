@@ -45,16 +45,13 @@ in-datagram : (side : Side) (log : Log) (payload : List ℕ) (o : Option (ℕ ×
 in-datagram side log payload None d e = absurd (cc)
 in-datagram side log payload (Some s) d e = (s.0, s.1, d, out-datagram side log payload s.0 e)
 
-out-close : (side : Side) (log : Log) (code : ℕ) (reason : List ℕ) → is_open log ≡ true → GoesOnFrom (Sent (actions.Close code reason) ∷ log) (close_connection side log code reason).log
-out-close side log code reason p = at (is_open log) p
+in-close : (side : Side) (log : Log) (code : ℕ) (reason : List ℕ) (o : Option (ℕ × ℕ)) → is_open log ≡ true → Out log (actions.Close code reason) (in_session side log (λ s. close_connection side log code reason) o)
+in-close side log code reason None p e = absurd (cc)
+in-close side log code reason (Some s) p e = at (is_open log) p
   where
     at : (b : Bool) → b ≡ true → GoesOnFrom (Sent (actions.Close code reason) ∷ log) (log_call side log (if b then actions.Close code reason ∷ [] else []) Polled)
     at true q = flush-extends side (Called Polled) (Sent (actions.Close code reason) ∷ log)
     at false q = absurd (cc)
-
-in-close : (side : Side) (log : Log) (code : ℕ) (reason : List ℕ) (o : Option (ℕ × ℕ)) → is_open log ≡ true → Out log (actions.Close code reason) (in_session side log (λ s. close_connection side log code reason) o)
-in-close side log code reason None p e = absurd (cc)
-in-close side log code reason (Some s) p e = out-close side log code reason p
 
 out-half : (side : Side) (log : Log) (call : ℕ → Effect) (k : ℕ) (a : Action) (b : Bool) → Out log a (call k) → Out log a (on_half b side log call k)
 out-half side log call k a true f e = f e
@@ -77,7 +74,6 @@ unfolding call_effect
 taken-goes-out side log = record {
   datagram = λ payload e. in-datagram side log payload (established (calls_of log)) refl e;
   close = λ code reason o e. in-close side log code reason (established (calls_of log)) o e;
-  endpoint_close = λ code reason o. out-close side log code reason o;
   reset = λ k code o e. out-half side log (λ j. reset side log j code) k (actions.ResetOut k code) (has_sending_half side log k) (out-reset side log k code o) e;
   stop = λ k code o e. out-half side log (λ j. stop_receiving side log j code) k (actions.StopOut k code) (has_receiving_half side log k) (out-stop side log k code o) e;
 }

@@ -1,7 +1,7 @@
 -- The laws, by the names that contracts cite.
 use Rattle.std.specs.Prelude.{[], ◌++◌, ◌≡◌, List, Option, Some, false, true, ℕ}
 use Rattle.wt_seam_spec.specs.Streams.{peer_bi}
-use Rattle.wt_turn.specs.Log.{Event, Log, calls_of, is_open}
+use Rattle.wt_turn.specs.Log.{Log, calls_of, is_open}
 use Rattle.wt_turn.specs.declared.call.Call.{Call}
 use Rattle.wt_turn.specs.declared.turn.Turn.{Turn}
 use Rattle.wt_wire.specs.HeaderList.{Fields}
@@ -17,7 +17,6 @@ use Rattle.wt_laws.proofs.EndLaws.{fault-closes, open-exactly, result-stays}
 use Rattle.wt_laws.proofs.ExactLaws.{asks-first, connect-goes-on, connects-answer, receiving-calls, request-goes-on, requests-answer, responses-answer, sending-calls, session-calls}
 use Rattle.wt_laws.proofs.HeadSends.{heads-go-out}
 use Rattle.wt_laws.proofs.HeaderLaws.{headers-out}
-use Rattle.wt_laws.proofs.LateLaws.{late-changes-nothing}
 use Rattle.wt_laws.proofs.OrderLaws.{in-order-of-opening}
 use Rattle.wt_laws.proofs.PendingLaws.{none-waits-ended, pending-exactly}
 use Rattle.wt_laws.proofs.Reached.{reachable}
@@ -35,7 +34,7 @@ use Rattle.wt_laws.specs.Laws.{ActionsHaveCauses, CutsWell, DatagramsInOrder, Fa
 use Rattle.wt_laws.specs.Left.{PendingExactly, is_pending}
 use Rattle.wt_laws.specs.Reachable.{AllLawful, IsReachable, exchanges}
 use Rattle.wt_laws.specs.ReplyCauses.{is_call}
-use Rattle.wt_laws.specs.Runs.{DoneLate, InOrderOfOpening, LateChangesNothing, RunsLawful, RunsLongest, StaysSo}
+use Rattle.wt_laws.specs.Runs.{DoneLate, InOrderOfOpening, RunsLawful, RunsLongest, StaysSo}
 use Rattle.wt_spec.specs.Answers.{answer_to, is_lawful, log_from}
 use Rattle.wt_spec.specs.Driver.{established, stream_table}
 use Rattle.wt_spec.specs.Halves.{has_receiving_half, has_sending_half}
@@ -161,6 +160,3 @@ heads_theorem = heads-go-out
 
 pub order_theorem : (side : Side) (log : Log) → InOrderOfOpening (peer_bi side) (stream_table side log).classified
 order_theorem = in-order-of-opening
-
-pub later_theorem : (side : Side) (log : Log) (e : Event) (all : List Turn) → LateChangesNothing side log e all
-later_theorem = late-changes-nothing

@@ -153,7 +153,7 @@ pub data ResponseFrom (turn : Turn) (before : List CallRecord) (accepts : Bool) 
   ByAcceptance : (id : ℕ) (headers : Fields) → accepts ≡ true → turn ≡ turns.Call (calls.Accept headers) → head ≡ response_head (codes "200") headers
       → handshake_state before ≡ Requested id → ResponseFrom turn before accepts head
   ByRejection : (id : ℕ) → accepts ≡ false → frame_of turn ≡ Some head → handshake_state before ≡ Requested id → ResponseFrom turn before accepts head
-  FromBefore : turn ≡ turns.Call calls.Handshake → handshake_state before ≡ Responding accepts head → ResponseFrom turn before accepts head
+  FromBefore : handshake_state before ≡ Responding accepts head → ResponseFrom turn before accepts head
 
 -- the rest of an acceptance goes out; or, the whole request being out, a response with a status code from 200 to 299 is read
 pub data EstablishCause (side : Side) (turn : Turn) (log : Log) (own : List Action) (id at : ℕ) : Type 0 where
@@ -227,14 +227,14 @@ opened_kind side _ = None
 -- why a stream of this kind is opened: the call opens one, or a connect under way opens that of its request, which has none yet
 pub data OpenCause (side : Side) (turn : Turn) (log : Log) (kind : ℕ) : Type 0 where
   OfCall : opened_kind side turn ≡ Some kind → OpenCause side turn log kind
-  OfRequest : (reserved : Option (List ℕ)) (head : List ℕ) → turn ≡ turns.Call calls.Handshake → handshake_state (calls_of log) ≡ Connecting reserved head → settings_came side log ≡ true → kind ≡ local_bi side → local_count (actions_of log) (local_bi side) ≡ 0 → OpenCause side turn log kind
+  OfRequest : (reserved : Option (List ℕ)) (head : List ℕ) → handshake_state (calls_of log) ≡ Connecting reserved head → settings_came side log ≡ true → kind ≡ local_bi side → local_count (actions_of log) (local_bi side) ≡ 0 → OpenCause side turn log kind
 
 -- what a call sends on a stream
 pub data SendCause (side : Side) (turn : Turn) (log : Log) (k : ℕ) (piece : List ℕ) : Type 0 where
   OfWrite : (bytes : List ℕ) → bytes_for k turn ≡ Some bytes → has_sending_half side log k ≡ true → write_error log k ≡ None → piece ≡ covered log k bytes → SendCause side turn log k piece
-  OfHeader : (session at : ℕ) → polls_opening k turn ≡ true → established (calls_of log) ≡ Some (session, at) → is_opening log k ≡ true → piece ≡ covered log k (head_left log k (stream_header k session)) → SendCause side turn log k piece
+  OfHeader : (session at : ℕ) → established (calls_of log) ≡ Some (session, at) → is_opening log k ≡ true → piece ≡ covered log k (head_left log k (stream_header k session)) → SendCause side turn log k piece
   OfResponse : (accepts : Bool) (head : List ℕ) → ResponseFrom turn (calls_of log) accepts head → k ≡ requested (calls_of log) → piece ≡ covered log k (head_left log k head) → SendCause side turn log k piece
-  OfRequest : (reserved : Option (List ℕ)) (head : List ℕ) → turn ≡ turns.Call calls.Handshake → handshake_state (calls_of log) ≡ Connecting reserved head → k ≡ local_bi side → local_count (actions_of log) (local_bi side) ≢ 0 → piece ≡ covered log k (head_left log k head) → SendCause side turn log k piece
+  OfRequest : (reserved : Option (List ℕ)) (head : List ℕ) → handshake_state (calls_of log) ≡ Connecting reserved head → k ≡ local_bi side → local_count (actions_of log) (local_bi side) ≢ 0 → piece ≡ covered log k (head_left log k head) → SendCause side turn log k piece
 
 -- why a sending half is finished
 pub data FinishCause (side : Side) (turn : Turn) (log : Log) (k : ℕ) : Type 0 where

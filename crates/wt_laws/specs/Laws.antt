@@ -220,15 +220,15 @@ pub record CutsWell (side : Side) (log : Log) (id : ℕ) (first second : List �
 
 -- ---- causes
 
--- why the driver stops a stream as it is classified: its request is refused, or another stream's is queued
+-- why the driver stops a stream as it is classified: a request is refused, or another one is queued
 pub data StoppedFor (side : Side) (log : Log) (classified : List Classified) (stop : Stopped) : Type 0 where
   IsRefused : is_among (peer_bi side) (peer_count side (events_of log) (peer_bi side)) stop.id ≡ true → bi_verdict_of (contents log stop.id) (end_of (events_of log) stop.id) ≡ verdicts.Refused stop.code → StoppedFor side log classified stop
   IsSurplus : (headers : Fields) (at : ℕ) (queued : Classified) (later : List Classified) → is_among (peer_bi side) (peer_count side (events_of log) (peer_bi side)) stop.id ≡ true → bi_verdict_of (contents log stop.id) (end_of (events_of log) stop.id) ≡ verdicts.Request headers at
-      → (dispatched (call_view log) classified).requests ≡ queued ∷ later → (queued.id == stop.id) ≡ false → stop.code ≡ h3.RequestRejected → StoppedFor side log classified stop
+      → (dispatched (call_view log) classified).requests ≡ queued ∷ later → stop.code ≡ h3.RequestRejected → StoppedFor side log classified stop
 
 -- the action that the driver sends at a moment: of its control stream, a stop of a stream that was classified, or for the end
 pub data DriverCause (side : Side) (log : Log) : Action → Type 0 where
-  OpensControl : unis_allowed (events_of log) ≢ 0 → local_count (actions_of log) (local_uni side) ≡ 0 → DriverCause side log (actions.Opened (local_uni side))
+  OpensControl : unis_allowed (events_of log) ≢ 0 → DriverCause side log (actions.Opened (local_uni side))
   SendsControl : (piece : List ℕ) → piece ≡ drop (length (sent_on (actions_of log) (local_uni side))) (take (credit (events_of log) (local_uni side)) local_control_bytes) → DriverCause side log (actions.Send (local_uni side) piece)
   StopsStream : (stop : Stopped) → StoppedFor side log (stream_table side log).classified stop → DriverCause side log (actions.StopOut stop.id (code_of stop.code))
   ResetsSession : (code : ℕ) (reason : List ℕ) → (stream_table side log).progress.ending ≡ Some (BySession code reason true) → DriverCause side log (actions.ResetOut (session_id (established (calls_of log))) (code_of h3.NoError))
@@ -346,7 +346,6 @@ pub record TakenGoesOut (side : Side) (log : Log) : Type 0 where
   pub datagram : (payload : List ℕ) → (answer_to side log (turns.Call (calls.SendDatagram payload))).reply ≡ replies.Done
       → (s : ℕ) × (at : ℕ) × (established (calls_of log) ≡ Some (s, at)) × GoesOut side log (turns.Call (calls.SendDatagram payload)) (actions.DatagramOut (datagram_bytes (s / 4) payload))
   pub close : (code : ℕ) (reason : List ℕ) → is_open log ≡ true → (answer_to side log (turns.Call (calls.Close code reason))).reply ≡ replies.Done → GoesOut side log (turns.Call (calls.Close code reason)) (actions.Close code reason)
-  pub endpoint_close : (code : ℕ) (reason : List ℕ) → is_open log ≡ true → GoesOut side log (turns.Call (calls.EndpointClose code reason)) (actions.Close code reason)
   pub reset : (k code : ℕ) → is_open log ≡ true → (answer_to side log (turns.Call (calls.ResetSend k code))).reply ≡ replies.Done → GoesOut side log (turns.Call (calls.ResetSend k code)) (actions.ResetOut k code)
   pub stop : (k code : ℕ) → is_open log ≡ true → (answer_to side log (turns.Call (calls.StopRecv k code))).reply ≡ replies.Done → GoesOut side log (turns.Call (calls.StopRecv k code)) (actions.StopOut k code)
 

@@ -2,11 +2,11 @@
 use Rattle.std.specs.Prelude.{[], ◌<◌, ◌%◌, ◌++◌, ◌∷◌, ◌≡◌, List, Some, false, length, true, ℕ}
 use Rattle.std.specs.List.{list_any}
 use Rattle.wt_proto.specs.declared.verdict.Verdict.{Verdict}
-use Rattle.wt_turn.specs.Log.{Event, Log, ReportedLate, calls_of, is_open}
+use Rattle.wt_turn.specs.Log.{Log, calls_of}
 use Rattle.wt_turn.specs.declared.turn.Turn.{Turn}
 use Rattle.wt_wire.specs.declared.side.Side.{Side}
 use Rattle.wt_laws.specs.Reachable.{AllLawful}
-use Rattle.wt_spec.specs.Answers.{AtUnlawful, Finished, answer_to, answers_from, answers_to, is_lawful, log_from, run}
+use Rattle.wt_spec.specs.Answers.{AtUnlawful, Finished, answer_to, answers_to, is_lawful, log_from, run}
 use Rattle.wt_spec.specs.Driver.{delivers, releases, settings_came, stream_table}
 use Rattle.wt_spec.specs.Scan.{has}
 use Rattle.wt_spec.specs.StreamTable.{Classified, verdict_of}
@@ -42,10 +42,6 @@ pub record StaysSo (side : Side) (earlier later : Log) : Type 0 where
 pub record DoneLate (side : Side) (log : Log) (turn : Turn) : Type 0 where
   pub reply : (answer_to side log turn).reply ≡ replies.Done
   pub actions : (answer_to side log turn).actions ≡ []
-
--- An event after the end changes no later answer: the same lawful turns are answered alike with and without it.
-abbrev pub LateChangesNothing : Side → Log → Event → List Turn → Type 0
-LateChangesNothing side log e all = is_open log ≡ false → AllLawful side (ReportedLate e ∷ log) all → answers_from side (ReportedLate e ∷ log) all ≡ answers_from side log all
 
 -- the streams of this kind in the list were opened after stream k (RFC 9000, section 2.1)
 abbrev pub AllLater : ℕ → ℕ → List Classified → Type 0

@@ -5,13 +5,13 @@ ghost use Rattle.wt_laws.specs.Laws.{ActionsHaveCauses, CutsWell, DatagramsInOrd
 ghost use Rattle.wt_laws.specs.Left.{PendingExactly, is_pending};
 ghost use Rattle.wt_laws.specs.Reachable.{AllLawful, IsReachable, exchanges};
 ghost use Rattle.wt_laws.specs.ReplyCauses.{is_call};
-ghost use Rattle.wt_laws.specs.Runs.{DoneLate, InOrderOfOpening, LateChangesNothing, RunsLawful, RunsLongest, StaysSo};
+ghost use Rattle.wt_laws.specs.Runs.{DoneLate, InOrderOfOpening, RunsLawful, RunsLongest, StaysSo};
 ghost use Rattle.wt_spec.specs.Answers.{answer_to, is_lawful, log_from};
 ghost use Rattle.wt_spec.specs.Driver.{established, stream_table};
 ghost use Rattle.wt_spec.specs.Halves.{has_receiving_half, has_sending_half};
 ghost use Rattle.wt_spec.specs.Handshake.{Connecting, handshake_state};
 ghost use Rattle.wt_seam_spec.specs.Streams.{peer_bi};
-ghost use Rattle.wt_turn.specs.Log.{Event, Log, calls_of, is_open};
+ghost use Rattle.wt_turn.specs.Log.{Log, calls_of, is_open};
 ghost use Rattle.wt_turn.specs.declared.call.Call.{Call};
 ghost use Rattle.wt_turn.specs.declared.turn.Turn.{Turn};
 ghost use Rattle.wt_turn.specs.declared.turn.Turn.TheVariants as turns;
@@ -142,11 +142,9 @@ pub fn what_is_settled_stays()
     ensures stays { (side : Side) (more earlier : Log) → StaysSo side earlier (more ++ earlier) }
 {}
 
-/// After the end a turn of the transport is answered Done, nothing goes out, and no later answer
-/// changes.
-#[tactic(auto, using(crate::proofs::Theorems::late_theorem, crate::proofs::Theorems::later_theorem))]
+/// After the end a turn of the transport is answered Done, and nothing goes out.
+#[tactic(auto, using(crate::proofs::Theorems::late_theorem))]
 pub fn late_turns_do_nothing()
-    ensures later { (side : Side) (log : Log) (e : Event) (all : List Turn) → LateChangesNothing side log e all }
     ensures late { (side : Side) (log : Log) (turn : Turn) → is_call turn ≡ false → is_open log ≡ false → DoneLate side log turn }
 {}
 

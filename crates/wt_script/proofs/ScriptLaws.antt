@@ -1,9 +1,11 @@
 -- Scripts, line by line.
-use Rattle.std.proofs.Common.{arith, ◌≡◌, ℕ, ◌+◌, ◌-◌, ◌<◌, ◌≤◌, List, [], ◌∷◌, ◌++◌, sym, ap, ◌∙◌, length, take, drop, get_or, suc, length-drop}
+use Rattle.std.proofs.Common.{arith, ◌≡◌, ℕ, ◌+◌, ◌-◌, ◌<◌, ◌≤◌, List, [], ◌∷◌, ◌++◌, refl, sym, ap, ◌∙◌, length, take, drop, get_or, suc, length-drop}
 use Rattle.std.proofs.Math.Seq.{take-suc}
 use Rattle.std.proofs.lemmas.List.{drop_more, get_or-drop}
 use Rattle.std.proofs.lemmas.Bool.{ne_eqb}
-use Rattle.std.specs.Prelude.{Option, Some, None, Err, ◌==◌, if◌then◌else◌}
+use Rattle.std.specs.Prelude.{Option, Some, None, Result, Ok, Err, ◌==◌, if◌then◌else◌}
+use Rattle.wt_script.specs.declared.script.Script.{Script}
+use Rattle.wt_script.specs.declared.script.ScriptRefused.{ScriptRefused}
 use Rattle.wt_script.specs.Lines.{Lines}
 use Rattle.wt_script.specs.Words.{lines_from}
 use Rattle.wt_script.specs.Script.{read_lines, with_line}
@@ -42,7 +44,7 @@ in_line script start i begun within other =
     ∙ ap (λ t. if t then line ∷ lines_from [] rest else lines_from (line ++ b ∷ []) rest) (ne_eqb b 10 other)
     ∙ ap (λ l. lines_from l rest) (sym (longer script start i begun within))
 
--- after a line that is taken the next one begins
+-- behind a line that is taken the next one begins
 pub next_line : (script line : List ℕ) (i number : ℕ) (before next : Lines) → i < length script → get_or script i 0 ≡ 10
     → with_line before line ≡ Some next
     → read_lines (number + 1) next (lines_from (take (i + 1 - (i + 1)) (drop (i + 1) script)) (drop (i + 1) script))

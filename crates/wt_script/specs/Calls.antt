@@ -6,7 +6,7 @@ use Rattle.wt_turn.specs.declared.call.Call.TheVariants as calls
 use Rattle.wt_script.specs.Addresses.{url_of, lookup_of, outcome_of}
 use Rattle.wt_script.specs.Headers.{headers_of}
 use Rattle.wt_script.specs.Numbers.{count_of, id_of, bytes_of, priority_of}
-use Rattle.wt_script.specs.Words.{is_word, one, two}
+use Rattle.wt_script.specs.Words.{is_word, alone, one, two}
 
 -- the handshake's calls that have no fields
 abbrev pub bare_handshake_of : List ℕ → Option Call

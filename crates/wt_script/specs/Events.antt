@@ -21,16 +21,12 @@ fact_of word =
 abbrev pub close_with : ℕ × List ℕ → Close
 close_with p = record { code = p.0; reason = p.1 }
 
--- a close by its code and the bytes of its reason
-abbrev pub close_of : List (List ℕ) → Option Close
-close_of fields = option_map close_with (two id_of bytes_of fields)
-
 -- a loss that has a code and a reason
-abbrev pub coded_loss_of : List ℕ → List (List ℕ) → Option LossReason
-coded_loss_of kind fields =
+abbrev pub told_loss_of : List ℕ → List (List ℕ) → Option LossReason
+told_loss_of kind fields =
     if is_word kind (codes "transport") then option_map (λ p. losses.TransportError p.0 p.1) (two id_of text_of fields) else
-    (if is_word kind (codes "connection") then option_map losses.ConnectionClosed (close_of fields) else
-    (if is_word kind (codes "application") then option_map losses.ApplicationClosed (close_of fields) else None))
+    (if is_word kind (codes "connection") then option_map (λ p. losses.ConnectionClosed (close_with p)) (two id_of bytes_of fields) else
+    (if is_word kind (codes "application") then option_map (λ p. losses.ApplicationClosed (close_with p)) (two id_of bytes_of fields) else None))
 
 -- a loss of one word
 abbrev pub bare_loss_of : List ℕ → Option LossReason
@@ -44,7 +40,7 @@ bare_loss_of kind =
 abbrev pub loss_of : List (List ℕ) → Option LossReason
 loss_of [] = None
 loss_of (kind ∷ []) = bare_loss_of kind
-loss_of (kind ∷ field ∷ fields) = coded_loss_of kind (field ∷ fields)
+loss_of (kind ∷ field ∷ fields) = told_loss_of kind (field ∷ fields)
 
 -- what the transport tells when the connection stands
 abbrev pub connected_of : List (List ℕ) → Option Turn

@@ -17,7 +17,7 @@ header_of word = two header_text_of header_text_of (parts 61 word)
 abbrev pub with_header : Fields → List ℕ → Option Fields
 with_header fields word = option_map (λ field. with_field field.0 field.1 fields) (header_of word)
 
--- the fields that words spell, added to those that are there
+-- the fields that words spell, behind those that are there
 abbrev pub headers_from : Fields → List (List ℕ) → Option Fields
 headers_from fields [] = Some fields
 headers_from fields (word ∷ words) = elim (with_header fields word) [ Some more ↦ headers_from more words | None ↦ None ]

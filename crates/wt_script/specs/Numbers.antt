@@ -8,7 +8,7 @@ use Rattle.hex.specs.Hex.{decode_of}
 use Rattle.wt_wire.specs.Utf8.{is_text}
 use Rattle.wt_script.specs.Words.{is_word}
 
--- the value of digits after others whose value is n
+-- the value of digits, behind those whose value is n
 abbrev pub value : ℕ → List ℕ → ℕ
 value n [] = n
 value n (c ∷ digits) = value (10 * n + (c - 48)) digits

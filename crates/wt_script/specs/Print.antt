@@ -1,5 +1,5 @@
 -- The printed lines of answers (this repository's own grammar).
-use Rattle.std.specs.Prelude.{ℕ, List, ◌++◌, codes, Option, Some, None}
+use Rattle.std.specs.Prelude.{ℕ, List, [], ◌∷◌, ◌++◌, codes, Option, Some, None}
 use Rattle.std.specs.List.{flat_map}
 use Rattle.std.specs.Fmt.{decimal, signed_decimal}
 use Rattle.hex.specs.Hex.{encode_lower}
@@ -11,7 +11,7 @@ use Rattle.wt_turn.specs.declared.action.Action.TheVariants as actions
 use Rattle.wt_turn.specs.declared.answer.Answer.{Answer}
 use Rattle.wt_script.specs.PrintErrors.{hex_text, coded_text, numbers_text, code_text, address_text, connection_text, connecting_text, opening_text, write_text, read_error_text, exact_text, datagram_text}
 
--- a header field after a blank; an empty name or value is written as nothing
+-- a header field, behind a blank; an empty name or value is written as nothing
 abbrev pub field_text : List ℕ × List ℕ → List ℕ
 field_text f = codes " " ++ encode_lower f.0 ++ codes "=" ++ encode_lower f.1
 
@@ -74,7 +74,7 @@ action_text (actions.StopOut id code) = codes "stop " ++ numbers_text id code
 action_text (actions.DatagramOut piece) = codes "datagram_out " ++ hex_text piece
 action_text (actions.Close code reason) = codes "close " ++ coded_text code reason
 
--- an action after what stands before it
+-- an action behind what stands before it
 abbrev pub next_action_text : Action → List ℕ
 next_action_text a = codes " ; " ++ action_text a
 

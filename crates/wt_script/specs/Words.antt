@@ -12,10 +12,10 @@ parts_from separator part (b ∷ bytes) = if b == separator then part ∷ parts_
 abbrev pub parts : ℕ → List ℕ → List (List ℕ)
 parts separator bytes = parts_from separator [] bytes
 
--- the parts after a separator, where there was one
-abbrev pub parts_after : ℕ → Option (List ℕ) → List (List ℕ)
-parts_after separator None = []
-parts_after separator (Some rest) = parts separator rest
+-- the parts behind a separator, where there was one
+abbrev pub parts_behind : ℕ → Option (List ℕ) → List (List ℕ)
+parts_behind separator None = []
+parts_behind separator (Some rest) = parts separator rest
 
 -- the words of a line, split at each blank
 abbrev pub words : List ℕ → List (List ℕ)
@@ -41,13 +41,13 @@ two first second (v ∷ w ∷ []) = option_zip (first v) (second w)
 two first second ws = None
 
 -- the last line, where it lacks its line feed
-abbrev pub last_line : List ℕ → List (List ℕ)
-last_line [] = []
-last_line (b ∷ line) = (b ∷ line) ∷ []
+abbrev pub unended : List ℕ → List (List ℕ)
+unended [] = []
+unended (b ∷ line) = (b ∷ line) ∷ []
 
 -- the lines that bytes hold, each ended by a line feed, which the last may lack; the first has begun already
 abbrev pub lines_from : List ℕ → List ℕ → List (List ℕ)
-lines_from line [] = last_line line
+lines_from line [] = unended line
 lines_from line (b ∷ bytes) = if b == 10 then line ∷ lines_from [] bytes else lines_from (line ++ b ∷ []) bytes
 
 -- the lines of a script

@@ -1,9 +1,9 @@
 -- What calls on one half of a stream find and do, over a log and over what is kept.
-use Rattle.std.specs.Prelude.{ℕ, ℤ, List, [], ◌∷◌, length, Bool, ◌||◌, not, if◌then◌else◌}
+use Rattle.std.specs.Prelude.{ℕ, ℤ, List, [], ◌∷◌, length, Bool, if◌then◌else◌}
 use Rattle.wt_wire.specs.declared.side.Side.{Side}
 use Rattle.wt_turn.specs.declared.action.Action.{Action}
 use Rattle.wt_turn.specs.declared.action.Action.TheVariants as actions
-use Rattle.wt_turn.specs.Log.{Log, Called, PrioritySet, is_open, events_of, actions_of, calls_of}
+use Rattle.wt_turn.specs.Log.{Log, Called, PrioritySet, events_of, actions_of, calls_of}
 use Rattle.wt_seam_spec.specs.Reports.{end_of, stop_of, is_acknowledged}
 use Rattle.wt_seam_spec.specs.Sent.{is_finished, is_reset, priority_of}
 use Rattle.wt_seam_spec.specs.Outgoing.{credit_left, may_send, sending, if_open, reset_entry}
@@ -29,14 +29,6 @@ sending_half log k = record {
 -- the receiving half of a stream, by a log
 abbrev pub receiving_half : Log → (ℕ → ReadPosition) → ℕ → ReceivingHalf
 receiving_half log position k = record { unread = length (unread log position k); end = end_of (events_of log) k }
-
--- a half isn't closed for a write: the connection has ended, or this end neither finished nor reset it
-abbrev pub is_writable : Bool → SendingHalf → Bool
-is_writable open_ half = not open_ || not (half.finished || half.reset)
-
--- a write isn't closed, by a log
-abbrev pub may_write : Log → ℕ → Bool
-may_write log k = is_writable (is_open log) (sending_half log k)
 
 -- what a write of these bytes sends
 abbrev pub writing : Side → Log → ℕ → List ℕ → List Action
@@ -67,10 +59,6 @@ sending_half_now t id = sending_half_of (stream_at t.streams id)
 -- the receiving half of a stream, by what is kept
 abbrev pub receiving_half_now : TransportState → ℕ → ReceivingHalf
 receiving_half_now t id = record { unread = length (unread_now t id); end = end_now t id }
-
--- a write isn't closed, by what is kept
-abbrev pub may_write_now : TransportState → ℕ → Bool
-may_write_now t id = is_writable t.is_open (sending_half_now t id)
 
 -- after a write of these bytes
 abbrev pub after_write : TransportState → ℕ → List ℕ → TransportState

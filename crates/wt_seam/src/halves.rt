@@ -10,7 +10,7 @@ ghost use Rattle.wt_seam_spec.specs.Unread.{ReadPosition, consumed, given_up, un
 ghost use Rattle.wt_seam.specs.State.{Refines};
 ghost use Rattle.wt_seam.specs.Step.{after_consume, after_give_up, after_stop, can_receive_now, can_send_now, unread_now};
 ghost use Rattle.wt_streams.specs.HalfRules.{finish_answer, priority_answer, read_answer, read_count, read_exact_answer, read_exact_count, reset_answer, stopped_answer, write_all_answer, write_answer};
-ghost use Rattle.wt_seam.specs.Rules.{after_finishing, after_priority_unless_closed, after_reset_unless_closed, after_write, finishing, log_priority, log_reset, may_write, may_write_now, receiving_half, receiving_half_now, resetting, sending_half, sending_half_now, writing};
+ghost use Rattle.wt_seam.specs.Rules.{after_finishing, after_priority_unless_closed, after_reset_unless_closed, after_write, finishing, log_priority, log_reset, receiving_half, receiving_half_now, resetting, sending_half, sending_half_now, writing};
 
 use crate::transport::Transport;
 use wt_turn::poll::Poll;
@@ -79,16 +79,6 @@ impl QuicSendStream {
         ensures same { self.new ≡ self.old }
     {
         t.write_all(self.id, bytes)
-    }
-
-    /// Whether a write isn't closed: the connection has ended, or this end neither finished nor reset the
-    /// half.
-    pub fn may_write(&self, t: &Transport) -> bool
-        requires { IsTrue (can_send_now t.now self.now.id) }
-        ensures now { result ≡ may_write_now t.now self.now.id }
-        ensures log { (side : Side) (log : Log) (position : ℕ → ReadPosition) (untaken : List Action) → Refines side t.now log position untaken → result ≡ may_write log self.now.id }
-    {
-        t.may_write(self.id)
     }
 
     /// Ends the half, and is through once all of it is acknowledged. Fails with `Stopped` where the peer

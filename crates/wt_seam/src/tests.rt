@@ -324,30 +324,6 @@ fn a_stream_that_ends_early_gives_its_last_bytes(rt: HostRuntime) {
 }
 
 #[test]
-fn a_read_of_too_few_bytes_takes_none(rt: HostRuntime) {
-    let mut transport = connected(&rt, rt.alloc(), 1, 3);
-    take(&rt, &mut transport, &Turn::PeerUni);
-    take(&rt, &mut transport, &Turn::PeerUni);
-    let (first, second) = (stream(2), stream(6));
-    let mut buffer = [0; 3];
-    take_bytes(&rt, &mut transport, first, b"ab");
-    assert!(rt; read_exact(&rt, &mut transport, first, &mut buffer) == Poll::Pending);
-    keeps(&rt, &transport, first, 2, 1);
-    let code = VarInt::from_u32(9);
-    take(&rt, &mut transport, &Turn::Reset { id: first, code });
-    let reset = StreamReadExactError::Read(StreamReadError::Reset(code));
-    assert!(rt; read_exact(&rt, &mut transport, first, &mut buffer) == Poll::Ready(Err(reset)));
-    keeps(&rt, &transport, first, 2, 1);
-    take_bytes(&rt, &mut transport, second, b"c");
-    let reason = LossReason::TimedOut;
-    take(&rt, &mut transport, &Turn::Loss { reason });
-    let lost = StreamReadExactError::Read(StreamReadError::NotConnected);
-    assert!(rt; read_exact(&rt, &mut transport, second, &mut buffer) == Poll::Ready(Err(lost)));
-    keeps(&rt, &transport, second, 1, 2);
-    assert_eq!(rt; buffer.as_slice(), b"\0\0\0".as_slice());
-}
-
-#[test]
 fn a_stream_that_is_given_up_keeps_nothing(rt: HostRuntime) {
     let mut transport = connected(&rt, rt.alloc(), 1, 3);
     take(&rt, &mut transport, &Turn::PeerUni);

@@ -13,7 +13,6 @@ ghost use Rattle.wt_seam.specs.Step.{after_close, after_dial, can_receive_now, c
 
 mod arrivals;
 mod halves;
-mod planning;
 mod queries;
 mod reading;
 mod sending;

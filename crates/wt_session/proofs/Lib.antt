@@ -1,0 +1,2 @@
+pub mod AuthorityLaws
+pub mod TargetLaws

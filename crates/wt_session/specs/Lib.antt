@@ -1,4 +1,2 @@
 pub mod ConnectOptions
-pub mod Datagrams
-pub mod Halves
-pub mod Lending
+pub mod ConnectTarget

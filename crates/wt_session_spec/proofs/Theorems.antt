@@ -4,7 +4,7 @@ use Rattle.std.proofs.Common.{refl}
 use Rattle.wt_message.specs.FixedBytes.{response_bytes}
 use Rattle.wt_seam_spec.specs.Reports.{datagram_fact}
 use Rattle.wt_seam_spec.specs.Streams.{local_bi, local_uni, peer_bi, peer_uni}
-use Rattle.wt_turn.specs.Log.{CallRecord, Entry, Log, record_in, calls_of, events_of}
+use Rattle.wt_turn.specs.Log.{CallRecord, Entry, Log, called, calls_of, events_of}
 use Rattle.wt_turn.specs.declared.action.Action.{Action}
 use Rattle.wt_turn.specs.declared.call.Call.{Call}
 use Rattle.wt_wire.specs.declared.side.Side.{Side}
@@ -93,5 +93,5 @@ may_call_theorem = may-planned
 pub step_theorem : (side : Side) (log : Log) (own : List Action) (r : CallRecord) → session_state (log_call side log own r) ≡ after_call r (session_state log)
 step_theorem = state-log-call
 
-pub unchanged_theorem : (side : Side) (log : Log) (e : Entry) → record_in e ≡ None → session_state (log_and_flush side log e) ≡ session_state log
+pub unchanged_theorem : (side : Side) (log : Log) (e : Entry) → called e ≡ None → session_state (log_and_flush side log e) ≡ session_state log
 unchanged_theorem side log e = state-logged side e log

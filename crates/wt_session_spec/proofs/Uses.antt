@@ -2,7 +2,7 @@
 use Rattle.std.specs.Prelude.{[], ◌&&◌, ◌==◌, ◌||◌, ◌∷◌, ◌≡◌, Bool, List, None, false, not, true, ℕ}
 use Rattle.std.specs.List.{list_any}
 use Rattle.std.proofs.Common.{◌∙◌, ap, refl}
-use Rattle.wt_turn.specs.Log.{CallRecord, Called, Entry, Log, OpeningFailed, OpeningStarted, Polled, Received, Reported, ReportedLate, Sent, StreamAccepted, record_in, calls_of, is_open, with_actions}
+use Rattle.wt_turn.specs.Log.{CallRecord, Called, Entry, Log, OpeningFailed, OpeningStarted, Polled, Received, Reported, ReportedLate, Sent, StreamAccepted, called, calls_of, is_open, with_actions}
 use Rattle.wt_turn.specs.declared.action.Action.{Action}
 use Rattle.wt_wire.specs.declared.side.Side.{Side}
 use Rattle.wt_spec.specs.Connection.{accepts_stream, ends_opening, is_opening, starts_opening}
@@ -127,7 +127,7 @@ same-flushed side (e ∷ log) = at (is_moment e && is_open (e ∷ log))
     at false = refl
 
 -- any entry that is no call, with what goes out then
-pub state-logged : (side : Side) (e : Entry) (log : Log) → record_in e ≡ None → session_state (log_and_flush side log e) ≡ session_state log
+pub state-logged : (side : Side) (e : Entry) (log : Log) → called e ≡ None → session_state (log_and_flush side log e) ≡ session_state log
 state-logged side (Called r) log n = absurd (cc)
 state-logged side (Received id byte) log n = same-flushed side (Received id byte ∷ log)
 state-logged side (Reported event) log n = same-flushed side (Reported event ∷ log)

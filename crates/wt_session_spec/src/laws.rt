@@ -7,7 +7,7 @@ ghost use Rattle.wt_session_spec.specs.SessionState.{after_call, session_state};
 ghost use Rattle.wt_spec.specs.Answers.{call_effect, may_call};
 ghost use Rattle.wt_spec.specs.Driver.{log_and_flush};
 ghost use Rattle.wt_spec.specs.Effect.{log_call};
-ghost use Rattle.wt_turn.specs.Log.{CallRecord, Entry, Log, record_in};
+ghost use Rattle.wt_turn.specs.Log.{CallRecord, Entry, Log, called};
 ghost use Rattle.wt_turn.specs.declared.action.Action.{Action};
 ghost use Rattle.wt_turn.specs.declared.call.Call.{Call};
 ghost use Rattle.wt_wire.specs.declared.side.Side.{Side};
@@ -24,5 +24,5 @@ pub fn calls_go_by_what_is_kept()
 #[tactic(auto, using(crate::proofs::Theorems::step_theorem, crate::proofs::Theorems::unchanged_theorem))]
 pub fn calls_change_what_is_kept()
     ensures step { (side : Side) (log : Log) (own : List Action) (r : CallRecord) → session_state (log_call side log own r) ≡ after_call r (session_state log) }
-    ensures unchanged { (side : Side) (log : Log) (e : Entry) → record_in e ≡ None → session_state (log_and_flush side log e) ≡ session_state log }
+    ensures unchanged { (side : Side) (log : Log) (e : Entry) → called e ≡ None → session_state (log_and_flush side log e) ≡ session_state log }
 {}

@@ -1,6 +1,5 @@
--- The calls on an established session: streams of the session are given in the order in which they were classified, its
--- datagrams in the order in which they came; those of others are passed (draft-ietf-webtrans-http3, sections 4.2 to 4.4;
--- RFC 9297, section 2.1).
+-- The calls on an established session: streams and datagrams of the session are given in the order in which they came,
+-- those of others are passed (draft-ietf-webtrans-http3, sections 4.2 to 4.4; RFC 9297, section 2.1).
 use Rattle.std.specs.Prelude.{[], ◌%◌, ◌&&◌, ◌*◌, ◌++◌, ◌-◌, ◌/◌, ◌==◌, ◌||◌, ◌∷◌, Bool, Err, List, None, Ok, Option, Some, false, if◌then◌else◌, length, nat_lt, not, slice_get, suc, true, zero, ℕ}
 use Rattle.std.specs.List.{list_any}
 use Rattle.wt_message.specs.Datagram.{datagram_bytes, datagram_of}

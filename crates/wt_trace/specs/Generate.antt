@@ -29,14 +29,14 @@ session_turns =
     ∷ turns.Call (calls.Accept [])
     ∷ []
 
--- the id of the stream of this number, from 0: the client's unidirectional streams after its control stream
+-- the id of the stream of this number: the client's unidirectional streams behind its control stream, from 0
 -- (RFC 9000, section 2.1)
 abbrev pub stream_id : ℕ → ℕ
 stream_id number = 6 + 4 * number
 
--- so many bytes, of which the one of index j, from 0, is (number + j) mod 256
+-- so many bytes, of which the one at place j, from 0, is (number + j) mod 256
 abbrev pub counted_bytes : ℕ → ℕ → List ℕ
-counted_bytes number count = map (λ index. (number + index) % 256) (range_with_len 0 count)
+counted_bytes number count = map (λ place. (number + place) % 256) (range_with_len 0 count)
 
 -- what it carries: (number mod 100) + 1 bytes
 abbrev pub stream_payload : ℕ → List ℕ
@@ -72,20 +72,20 @@ pub record Summary : Type 0 where
   pub bytes : ℕ
   pub turns : ℕ
 
--- the reply gives a unidirectional stream
-abbrev pub gives_uni : Reply → Bool
-gives_uni (replies.Uni id) = true
-gives_uni _ = false
+-- the reply hands out a unidirectional stream
+abbrev pub is_accepted : Reply → Bool
+is_accepted (replies.Uni id) = true
+is_accepted _ = false
 
--- how many bytes the reply gives
-abbrev pub bytes_given : Reply → ℕ
-bytes_given (replies.Read (Some piece)) = length piece
-bytes_given _ = 0
+-- how many bytes the reply reads
+abbrev pub read_count : Reply → ℕ
+read_count (replies.Read (Some piece)) = length piece
+read_count _ = 0
 
 -- the line that sums up the answers to a run
 abbrev pub summary_of : List Answer → Summary
 summary_of answers = record {
-  streams = count_by (λ answer. gives_uni answer.reply) answers;
-  bytes = sum_by (λ answer. bytes_given answer.reply) answers;
+  streams = count_by (λ answer. is_accepted answer.reply) answers;
+  bytes = sum_by (λ answer. read_count answer.reply) answers;
   turns = length answers;
 }

@@ -47,8 +47,8 @@ pub data CallRecord : Type 0 where
   -- every other call
   Polled : CallRecord
 
--- One entry a byte, an event, an action or a call record. A byte, an event of the open connection and a call record are
--- each a moment: what a call sends stands before its record, and what its work sends after it.
+-- One entry a byte, an event, an action or a call record. An entry that is no action is a moment: what a call sends
+-- stands before its record, and what its work sends behind it.
 pub data Entry : Type 0 where
   Received : (id byte : ℕ) → Entry  -- a byte of a stream came
   Reported : (event : Event) → Entry  -- the transport told of an event while the connection was open
@@ -61,41 +61,41 @@ abbrev pub Log : Type 0
 Log = List Entry
 
 -- the event that an entry tells while the connection is open
-abbrev pub event_in : Entry → Option Event
-event_in (Reported e) = Some e
-event_in _ = None
+abbrev pub reported : Entry → Option Event
+reported (Reported e) = Some e
+reported _ = None
 
 -- the event that an entry tells, also after the end
-abbrev pub event_ever_in : Entry → Option Event
-event_ever_in (Reported e) = Some e
-event_ever_in (ReportedLate e) = Some e
-event_ever_in _ = None
+abbrev pub reported_ever : Entry → Option Event
+reported_ever (Reported e) = Some e
+reported_ever (ReportedLate e) = Some e
+reported_ever _ = None
 
 -- the action that went out
-abbrev pub action_in : Entry → Option Action
-action_in (Sent a) = Some a
-action_in _ = None
+abbrev pub sent : Entry → Option Action
+sent (Sent a) = Some a
+sent _ = None
 
 -- what a call did
-abbrev pub record_in : Entry → Option CallRecord
-record_in (Called c) = Some c
-record_in _ = None
+abbrev pub called : Entry → Option CallRecord
+called (Called c) = Some c
+called _ = None
 
 -- the events that came while the connection was open, the newest first
 abbrev pub events_of : Log → List Event
-events_of log = filter_map event_in log
+events_of log = filter_map reported log
 
 -- all events, those after the end too, the newest first
 abbrev pub all_events_of : Log → List Event
-all_events_of log = filter_map event_ever_in log
+all_events_of log = filter_map reported_ever log
 
 -- the actions that went out, the newest first
 abbrev pub actions_of : Log → List Action
-actions_of log = filter_map action_in log
+actions_of log = filter_map sent log
 
 -- what the calls did, the newest first
 abbrev pub calls_of : Log → List CallRecord
-calls_of log = filter_map record_in log
+calls_of log = filter_map called log
 
 -- the newest that tells something, and what it tells
 abbrev pub newest : {S T : Type 0} → (S → Option T) → List S → Option T

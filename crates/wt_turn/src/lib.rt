@@ -30,7 +30,7 @@ pub mod turn;
 pub use action::{Action, Actions};
 pub use answer::{Answer, Answers};
 pub use call::Call;
-pub use close::{ApplicationClose, ConnectionClose, PeerClose};
+pub use close::{ApplicationClose, ConnectionClose};
 pub use datagram_fact::DatagramFact;
 pub use loss::LossReason;
 pub use piece::Piece;

@@ -1,19 +1,6 @@
 //! Calls that give the session's next stream or datagram, and pass those of others.
-ghost use Rattle.std.specs.Prelude.{◌≡◌, List, suc, OnOk, ℕ};
-ghost use Rattle.wt_inbox.specs.Stage.{Anywhere, Refines, Stage, with_stage};
-ghost use Rattle.wt_driver.specs.Calling.{MayBeCalled};
-ghost use Rattle.wt_driver.specs.Tie.{Follows};
-ghost use Rattle.wt_spec.specs.Driver.{log_and_flush};
-ghost use Rattle.wt_turn.specs.Log.{Called, Log, StreamAccepted};
-ghost use Rattle.wt_turn.specs.declared.action.Action.{Action};
-ghost use Rattle.wt_wire.specs.declared.side.Side.{Side};
-ghost use Rattle.wt_driver_spec.specs.Due.{due_stream, state_next_due};
-ghost use Rattle.wt_driver_spec.specs.Step.{release, without_slot};
-ghost use Rattle.wt_driver.specs.DriverValue.{IsAmong, with_state, without_first};
-ghost use Rattle.wt_driver.specs.Found.{due_as};
 
 use super::Driver;
-use crate::scan::remove_at;
 use crate::slot::{Slot, peer_bi, peer_uni};
 use std::collections::VecDeque;
 use wt_proto::datagram::H3Datagram;
@@ -23,18 +10,15 @@ use wt_turn::poll::Poll;
 use wt_wire::error::{ErrorCode, OutOfMemory};
 use wt_wire::ids::{SessionId, StreamId};
 
-/// Removes the slot of a stream, where it is among the first few.
-fn remove_slot(slots: &mut VecDeque<Slot>, most: usize, id: StreamId)
-    ensures { IsAmong most id slots.old.items → slots.new.items ≡ without_slot id slots.old.items }
-{
+/// Removes the slot of a stream.
+fn remove_slot(slots: &mut VecDeque<Slot>, id: StreamId) {
     let mut at = 0;
-    while at < most && at < slots.len() {
-        let slot = &slots[at];
-        if slot.id() == id {
-            remove_at(slots, at);
-            return;
+    while at < slots.len() {
+        if slots[at].id() == id {
+            let _gone = slots.remove(at);
+        } else {
+            at += 1;
         }
-        at += 1;
     }
 }
 
@@ -50,33 +34,21 @@ impl Driver {
     // ---- streams
 
     /// An accept gave the stream, or passed it.
-    pub(super) fn release(&mut self, id: StreamId)
-        ensures release { IsAmong 4 id self.old.state.unis → IsAmong 1 id self.old.state.bis → self.new ≡ with_state self.old (release id self.old.state) }
-        ensures inbox { self.new.inbox ≡ self.old.inbox }
-        ensures queue { self.new.queue ≡ self.old.queue }
-    {
-        remove_slot(&mut self.unis, 4, id);
-        remove_slot(&mut self.bis, 1, id);
+    pub(super) fn release(&mut self, id: StreamId) {
+        remove_slot(&mut self.unis, id);
+        remove_slot(&mut self.bis, id);
         self.dispatched.release(id);
     }
 
     /// Nothing of a stream is read any more.
-    pub(super) fn give_up(&mut self, id: StreamId)
-        ensures log { (side : Side) (log : Log) (stage : ℕ → Stage) (untaken : List Action) → Refines side self.old.inbox log stage untaken → Refines side self.new.inbox log (with_stage stage id Anywhere) untaken }
-        ensures state { self.new.state ≡ record self.old.state { is_open = self.new.inbox.transport.is_open } }
-        ensures queue { self.new.queue ≡ self.old.queue }
-    {
+    pub(super) fn give_up(&mut self, id: StreamId) {
         if self.inbox.can_receive(id) {
             self.inbox.give_up(id);
         }
     }
 
     /// An accept passed the stream.
-    pub(super) fn pass(&mut self, id: StreamId)
-        ensures log { (side : Side) (log : Log) (stage : ℕ → Stage) (untaken : List Action) → Refines side self.old.inbox log stage untaken → Refines side self.new.inbox log (with_stage stage id Anywhere) untaken }
-        ensures state { IsAmong 4 id self.old.state.unis → IsAmong 1 id self.old.state.bis → self.new.state ≡ record (release id self.old.state) { is_open = self.new.inbox.transport.is_open } }
-        ensures queue { self.new.queue ≡ self.old.queue }
-    {
+    pub(super) fn pass(&mut self, id: StreamId) {
         self.give_up(id);
         self.release(id);
     }
@@ -97,17 +69,12 @@ impl Driver {
     }
 
     /// A stream of the session is given, and the work of that moment is done.
-    fn give_stream(&mut self, id: StreamId) -> Result<(), OutOfMemory>
-        ensures log { (side : Side) (log : Log) (taken : ℕ) (f : Follows side self.old log taken) → MayBeCalled side log self.old f.refines.stage (StreamAccepted id)
-            → OnOk result (Follows side self.new (log_and_flush side log (Called (StreamAccepted id))) taken) }
-    {
+    fn give_stream(&mut self, id: StreamId) -> Result<(), OutOfMemory> {
         self.release(id);
         self.work()
     }
 
-    fn next_due(&self, kind: u64, session: SessionId) -> Option<(StreamId, bool)>
-        ensures { due_as result ≡ due_stream session (state_next_due self.now.state kind session) }
-    {
+    fn next_due(&self, kind: u64, session: SessionId) -> Option<(StreamId, bool)> {
         self.dispatched
             .next_due(self.inbox.is_open(), kind, session)
     }
@@ -120,7 +87,7 @@ impl Driver {
         session: SessionId,
         looks: u64,
     ) -> Result<Option<StreamId>, OutOfMemory> {
-        for _look in 0..=looks {
+        for _look in 0..looks {
             match self.next_due(kind, session) {
                 None => return Ok(None),
                 Some((id, is_own)) => {
@@ -149,7 +116,7 @@ impl Driver {
         session: SessionId,
     ) -> Result<Poll<Result<StreamId, DriverError>>, OutOfMemory> {
         let kind = peer_uni(self.inbox.side());
-        let looks = self.inbox.peer_unis();
+        let looks = self.inbox.peer_unis() + 1;
         match self.accept(kind, session, looks)? {
             Some(id) => Ok(Poll::Ready(Ok(id))),
             None => self.nothing_left(),
@@ -162,7 +129,7 @@ impl Driver {
         session: SessionId,
     ) -> Result<Poll<Result<StreamId, DriverError>>, OutOfMemory> {
         let kind = peer_bi(self.inbox.side());
-        let looks = self.inbox.peer_bis();
+        let looks = self.inbox.peer_bis() + 1;
         match self.accept(kind, session, looks)? {
             Some(id) => Ok(Poll::Ready(Ok(id))),
             None => self.nothing_left(),
@@ -185,28 +152,15 @@ impl Driver {
     }
 
     /// The datagram in front is received or passed.
-    pub(super) fn settle_datagram(&mut self) -> Result<(), OutOfMemory>
-        ensures { OnOk result (self.new ≡ record self.old { state = record self.old.state { datagrams = suc self.old.state.datagrams }; queue = without_first self.old.queue }) }
-    {
-        let _piece = self.take_front()?;
-        Ok(())
-    }
-
-    fn take_front(&mut self) -> Result<Option<Piece>, OutOfMemory>
-        ensures { OnOk result (self.new ≡ record self.old { state = record self.old.state { datagrams = suc self.old.state.datagrams }; queue = without_first self.old.queue }) }
-    {
-        match self.settled.checked_add(1) {
-            None => Err(OutOfMemory),
-            Some(settled) => {
-                self.settled = settled;
-                Ok(self.queue.pop_front())
-            }
-        }
+    pub(super) fn settle_datagram(&mut self) {
+        let _settled = self.queue.pop_front();
+        self.settled = self.settled.saturating_add(1);
     }
 
     /// The same, with the work of that moment; the datagram is given.
     fn take_datagram(&mut self) -> Result<Option<Piece>, OutOfMemory> {
-        let piece = self.take_front()?;
+        let piece = self.queue.pop_front();
+        self.settled = self.settled.saturating_add(1);
         self.work()?;
         Ok(piece)
     }
@@ -217,7 +171,7 @@ impl Driver {
         session: SessionId,
     ) -> Result<Poll<Result<Piece, DriverError>>, OutOfMemory> {
         let looks = self.queue.len();
-        for _look in 0..looks {
+        for _look in 0..=looks {
             match self.next_datagram(session) {
                 None => return self.nothing_left(),
                 Some(is_own) => {

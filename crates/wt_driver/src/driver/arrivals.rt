@@ -1,20 +1,5 @@
 //! Turns of the transport.
-ghost use Rattle.std.specs.Prelude.{◌≡◌, ◌*◌, ◌+◌, ◌++◌, ◌∷◌, [], IfOk, IsTrue, List, OnOk, Some, false, true, ℕ};
-ghost use Rattle.wt_driver.specs.Arriving.{EventTaken, arrived, event_of, is_call};
-ghost use Rattle.wt_driver.specs.Tie.{Follows};
-ghost use Rattle.wt_inbox.specs.Stage.{Refines, Stage};
-ghost use Rattle.wt_seam_spec.specs.Arrivals.{fits, log_turn};
-ghost use Rattle.wt_spec.specs.Answers.{log_after, receive};
-ghost use Rattle.wt_spec.specs.Driver.{transport_view};
-ghost use Rattle.wt_turn.specs.Log.{Event, Log, is_open};
-ghost use Rattle.wt_turn.specs.declared.action.Action.{Action};
-ghost use Rattle.wt_turn.specs.declared.turn.Turn.TheVariants as turns;
-ghost use Rattle.wt_wire.specs.declared.side.Side.{Side};
-ghost use Rattle.wt_seam_spec.specs.Streams.{peer_bi, peer_uni};
-ghost use Rattle.wt_seam.specs.Step.{fits_now};
-ghost use Rattle.wt_inbox.specs.State.{peer_bis_now, peer_unis_now};
-ghost use Rattle.wt_driver_spec.specs.Step.{new_slot};
-ghost use Rattle.wt_driver.specs.DriverValue.{with_state};
+ghost use Rattle.std.specs.Prelude.{◌≡◌, ◌<◌, ◌^◌, ◌*◌, ◌+◌};
 
 use super::Driver;
 use crate::slot::{Slot, peer_bi, peer_uni};
@@ -25,164 +10,84 @@ use wt_wire::ids::StreamId;
 use wt_wire::varint::VarInt;
 
 /// The id of a kind's stream, counted from 0 (RFC 9000, section 2.1).
-fn stream_id(index: u64, kind: u64) -> Result<StreamId, OutOfMemory>
-    ensures { IfOk result (λ id. id ≡ 4 * index + kind) }
+fn stream_id(index: u64, kind: u64) -> StreamId
+    requires index { index < 2 ^ 60 }
+    requires kind { kind < 4 }
+    ensures { result ≡ 4 * index + kind }
 {
-    if index >= 1 << 60 || kind >= 4 {
-        return Err(OutOfMemory);
-    }
     match VarInt::try_from_u64(4 * index + kind) {
-        Some(id) => Ok(StreamId::new(id)),
-        None => Err(OutOfMemory),
+        Some(id) => StreamId::new(id),
+        None => unreachable!(),
     }
 }
 
 impl Driver {
     /// Whether a turn of the transport is lawful now.
-    pub fn fits(&self, turn: &Turn) -> bool
-        ensures now { result ≡ fits_now self.now.inbox.transport turn.now }
-        ensures log { (side : Side) (log : Log) (taken : ℕ) → Follows side self.now log taken → result ≡ fits side log turn.now }
-    {
+    pub fn fits(&self, turn: &Turn) -> bool {
         self.inbox.fits(turn)
     }
 
-    /// The id of the next unidirectional stream of the peer's.
-    fn next_peer_uni(&self) -> Result<StreamId, OutOfMemory>
-        ensures { IfOk result (λ id. id ≡ 4 * peer_unis_now self.now.inbox.transport + peer_uni self.now.inbox.transport.side) }
-    {
-        stream_id(self.inbox.peer_unis(), peer_uni(self.inbox.side()))
-    }
-
-    /// The id of the next bidirectional stream of the peer's.
-    fn next_peer_bi(&self) -> Result<StreamId, OutOfMemory>
-        ensures { IfOk result (λ id. id ≡ 4 * peer_bis_now self.now.inbox.transport + peer_bi self.now.inbox.transport.side) }
-    {
-        stream_id(self.inbox.peer_bis(), peer_bi(self.inbox.side()))
-    }
-
     /// The peer opened its next unidirectional stream.
-    fn open_peer_uni(&mut self) -> Result<(), OutOfMemory>
-        ensures { OnOk result (self.new ≡ with_state self.old (record self.old.state { unis = self.old.state.unis ++ new_slot (4 * peer_unis_now self.old.inbox.transport + peer_uni self.old.inbox.transport.side) ∷ [] })) }
-    {
-        let id = self.next_peer_uni()?;
-        self.unis.push_back(Slot::arrived(id))?;
+    fn open_peer_uni(&mut self) -> Result<(), OutOfMemory> {
+        if self.inbox.is_open() {
+            let id = stream_id(self.inbox.peer_unis(), peer_uni(self.inbox.side()));
+            self.unis.push_back(Slot::arrived(id))?;
+        }
         Ok(())
     }
 
     /// The peer opened its next bidirectional stream.
-    fn open_peer_bi(&mut self) -> Result<(), OutOfMemory>
-        ensures { OnOk result (self.new ≡ with_state self.old (record self.old.state { bis = self.old.state.bis ++ new_slot (4 * peer_bis_now self.old.inbox.transport + peer_bi self.old.inbox.transport.side) ∷ [] })) }
-    {
-        let id = self.next_peer_bi()?;
-        self.bis.push_back(Slot::arrived(id))?;
+    fn open_peer_bi(&mut self) -> Result<(), OutOfMemory> {
+        if self.inbox.is_open() {
+            let id = stream_id(self.inbox.peer_bis(), peer_bi(self.inbox.side()));
+            self.bis.push_back(Slot::arrived(id))?;
+        }
         Ok(())
     }
 
     /// A datagram came.
-    fn queue_datagram(&mut self, piece: &Piece) -> Result<(), OutOfMemory>
-        ensures { OnOk result (self.new ≡ record self.old { queue = self.old.queue ++ piece.now ∷ [] }) }
-    {
-        self.queue.push_back(piece.copy()?)?;
-        Ok(())
-    }
-
-    /// What came while the connection is open, but for bytes.
-    fn note_arrival(&mut self, turn: &Turn) -> Result<(), OutOfMemory>
-        ensures inbox { OnOk result (self.new.inbox ≡ self.old.inbox) }
-        ensures log { (side : Side) (log : Log) (stage : ℕ → Stage) (untaken : List Action) → Refines side self.old.inbox log stage untaken → is_open log ≡ true
-            → OnOk result (self.new ≡ arrived (transport_view side log) (event_of turn.now) self.old) }
-    {
-        match turn {
-            Turn::PeerUni => self.open_peer_uni(),
-            Turn::PeerBi => self.open_peer_bi(),
-            Turn::Datagram { piece } => self.queue_datagram(piece),
-            _ => Ok(()),
-        }
-    }
-
-    fn note_arrival_while_open(&mut self, turn: &Turn) -> Result<(), OutOfMemory>
-        ensures inbox { OnOk result (self.new.inbox ≡ self.old.inbox) }
-        ensures log { (side : Side) (log : Log) (stage : ℕ → Stage) (untaken : List Action) → Refines side self.old.inbox log stage untaken → is_open log ≡ true
-            → OnOk result (self.new ≡ arrived (transport_view side log) (event_of turn.now) self.old) }
-        ensures late { OnOk result (self.old.state.is_open ≡ false → self.new ≡ self.old) }
-    {
+    fn queue_datagram(&mut self, piece: &Piece) -> Result<(), OutOfMemory> {
         if self.inbox.is_open() {
-            self.note_arrival(turn)?;
+            self.queue.push_back(piece.copy()?)?;
         }
         Ok(())
-    }
-
-    fn record_turn(&mut self, turn: &Turn) -> Result<(), OutOfMemory>
-        requires { IsTrue (fits_now self.old.inbox.transport turn.now) }
-        ensures log { (side : Side) (log : Log) (stage : ℕ → Stage) (untaken : List Action) → Refines side self.old.inbox log stage untaken
-            → OnOk result (Refines side self.new.inbox (log_turn log turn.now) stage untaken) }
-        ensures state { OnOk result (self.new.state ≡ record self.old.state { is_open = self.new.inbox.transport.is_open }) }
-        ensures queue { OnOk result (self.new.queue ≡ self.old.queue) }
-    {
-        self.inbox.take(turn)
     }
 
     /// Takes in what the transport tells, but for bytes.
-    fn note_turn(&mut self, turn: &Turn) -> Result<(), OutOfMemory>
-        requires { IsTrue (fits_now self.old.inbox.transport turn.now) }
-        ensures log { (side : Side) (log : Log) (taken : ℕ) (e : Event) → Follows side self.old log taken → event_of turn.now ≡ Some e → OnOk result (EventTaken side log e self.new taken) }
-    {
-        self.note_arrival_while_open(turn)?;
-        self.record_turn(turn)
-    }
-
-    /// Takes in an event, and does the work of its moment.
-    fn take_event(&mut self, turn: &Turn) -> Result<(), OutOfMemory>
-        requires { IsTrue (fits_now self.old.inbox.transport turn.now) }
-        ensures log { (side : Side) (log : Log) (taken : ℕ) (e : Event) → Follows side self.old log taken → event_of turn.now ≡ Some e → OnOk result (Follows side self.new (log_after side log turn.now) taken) }
-    {
-        self.note_turn(turn)?;
-        self.work()
-    }
-
-    /// Takes in one byte of a stream.
-    fn note_byte(&mut self, id: StreamId, byte: u8) -> Result<(), OutOfMemory>
-        ensures log { (side : Side) (log : Log) (stage : ℕ → Stage) (untaken : List Action) → Refines side self.old.inbox log stage untaken → fits side log (turns.Bytes id (byte ∷ [])) ≡ true
-            → OnOk result (Refines side self.new.inbox (log_turn log (turns.Bytes id (byte ∷ []))) stage untaken) }
-        ensures state { OnOk result (self.new.state ≡ record self.old.state { is_open = self.new.inbox.transport.is_open }) }
-        ensures queue { OnOk result (self.new.queue ≡ self.old.queue) }
-    {
-        if self.inbox.bytes_fit(id) {
-            self.inbox.take_bytes(id, &[byte])?;
+    fn note_turn(&mut self, turn: &Turn) -> Result<(), OutOfMemory> {
+        match turn {
+            Turn::PeerUni => self.open_peer_uni()?,
+            Turn::PeerBi => self.open_peer_bi()?,
+            Turn::Datagram { piece } => self.queue_datagram(piece)?,
+            _ => {}
         }
-        Ok(())
+        self.inbox.take(turn)
     }
 
-    /// One byte of a stream, with the work of its moment.
-    fn take_byte(&mut self, id: StreamId, byte: u8) -> Result<(), OutOfMemory>
-        ensures log { (side : Side) (log : Log) (taken : ℕ) → Follows side self.old log taken → fits side log (turns.Bytes id (byte ∷ [])) ≡ true
-            → OnOk result (Follows side self.new (receive side log id (byte ∷ [])) taken) }
-    {
-        self.note_byte(id, byte)?;
+    /// One byte of a stream.
+    fn take_byte(&mut self, id: StreamId, byte: u8) -> Result<(), OutOfMemory> {
+        self.inbox.take_bytes(id, &[byte])?;
         self.work()
     }
 
     /// Bytes of a stream, one after another.
-    fn take_bytes(&mut self, id: StreamId, bytes: &[u8]) -> Result<(), OutOfMemory>
-        ensures log { (side : Side) (log : Log) (taken : ℕ) → Follows side self.old log taken → fits side log (turns.Bytes id bytes.now) ≡ true
-            → OnOk result (Follows side self.new (receive side log id bytes.now) taken) }
-    {
-        let mut at = 0;
-        while at < bytes.len() {
-            self.take_byte(id, bytes[at])?;
-            at += 1;
+    fn take_bytes(&mut self, id: StreamId, bytes: &[u8]) -> Result<(), OutOfMemory> {
+        for byte in bytes {
+            if self.inbox.bytes_fit(id) {
+                self.take_byte(id, *byte)?;
+            }
         }
         Ok(())
     }
 
     /// Takes a turn of the transport, and does the work of its moments: bytes come one after another.
-    pub fn turn(&mut self, turn: &Turn) -> Result<(), OutOfMemory>
-        requires { IsTrue (fits_now self.old.inbox.transport turn.now) }
-        ensures log { (side : Side) (log : Log) (taken : ℕ) → Follows side self.old log taken → is_call turn.now ≡ false → OnOk result (Follows side self.new (log_after side log turn.now) taken) }
-    {
+    pub fn turn(&mut self, turn: &Turn) -> Result<(), OutOfMemory> {
         match turn {
             Turn::Bytes { id, piece } => self.take_bytes(*id, piece.as_slice()),
-            _ => self.take_event(turn),
+            _ => {
+                self.note_turn(turn)?;
+                self.work()
+            }
         }
     }
 }

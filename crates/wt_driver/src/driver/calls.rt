@@ -1,27 +1,8 @@
 //! The other calls: the handshake's, streams of this end, the end.
-ghost use Rattle.std.specs.Prelude.{◌≡◌, ◌≤◌, ◌+◌, ◌∷◌, List, Some, IfOk, OnOk, drop, false, length, true, ℕ};
-ghost use Rattle.wt_driver_spec.specs.Step.{deliver};
-ghost use Rattle.wt_driver.specs.Calling.{MayBeCalled, SparesControl};
-ghost use Rattle.wt_driver.specs.Flushing.{MayAct};
-ghost use Rattle.wt_driver.specs.Records.{record_of};
-ghost use Rattle.wt_driver.specs.Tie.{Follows, TakenIn, untaken_since};
-ghost use Rattle.wt_inbox.specs.Stage.{Body, Refines, Stage, body_offset, with_stage};
-ghost use Rattle.wt_seam_spec.specs.Joined.{joined, newest_first};
-ghost use Rattle.wt_seam_spec.specs.Outgoing.{if_open};
-ghost use Rattle.wt_seam_spec.specs.Streams.{can_send, contents};
-ghost use Rattle.wt_spec.specs.Driver.{log_and_flush};
-ghost use Rattle.wt_turn.specs.Log.{Called, Log, actions_of, PrioritySet, ResetUnsent, Sent, is_open, with_actions};
-ghost use Rattle.wt_turn.specs.declared.action.Action.{Action};
-ghost use Rattle.wt_turn.specs.declared.action.Action.TheVariants as actions;
-ghost use Rattle.wt_wire.specs.declared.side.Side.{Side};
-ghost use Rattle.wt_driver.specs.DriverValue.{with_state};
-ghost use Rattle.wt_driver.specs.Results.{error_of, result_of};
 
 use super::Driver;
-use super::acting::{act, reset};
 use crate::ending::EndingKind;
 use crate::record::Record;
-use wt_proto::response_walk::ResponseWalk;
 use wt_proto::session::SessionRequest;
 use wt_proto::settings::Settings;
 use wt_proto::verdict::Verdict;
@@ -40,25 +21,19 @@ impl Driver {
     // ---- how the connection ended
 
     /// Whether the connection is open.
-    pub fn is_open(&self) -> bool
-        ensures { result ≡ self.now.state.is_open }
-    {
+    pub fn is_open(&self) -> bool {
         self.inbox.is_open()
     }
 
     /// How the connection ended, by the driver's own ending where it has one; None while it is open.
-    pub fn result(&self) -> Result<Option<DriverError>, OutOfMemory>
-        ensures { IfOk result (λ r. r ≡ result_of self.now.state.is_open self.now.state.progress.ending) }
-    {
+    pub fn result(&self) -> Result<Option<DriverError>, OutOfMemory> {
         if self.inbox.is_open() {
             return Ok(None);
         }
         Ok(Some(self.error()?))
     }
 
-    fn error(&self) -> Result<DriverError, OutOfMemory>
-        ensures { IfOk result (λ e. e ≡ error_of self.now.state.progress.ending) }
-    {
+    fn error(&self) -> Result<DriverError, OutOfMemory> {
         let Some(ending) = self.progress.ending() else {
             return Ok(DriverError::NotConnected);
         };
@@ -73,140 +48,126 @@ impl Driver {
 
     /// The application, the endpoint or the handshake closes the connection where it is open. The moment
     /// of the call comes after it.
-    pub fn close(&mut self, code: VarInt, reason: Piece) -> Result<(), OutOfMemory>
-        ensures log { (side : Side) (log : Log) (taken : ℕ) → Follows side self.old log taken → OnOk result (Follows side self.new (with_actions (if_open log (actions.Close code reason)) log) taken) }
-    {
-        self.put_close(code, reason)
-    }
-
-    fn put_close(&mut self, code: VarInt, reason: Piece) -> Result<(), OutOfMemory>
-        ensures log { (side : Side) (log : Log) (stage : ℕ → Stage) (untaken : List Action) → Refines side self.old.inbox log stage untaken
-            → OnOk result (Refines side self.new.inbox (with_actions (if_open log (actions.Close code reason)) log) stage (newest_first (if_open log (actions.Close code reason)) untaken)) }
-        ensures state { OnOk result (self.new.state ≡ record self.old.state { is_open = self.new.inbox.transport.is_open }) }
-        ensures queue { OnOk result (self.new.queue ≡ self.old.queue) }
-    {
+    pub fn close(&mut self, code: VarInt, reason: Piece) -> Result<(), OutOfMemory> {
         self.inbox.close(code, reason)
     }
 
     /// The actions since the last such call.
-    pub fn take_actions(&mut self) -> Actions
-        ensures actions { (side : Side) (log : Log) (taken : ℕ) → Follows side self.old log taken → result ≡ joined (untaken_since taken log) }
-        ensures log { (side : Side) (log : Log) (taken : ℕ) → Follows side self.old log taken → Follows side self.new log (length (actions_of log)) }
-    {
+    pub fn take_actions(&mut self) -> Actions {
         self.inbox.take_actions()
     }
 
     // ---- what calls did
 
     /// Takes in what a call did.
-    fn note_call(&mut self, call: &Record) -> Result<(), OutOfMemory>
-        ensures log { (side : Side) (log : Log) (taken : ℕ) (f : Follows side self.old log taken) → MayBeCalled side log self.old f.refines.stage (record_of call.now) → OnOk result (TakenIn side log (Called (record_of call.now)) self.new taken) }
-    {
-        match call {
-            Record::RequestDelivered(id) => self.deliver(*id),
-            Record::SessionEstablished(id, at) => self.establish(*id, *at),
+    fn note_call(&mut self, record: &Record) {
+        match record {
+            Record::RequestDelivered(id) => self.dispatched.deliver(*id),
+            Record::SessionEstablished(id, at) => self.session = Some((*id, *at)),
             Record::StreamAccepted(id) => self.release(*id),
             Record::StreamPassed(id) => self.pass(*id),
-            Record::DatagramReceived => self.settle_datagram()?,
-            Record::DatagramPassed => self.settle_datagram()?,
-            Record::BytesRead(id, count) => self.consume(*id, *count),
+            Record::DatagramReceived | Record::DatagramPassed => self.settle_datagram(),
+            Record::BytesRead(id, count) => self.note_read(*id, *count),
             Record::StreamGivenUp(id) => self.give_up(*id),
             Record::PrioritySet(id, priority) => self.set_priority(*id, *priority),
-            Record::ResetUnsent(id, code) => self.reset_unsent(*id, *code)?,
             _ => {}
         }
-        Ok(())
     }
 
-    /// A reset after the end: it counts, and nothing goes out.
-    fn reset_unsent(&mut self, id: StreamId, code: VarInt) -> Result<(), OutOfMemory>
-        ensures log { (side : Side) (log : Log) (stage : ℕ → Stage) (untaken : List Action) → Refines side self.old.inbox log stage untaken → is_open log ≡ false → can_send side log id ≡ true
-            → OnOk result (Refines side self.new.inbox (Called (ResetUnsent id code) ∷ log) stage untaken) }
-        ensures state { OnOk result (self.new.state ≡ record self.old.state { is_open = self.new.inbox.transport.is_open }) }
-        ensures queue { OnOk result (self.new.queue ≡ self.old.queue) }
-    {
-        reset(&mut self.inbox, id, code)
-    }
-
-    /// So many unread bytes of a stream are read.
-    fn consume(&mut self, id: StreamId, count: usize)
-        ensures log { (side : Side) (log : Log) (stage : ℕ → Stage) (untaken : List Action) (offset : ℕ) → Refines side self.old.inbox log stage untaken → body_offset (stage id) ≡ Some offset
-            → count ≤ length (drop offset (contents log id)) → Refines side self.new.inbox log (with_stage stage id (Body (offset + count))) untaken }
-        ensures state { self.new.state ≡ record self.old.state { is_open = self.new.inbox.transport.is_open } }
-        ensures queue { self.new.queue ≡ self.old.queue }
-    {
-        if count as u64 <= self.inbox.unread(id) {
-            self.inbox.consume(id, count);
-        }
-    }
-
-    fn deliver(&mut self, id: StreamId)
-        ensures { self.new ≡ with_state self.old (deliver id self.old.state) }
-    {
-        self.dispatched.deliver(id);
-    }
-
-    fn establish(&mut self, id: StreamId, at: usize)
-        ensures { self.new ≡ with_state self.old (record self.old.state { session = Some (id, at) }) }
-    {
-        self.session = Some((id, at));
-    }
-
-    fn set_priority(&mut self, id: StreamId, priority: i32)
-        ensures log { (side : Side) (log : Log) (stage : ℕ → Stage) (untaken : List Action) → Refines side self.old.inbox log stage untaken → can_send side log id ≡ true
-            → Refines side self.new.inbox (Called (PrioritySet id priority) ∷ log) stage untaken }
-        ensures state { self.new.state ≡ record self.old.state { is_open = self.new.inbox.transport.is_open } }
-        ensures queue { self.new.queue ≡ self.old.queue }
-    {
+    fn set_priority(&mut self, id: StreamId, priority: i32) {
         if self.inbox.can_send(id) {
             self.inbox.set_priority(id, priority);
         }
     }
 
+    fn reset_unsent(&mut self, record: &Record) -> Result<(), OutOfMemory> {
+        match record {
+            Record::ResetUnsent(id, code) if self.inbox.can_send(*id) => {
+                self.inbox.reset(*id, *code)
+            }
+            _ => Ok(()),
+        }
+    }
+
     /// Takes in what a call did, and does the work of its moment. What the call sent of its own is put
     /// out before.
-    pub fn called(&mut self, call: &Record) -> Result<(), OutOfMemory>
-        ensures log { (side : Side) (log : Log) (taken : ℕ) (f : Follows side self.old log taken) → MayBeCalled side log self.old f.refines.stage (record_of call.now)
-            → OnOk result (Follows side self.new (log_and_flush side log (Called (record_of call.now))) taken) }
-    {
-        self.note_call(call)?;
+    pub fn called(&mut self, record: &Record) -> Result<(), OutOfMemory> {
+        self.note_call(record);
+        self.reset_unsent(record)?;
         self.work()
     }
 
     // ---- what calls send
 
-    fn put_out(&mut self, action: Action) -> Result<(), OutOfMemory>
-        ensures log { (side : Side) (log : Log) (stage : ℕ → Stage) (untaken : List Action) → Refines side self.old.inbox log stage untaken → MayAct side log action
-            → OnOk result (Refines side self.new.inbox (Sent action ∷ log) stage (action ∷ untaken)) }
-        ensures state { OnOk result (self.new.state ≡ record self.old.state { is_open = self.new.inbox.transport.is_open }) }
-        ensures queue { OnOk result (self.new.queue ≡ self.old.queue) }
-    {
-        act(&mut self.inbox, action)
+    fn open(&mut self, id: StreamId) -> Result<(), OutOfMemory> {
+        let _opened = if id.is_bidirectional() {
+            self.inbox.open_bi()?
+        } else {
+            self.inbox.open_uni()?
+        };
+        Ok(())
+    }
+
+    fn send(&mut self, id: StreamId, piece: &Piece) -> Result<(), OutOfMemory> {
+        if self.inbox.may_send(id) {
+            let _count = self.inbox.send(id, piece.as_slice())?;
+        }
+        Ok(())
+    }
+
+    fn finish(&mut self, id: StreamId) -> Result<(), OutOfMemory> {
+        if self.inbox.may_send(id) {
+            self.inbox.finish(id)?;
+        }
+        Ok(())
+    }
+
+    fn reset(&mut self, id: StreamId, code: VarInt) -> Result<(), OutOfMemory> {
+        if self.inbox.can_send(id) {
+            self.inbox.reset(id, code)?;
+        }
+        Ok(())
+    }
+
+    fn stop(&mut self, id: StreamId, code: VarInt) -> Result<(), OutOfMemory> {
+        if self.inbox.can_receive(id) {
+            self.inbox.stop(id, code)?;
+        }
+        Ok(())
+    }
+
+    fn dial(&mut self, address: Addr, name: Text) -> Result<(), OutOfMemory> {
+        if self.inbox.is_open() {
+            self.inbox.dial(address, name)?;
+        }
+        Ok(())
+    }
+
+    fn datagram_out(&mut self, piece: Piece) -> Result<(), OutOfMemory> {
+        if self.inbox.is_open() {
+            self.inbox.datagram_out(piece)?;
+        }
+        Ok(())
     }
 
     /// An action of a call goes out.
-    pub fn act(&mut self, action: Action) -> Result<(), OutOfMemory>
-        ensures log { (side : Side) (log : Log) (taken : ℕ) → Follows side self.old log taken → MayAct side log action → SparesControl side action → OnOk result (Follows side self.new (Sent action ∷ log) taken) }
-    {
-        self.put_out(action)
+    pub fn act(&mut self, action: Action) -> Result<(), OutOfMemory> {
+        match action {
+            Action::Dial { address, name } => self.dial(address, name),
+            Action::Opened { id } => self.open(id),
+            Action::Send { id, piece } => self.send(id, &piece),
+            Action::Finish { id } => self.finish(id),
+            Action::ResetOut { id, code } => self.reset(id, code),
+            Action::StopOut { id, code } => self.stop(id, code),
+            Action::DatagramOut { piece } => self.datagram_out(piece),
+            Action::Close { code, reason } => self.close(code, reason),
+        }
     }
 
     // ---- the handshake
 
-    /// Reads a client's session stream on up to the response, and tells whether there is an outcome.
-    pub fn has_response(&mut self, id: StreamId) -> Result<bool, OutOfMemory> {
-        self.inbox.has_response(id)
-    }
-
-    /// The response on a client's session stream. What comes after it stays unread.
-    pub fn release_response(&mut self, id: StreamId) -> Result<ResponseWalk, OutOfMemory> {
-        self.inbox.release_response(id)
-    }
-
     /// Whether the peer's SETTINGS came.
-    pub fn have_settings_come(&self) -> bool
-        ensures { result ≡ self.now.state.progress.settings }
-    {
+    pub fn have_settings_come(&self) -> bool {
         self.progress.settings()
     }
 

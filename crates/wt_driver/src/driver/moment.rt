@@ -1,58 +1,25 @@
 //! The work of a moment.
-ghost use Rattle.std.specs.Prelude.{◌≡◌, ◌↔◌, None, IsTrue, ◌==◌, ◌&&◌, List, ℕ, Some, IfOk, OnOk, drop, false, true, not};
-ghost use Rattle.wt_driver.specs.DriverValue.{with_state};
-ghost use Rattle.wt_driver.specs.Moving.{HasDatagram, MayCheck, MayScan, Moves, WalkFrom, front_of};
-ghost use Rattle.wt_driver.specs.Scanning.{AllAwait};
-ghost use Rattle.wt_driver.specs.Stages.{bi_stages, check_stages, control_stages, datagram_checked, scanned_stages, session_stage, session_stages, uni_stages, unless_ended_stage};
-ghost use Rattle.wt_driver.specs.Tie.{Follows, TakenIn};
-ghost use Rattle.wt_driver.specs.declared.slot.Half.TheVariants as halves;
-ghost use Rattle.wt_driver_spec.specs.Bounds.{AreDistinct, IsBounded};
-ghost use Rattle.wt_driver_spec.specs.Step.{begin_scan, run_checks, scan_bi_slots, scan_state, scan_uni_slots};
-ghost use Rattle.wt_inbox.specs.Stage.{Anywhere, ControlBody, Refines, SessionBody, Stage, control_offset, session_offset, with_stage};
-ghost use Rattle.wt_seam_spec.specs.Reports.{end_of, is_running};
-ghost use Rattle.wt_seam_spec.specs.Streams.{contents};
-ghost use Rattle.wt_proto.specs.ControlWalk.{control_walk_of};
-ghost use Rattle.wt_proto.specs.SessionWalk.{is_over, session_walk_of};
-ghost use Rattle.wt_spec.specs.Driver.{log_and_flush, transport_view};
-ghost use Rattle.wt_spec.specs.Scan.{check_control, check_qpack, check_session, control_read, critical_if, dequeued_datagram, session_ends, session_read, unless_ended};
-ghost use Rattle.wt_turn.specs.Log.{Entry, Log, events_of, is_open};
-ghost use Rattle.wt_turn.specs.declared.action.Action.{Action};
-ghost use Rattle.wt_wire.specs.declared.side.Side.{Side};
 
 use super::Driver;
 use crate::scan::scan;
 use crate::slot::Half;
 use wt_proto::control_walk::ControlWalk;
-use wt_proto::session_walk::SessionWalk;
 use wt_wire::error::OutOfMemory;
 use wt_wire::ids::StreamId;
 use wt_wire::side::StreamEnd;
 
 /// Whether the peer's half goes on.
-fn is_running(end: StreamEnd) -> bool
-    ensures { result ≡ is_running end }
-{
+fn is_running(end: StreamEnd) -> bool {
     match end {
         StreamEnd::Running => true,
         StreamEnd::Fin | StreamEnd::Reset(_) => false,
     }
 }
 
-/// The stream of a pair with an offset.
-fn stream_of(place: (StreamId, usize)) -> StreamId
-    ensures { result ≡ place.0 }
-{
-    place.0
-}
-
 impl Driver {
     // ---- the scan of the slots
 
-    fn scan_unis(&mut self) -> Result<(), OutOfMemory>
-        ensures log { (side : Side) (log : Log) (stage : ℕ → Stage) (untaken : List Action) → Refines side self.old.inbox log stage untaken → is_open log ≡ true
-            → AllAwait halves.Uni stage self.old.state.unis → AreDistinct self.old.state.unis → IsBounded 4 0 self.old.state.unis
-            → OnOk result (Moves side log untaken self.old self.new (uni_stages (transport_view side log) self.old.state stage) (scan_uni_slots (transport_view side log) self.old.state)) }
-    {
+    fn scan_unis(&mut self) -> Result<(), OutOfMemory> {
         scan(
             &mut self.inbox,
             Half::Uni,
@@ -62,11 +29,7 @@ impl Driver {
         )
     }
 
-    fn scan_bis(&mut self) -> Result<(), OutOfMemory>
-        ensures log { (side : Side) (log : Log) (stage : ℕ → Stage) (untaken : List Action) → Refines side self.old.inbox log stage untaken → is_open log ≡ true
-            → AllAwait halves.Bi stage self.old.state.bis → AreDistinct self.old.state.bis → IsBounded 1 0 self.old.state.bis
-            → OnOk result (Moves side log untaken self.old self.new (bi_stages (transport_view side log) self.old.state stage) (scan_bi_slots (transport_view side log) self.old.state)) }
-    {
+    fn scan_bis(&mut self) -> Result<(), OutOfMemory> {
         scan(
             &mut self.inbox,
             Half::Bi,
@@ -78,276 +41,98 @@ impl Driver {
 
     // ---- the checks behind the slots
 
-    fn dequeue_datagram(&mut self) -> Result<(), OutOfMemory>
-        ensures { OnOk result (self.new ≡ with_state self.old (record self.old.state { progress = dequeued_datagram (front_of self.old.queue) self.old.state.progress })) }
-    {
-        if self.progress.datagrams() >= 1 << 62 {
-            return Err(OutOfMemory);
-        }
+    fn dequeue_datagram(&mut self) {
         if let Some(piece) = self.queue.front() {
             self.progress.dequeue_datagram(piece.as_slice());
         }
-        Ok(())
-    }
-
-    /// Whether a datagram may be dequeued.
-    fn may_dequeue_datagram(&self) -> bool
-        ensures { (side : Side) (log : Log) (stage : ℕ → Stage) (untaken : List Action) → Refines side self.now.inbox log stage untaken → is_open log ≡ true
-            → result ≡ ((transport_view side log).ready && self.now.state.datagrams == self.now.state.progress.datagrams) }
-    {
-        let is_ready = self.inbox.is_ready();
-        let is_settled = self.settled == self.progress.datagrams();
-        is_ready && is_settled
     }
 
     /// One datagram is dequeued at a time.
-    fn check_datagram(&mut self) -> Result<(), OutOfMemory>
-        ensures log { (side : Side) (log : Log) (stage : ℕ → Stage) (untaken : List Action) → Refines side self.old.inbox log stage untaken → is_open log ≡ true → HasDatagram side log self.old
-            → OnOk result (self.new ≡ with_state self.old (record self.old.state { progress = datagram_checked (transport_view side log) self.old.state.datagrams self.old.state.progress })) }
-    {
-        if self.progress.goes_on() {
-            let may_dequeue = self.may_dequeue_datagram();
-            if may_dequeue {
-                self.dequeue_datagram()?;
-            }
-        }
-        Ok(())
-    }
-
-    fn note_session(&mut self, walk: SessionWalk, by_capsule: bool)
-        ensures { self.new ≡ with_state self.old (record self.old.state { progress = session_ends walk by_capsule self.old.state.progress }) }
-    {
-        self.progress.note_session(walk, by_capsule);
-    }
-
-    fn end_session(&mut self, id: StreamId) -> Result<(), OutOfMemory>
-        ensures log { (side : Side) (log : Log) (stage : ℕ → Stage) (untaken : List Action) (at : ℕ) → Refines side self.old.inbox log stage untaken → session_offset (stage id) ≡ Some at
-            → OnOk result (Moves side log untaken self.old self.new (with_stage stage id Anywhere)
-            (record self.old.state { progress = session_read (drop at (contents log id)) (end_of (events_of log) id) self.old.state.progress })) }
-    {
-        let (walk, by_capsule) = self.inbox.release_session(id)?;
-        self.note_session(walk, by_capsule);
-        Ok(())
-    }
-
-    fn has_session_end(&mut self, id: StreamId) -> Result<bool, OutOfMemory>
-        ensures answer { (side : Side) (log : Log) (stage : ℕ → Stage) (untaken : List Action) (at : ℕ) → Refines side self.old.inbox log stage untaken → session_offset (stage id) ≡ Some at
-            → IfOk result (λ so. so ≡ is_over (session_walk_of (drop at (contents log id)) (end_of (events_of log) id))) }
-        ensures log { (side : Side) (log : Log) (stage : ℕ → Stage) (untaken : List Action) (at : ℕ) → Refines side self.old.inbox log stage untaken → session_offset (stage id) ≡ Some at
-            → OnOk result (Moves side log untaken self.old self.new (with_stage stage id (SessionBody at)) self.old.state) }
-    {
-        self.inbox.has_session_end(id)
-    }
-
-    fn read_session(&mut self, id: StreamId) -> Result<(), OutOfMemory>
-        ensures log { (side : Side) (log : Log) (stage : ℕ → Stage) (untaken : List Action) (at : ℕ) → Refines side self.old.inbox log stage untaken → session_offset (stage id) ≡ Some at
-            → OnOk result (Moves side log untaken self.old self.new (with_stage stage id (session_stage (is_over (session_walk_of (drop at (contents log id)) (end_of (events_of log) id))) at))
-            (record self.old.state { progress = session_read (drop at (contents log id)) (end_of (events_of log) id) self.old.state.progress })) }
-    {
-        let is_over = self.has_session_end(id)?;
-        if is_over {
-            self.end_session(id)?;
-        }
-        Ok(())
-    }
-
-    fn walk_session(&mut self, session: Option<(StreamId, usize)>) -> Result<(), OutOfMemory>
-        ensures log { (side : Side) (log : Log) (stage : ℕ → Stage) (untaken : List Action) → Refines side self.old.inbox log stage untaken → WalkFrom session_offset stage session
-            → OnOk result (Moves side log untaken self.old self.new (session_stages (transport_view side log) session stage)
-            (record self.old.state { progress = check_session (transport_view side log) session self.old.state.progress })) }
-    {
-        match session {
-            None => Ok(()),
-            Some(place) => {
-                let id = stream_of(place);
-                self.read_session(id)
-            }
+    fn check_datagram(&mut self) {
+        if self.progress.goes_on()
+            && self.inbox.is_ready()
+            && self.settled == self.progress.datagrams()
+        {
+            self.dequeue_datagram();
         }
     }
 
-    fn goes_on(&self) -> bool
-        ensures { IsTrue result ↔ (self.now.state.progress.ending ≡ None) }
-    {
-        self.progress.goes_on()
-    }
-
-    /// The session that is established, and where its part of the stream begins.
-    pub fn session(&self) -> Option<(StreamId, usize)>
-        ensures { result ≡ self.now.state.session }
-    {
-        self.session
-    }
-
-    fn control(&self) -> Option<(StreamId, usize)>
-        ensures { result ≡ self.now.state.dispatched.control }
-    {
-        self.dispatched.control()
-    }
-
-    fn encoder(&self) -> Option<(StreamId, usize)>
-        ensures { result ≡ self.now.state.dispatched.encoder }
-    {
-        self.dispatched.encoder()
-    }
-
-    fn decoder(&self) -> Option<(StreamId, usize)>
-        ensures { result ≡ self.now.state.dispatched.decoder }
-    {
-        self.dispatched.decoder()
+    fn read_session(&mut self, id: StreamId) -> Result<(), OutOfMemory> {
+        if self.inbox.has_session_end(id)? {
+            let (walk, by_capsule) = self.inbox.release_session(id)?;
+            self.progress.note_session(walk, by_capsule);
+        }
+        Ok(())
     }
 
     /// The peer's end of the session ends the connection.
-    fn check_session(&mut self) -> Result<(), OutOfMemory>
-        ensures log { (side : Side) (log : Log) (stage : ℕ → Stage) (untaken : List Action) → Refines side self.old.inbox log stage untaken → (self.old.state.progress.ending ≡ None → WalkFrom session_offset stage self.old.state.session)
-            → OnOk result (Moves side log untaken self.old self.new (unless_ended_stage self.old.state.progress.ending (session_stages (transport_view side log) self.old.state.session stage) stage)
-            (record self.old.state { progress = unless_ended self.old.state.progress.ending (check_session (transport_view side log) self.old.state.session) self.old.state.progress })) }
-    {
-        let session = self.session();
-        let goes_on = self.goes_on();
-        if goes_on {
-            self.walk_session(session)?;
+    fn check_session(&mut self) -> Result<(), OutOfMemory> {
+        if !self.progress.goes_on() {
+            return Ok(());
         }
-        Ok(())
+        match self.session {
+            None => Ok(()),
+            Some((id, _)) => self.read_session(id),
+        }
     }
 
     /// This end's control stream must not be stopped.
-    fn check_local_control(&mut self)
-        ensures log { (side : Side) (log : Log) (stage : ℕ → Stage) (untaken : List Action) → Refines side self.old.inbox log stage untaken
-            → self.new ≡ with_state self.old (record self.old.state { progress = unless_ended self.old.state.progress.ending (critical_if (transport_view side log).control_stopped) self.old.state.progress }) }
-    {
-        let is_stopped = self.inbox.control_stopped();
-        self.progress.fault_unless_ended(is_stopped);
+    fn check_local_control(&mut self) {
+        if self.progress.goes_on() {
+            self.progress.fault_if(self.inbox.control_stopped());
+        }
     }
 
-    fn note_control(&mut self, walk: ControlWalk)
-        ensures inbox { self.new.inbox ≡ self.old.inbox }
-        ensures state { self.new.state ≡ record self.old.state { progress = control_read walk self.old.state.progress } }
-        ensures queue { self.new.queue ≡ self.old.queue }
-    {
+    fn note_control(&mut self, walk: ControlWalk) {
         if walk.settings.is_some() {
             self.settings = walk.settings;
         }
         self.progress.note_control(walk);
     }
 
-    fn read_control(&mut self, id: StreamId) -> Result<(), OutOfMemory>
-        ensures log { (side : Side) (log : Log) (stage : ℕ → Stage) (untaken : List Action) (at : ℕ) → Refines side self.old.inbox log stage untaken → control_offset (stage id) ≡ Some at
-            → OnOk result (Moves side log untaken self.old self.new (with_stage stage id (ControlBody at))
-            (record self.old.state { progress = control_read (control_walk_of (drop at (contents log id)) (end_of (events_of log) id)) self.old.state.progress })) }
-    {
-        match self.inbox.control_walk(id) {
-            Ok(walk) => {
-                self.note_control(walk);
-                Ok(())
-            }
-            Err(error) => Err(error),
-        }
-    }
-
-    fn walk_control(&mut self, control: Option<(StreamId, usize)>) -> Result<(), OutOfMemory>
-        ensures log { (side : Side) (log : Log) (stage : ℕ → Stage) (untaken : List Action) → Refines side self.old.inbox log stage untaken → WalkFrom control_offset stage control
-            → OnOk result (Moves side log untaken self.old self.new (control_stages control stage)
-            (record self.old.state { progress = check_control (transport_view side log) control self.old.state.progress })) }
-    {
-        match control {
-            None => Ok(()),
-            Some(place) => {
-                let id = stream_of(place);
-                self.read_control(id)
-            }
-        }
-    }
-
     /// The peer's control stream behind its type.
-    fn check_control(&mut self) -> Result<(), OutOfMemory>
-        ensures log { (side : Side) (log : Log) (stage : ℕ → Stage) (untaken : List Action) → Refines side self.old.inbox log stage untaken → WalkFrom control_offset stage self.old.state.dispatched.control
-            → OnOk result (Moves side log untaken self.old self.new (unless_ended_stage self.old.state.progress.ending (control_stages self.old.state.dispatched.control stage) stage)
-            (record self.old.state { progress = unless_ended self.old.state.progress.ending (check_control (transport_view side log) self.old.state.dispatched.control) self.old.state.progress })) }
-    {
-        let control = self.control();
-        let goes_on = self.goes_on();
-        if goes_on {
-            self.walk_control(control)?;
+    fn check_control(&mut self) -> Result<(), OutOfMemory> {
+        if !self.progress.goes_on() {
+            return Ok(());
+        }
+        if let Some((id, _)) = self.dispatched.control() {
+            let walk = self.inbox.control_walk(id)?;
+            self.note_control(walk);
         }
         Ok(())
-    }
-
-    fn check_end(&mut self, id: StreamId)
-        ensures log { (side : Side) (log : Log) (stage : ℕ → Stage) (untaken : List Action) → Refines side self.old.inbox log stage untaken
-            → self.new ≡ with_state self.old (record self.old.state { progress = unless_ended self.old.state.progress.ending (critical_if (not (is_running ((transport_view side log).end id)))) self.old.state.progress }) }
-    {
-        let is_ended = !is_running(self.inbox.end(id));
-        self.progress.fault_unless_ended(is_ended);
     }
 
     /// A QPACK stream of the peer's must not end.
-    fn check_qpack(&mut self, stream: Option<(StreamId, usize)>)
-        ensures log { (side : Side) (log : Log) (stage : ℕ → Stage) (untaken : List Action) → Refines side self.old.inbox log stage untaken
-            → self.new ≡ with_state self.old (record self.old.state { progress = unless_ended self.old.state.progress.ending (check_qpack (transport_view side log) stream) self.old.state.progress }) }
-    {
-        match stream {
-            None => {}
-            Some(place) => {
-                let id = stream_of(place);
-                self.check_end(id);
-            }
+    fn check_qpack(&mut self, stream: Option<(StreamId, usize)>) {
+        if !self.progress.goes_on() {
+            return;
+        }
+        if let Some((id, _)) = stream {
+            self.progress.fault_if(!is_running(self.inbox.end(id)));
         }
     }
 
-    fn check_encoder(&mut self)
-        ensures log { (side : Side) (log : Log) (stage : ℕ → Stage) (untaken : List Action) → Refines side self.old.inbox log stage untaken
-            → self.new ≡ with_state self.old (record self.old.state { progress = unless_ended self.old.state.progress.ending (check_qpack (transport_view side log) self.old.state.dispatched.encoder) self.old.state.progress }) }
-    {
-        let encoder = self.encoder();
-        self.check_qpack(encoder);
-    }
-
-    fn check_decoder(&mut self)
-        ensures log { (side : Side) (log : Log) (stage : ℕ → Stage) (untaken : List Action) → Refines side self.old.inbox log stage untaken
-            → self.new ≡ with_state self.old (record self.old.state { progress = unless_ended self.old.state.progress.ending (check_qpack (transport_view side log) self.old.state.dispatched.decoder) self.old.state.progress }) }
-    {
-        let decoder = self.decoder();
-        self.check_qpack(decoder);
-    }
-
     /// The checks in their order, up to the first that ends the connection.
-    fn run_checks(&mut self) -> Result<(), OutOfMemory>
-        ensures log { (side : Side) (log : Log) (stage : ℕ → Stage) (untaken : List Action) → Refines side self.old.inbox log stage untaken → is_open log ≡ true → HasDatagram side log self.old
-            → MayCheck (transport_view side log) self.old.state stage
-            → OnOk result (Moves side log untaken self.old self.new (check_stages (transport_view side log) self.old.state stage) (run_checks (transport_view side log) self.old.state)) }
-    {
-        self.check_datagram()?;
+    fn run_checks(&mut self) -> Result<(), OutOfMemory> {
+        self.check_datagram();
         self.check_session()?;
         self.check_local_control();
         self.check_control()?;
-        self.check_encoder();
-        self.check_decoder();
+        self.check_qpack(self.dispatched.encoder());
+        self.check_qpack(self.dispatched.decoder());
         Ok(())
     }
 
-    fn begin_scan(&mut self)
-        ensures { self.new ≡ with_state self.old (begin_scan self.old.state) }
-    {
-        self.progress.begin();
-    }
-
     /// The whole scan of a moment.
-    fn scan(&mut self) -> Result<(), OutOfMemory>
-        ensures log { (side : Side) (log : Log) (stage : ℕ → Stage) (untaken : List Action) → Refines side self.old.inbox log stage untaken → is_open log ≡ true → HasDatagram side log self.old
-            → MayScan (transport_view side log) self.old.state stage
-            → OnOk result (Moves side log untaken self.old self.new (scanned_stages (transport_view side log) self.old.state stage) (scan_state (transport_view side log) self.old.state)) }
-    {
-        self.begin_scan();
+    fn scan(&mut self) -> Result<(), OutOfMemory> {
+        self.progress.begin();
         self.scan_unis()?;
         self.scan_bis()?;
         self.run_checks()
     }
 
     /// The work of a moment, as long as the connection is open: the scan, and what goes out then.
-    pub(super) fn work(&mut self) -> Result<(), OutOfMemory>
-        ensures log { (side : Side) (log : Log) (m : Entry) (taken : ℕ) → TakenIn side log m self.old taken → OnOk result (Follows side self.new (log_and_flush side log m) taken) }
-        ensures closed { OnOk result (self.old.state.is_open ≡ false → self.new ≡ self.old) }
-    {
+    pub(super) fn work(&mut self) -> Result<(), OutOfMemory> {
         if self.inbox.is_open() {
             self.scan()?;
             self.flush()?;

@@ -16,10 +16,11 @@ fn a_thousand_streams_without_a_byte(rt: HostRuntime) {
 fn a_thousand_foreign_streams_are_passed(rt: HostRuntime) {
     let alloc = rt.alloc();
     let mut driver = with_session(&rt, alloc, true);
-    for index in 1..1001u32 {
+    let mut id = 6;
+    for _ in 0..1000 {
         peer_uni(&rt, &mut driver);
-        let id = 4 * index + 2;
         bytes(&rt, alloc, &mut driver, id, &[0x40, 0x54, 0x04], true);
+        id += 4;
     }
     expect(&rt, &mut driver, &[]);
     assert!(rt; accept_uni(&rt, &mut driver) == Poll::Pending);

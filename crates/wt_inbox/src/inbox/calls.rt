@@ -8,8 +8,7 @@ ghost use Rattle.wt_seam_spec.specs.Joined.{joined, newest_first};
 ghost use Rattle.wt_seam_spec.specs.Outgoing.{credit_left, if_open, opened_id, opening, reset_entry, sending};
 ghost use Rattle.wt_seam_spec.specs.Streams.{local_bi, local_uni};
 ghost use Rattle.wt_seam.specs.Step.{after_bytes, after_close, after_dial, after_finish, after_give_up, after_opening, after_priority, after_reset, after_send, after_stop, after_turn, can_receive_now, can_send_now, covered_now, fits_now, may_receive_now, may_send_now, opened_id_now, with_action};
-ghost use Rattle.wt_inbox.specs.Quiet.{quiet};
-ghost use Rattle.wt_inbox.specs.State.{SameAt, with_transport};
+ghost use Rattle.wt_inbox.specs.State.{SameAt, quiet, with_transport};
 ghost use Rattle.wt_inbox.specs.Stage.{Refines, Stage, with_stage};
 
 use super::Inbox;
@@ -23,6 +22,11 @@ use wt_wire::text::Text;
 use wt_wire::varint::VarInt;
 
 impl Inbox {
+    /// So many unread bytes were read.
+    pub fn consume(&mut self, id: StreamId, count: usize) {
+        self.transport.consume(id, count);
+    }
+
     /// Records a turn of the transport. After the end of the connection it only decides what may come
     /// next.
     pub fn take(&mut self, turn: &Turn) -> Result<(), OutOfMemory>

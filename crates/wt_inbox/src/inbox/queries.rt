@@ -25,6 +25,26 @@ use wt_wire::varint::VarInt;
 const CONTROL_LENGTH: u64 = 25;
 
 impl Inbox {
+    /// The priority that was set last, 0 at first.
+    pub fn priority_of(&self, id: StreamId) -> Result<i32, wt_seam::ClosedStream> {
+        self.transport.priority(id)
+    }
+
+    /// Fills the buffer with unread bytes, which stay unread.
+    pub fn copy_front(&self, id: StreamId, buffer: &mut [u8]) {
+        self.transport.copy_front(id, buffer);
+    }
+
+    /// The id of the stream that `open_uni` would open now.
+    pub fn next_uni(&self) -> Option<StreamId> {
+        self.transport.next_uni()
+    }
+
+    /// The id of the stream that `open_bi` would open now.
+    pub fn next_bi(&self) -> Option<StreamId> {
+        self.transport.next_bi()
+    }
+
     /// This end.
     pub fn side(&self) -> Side
         ensures now { result ≡ self.now.transport.side }
@@ -200,7 +220,7 @@ impl Inbox {
         ensures now { result ≡ control_credit_now self.now.transport }
         ensures log { (side : Side) (log : Log) (stage : ℕ → Stage) (untaken : List Action) → Refines side self.now log stage untaken → is_open log ≡ true → result ≡ credit (events_of log) (local_uni side) }
     {
-        self.credit(self.control_id())
+        self.transport.credit(self.control_id())
     }
 
     /// Whether the peer stopped this end's control stream.
@@ -208,7 +228,7 @@ impl Inbox {
         ensures now { result ≡ control_stopped_now self.now.transport }
         ensures log { (side : Side) (log : Log) (stage : ℕ → Stage) (untaken : List Action) → Refines side self.now log stage untaken → result ≡ is_some (stop_of (events_of log) (local_uni side)) }
     {
-        self.stop_code(self.control_id()).is_some()
+        self.transport.stop_code(self.control_id()).is_some()
     }
 
     /// Whether this end's SETTINGS are out, or can go out whole: one unidirectional stream is allowed, with
@@ -217,11 +237,7 @@ impl Inbox {
         ensures now { result ≡ ready_now self.now.transport }
         ensures log { (side : Side) (log : Log) (stage : ℕ → Stage) (untaken : List Action) → Refines side self.now log stage untaken → is_open log ≡ true → result ≡ (is_connected (events_of log) && nat_lt 0 (unis_allowed (events_of log)) && not (nat_lt (credit (events_of log) (local_uni side)) (length local_control_bytes))) }
     {
-        is_ready_by(
-            self.is_connected(),
-            self.may_open_uni(),
-            self.control_credit(),
-        )
+        self.transport.is_connected() && self.may_open_uni() && self.control_credit() >= CONTROL_LENGTH
     }
 
     /// The id of this end's first unidirectional stream, its control stream.
@@ -233,12 +249,4 @@ impl Inbox {
             Side::Server => StreamId::new(VarInt::from_u32(3)),
         }
     }
-}
-
-/// Whether SETTINGS can go out whole, by what the transport tells.
-#[tactic(auto, using(crate::proofs::Passing::head_length))]
-fn is_ready_by(connected: bool, may_open: bool, credit: u64) -> bool
-    ensures { result ≡ (connected && may_open && not (nat_lt credit (length local_control_bytes))) }
-{
-    connected && may_open && credit >= CONTROL_LENGTH
 }

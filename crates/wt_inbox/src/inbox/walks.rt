@@ -4,18 +4,14 @@ ghost use Rattle.wt_turn.specs.Log.{Log, events_of};
 ghost use Rattle.wt_turn.specs.declared.action.Action.{Action};
 ghost use Rattle.wt_wire.specs.declared.side.Side.{Side};
 ghost use Rattle.wt_wire.specs.declared.side.StreamEnd.TheVariants.{Running};
-ghost use Rattle.wt_proto.specs.Reading.{outcome_in};
-ghost use Rattle.wt_proto.specs.Uni.{is_final, uni_unfinished, uni_verdict_of};
-ghost use Rattle.wt_proto.specs.Bi.{bi_unfinished, bi_verdict_of};
-ghost use Rattle.wt_proto.specs.ControlWalk.{control_unfinished, control_walk_of};
-ghost use Rattle.wt_proto.specs.SessionWalk.{is_over, session_unfinished, session_walk_of};
-ghost use Rattle.wt_proto.specs.ResponseWalk.{is_answered, response_unfinished, response_walk_of};
+ghost use Rattle.wt_proto.specs.Uni.{is_final, uni_verdict_of};
+ghost use Rattle.wt_proto.specs.Bi.{bi_verdict_of};
+ghost use Rattle.wt_proto.specs.ControlWalk.{control_walk_of};
+ghost use Rattle.wt_proto.specs.SessionWalk.{is_over, session_walk_of};
+ghost use Rattle.wt_proto.specs.ResponseWalk.{is_answered, response_walk_of};
 ghost use Rattle.wt_seam_spec.specs.Streams.{contents};
 ghost use Rattle.wt_seam_spec.specs.Reports.{end_of};
-ghost use Rattle.wt_inbox.specs.Kept.{reading_of};
-ghost use Rattle.wt_inbox.specs.Moves.{BiPulled, BiTaken, ControlPulled, ResponsePulled, ResponseTaken, SessionPulled, SessionTaken, UniPulled, UniTaken};
-ghost use Rattle.wt_inbox.specs.Quiet.{quiet};
-ghost use Rattle.wt_inbox.specs.State.{SameAt, bi_verdict_now, control_now, is_over_by_bytes, response_now, session_now, uni_verdict_now};
+ghost use Rattle.wt_inbox.specs.State.{SameAt, bi_verdict_now, control_now, is_over_by_bytes, quiet, response_now, session_now, uni_verdict_now};
 ghost use Rattle.wt_inbox.specs.Stage.{Refines, Stage, awaits_bi, awaits_response, awaits_uni, control_offset, response_offset, session_offset, stage_from, verdict_offset, with_stage};
 
 use super::Inbox;
@@ -41,8 +37,11 @@ impl Inbox {
         ensures log_answer { (side : Side) (log : Log) (stage : ℕ → Stage) (untaken : List Action) → Refines side self.old log stage untaken → awaits_uni (stage id) ≡ true → IfOk result (λ so. so ≡ is_final (uni_verdict_of (contents log id) (end_of (events_of log) id))) }
         ensures log { (side : Side) (log : Log) (stage : ℕ → Stage) (untaken : List Action) → Refines side self.old log stage untaken → awaits_uni (stage id) ≡ true → OnOk result (Refines side self.new log (with_stage stage id Stage.UniHeader) untaken) }
     {
-        self.pull_uni(id)?;
-        Ok(self.is_uni_final(id))
+        self.unis.pull(&mut self.transport, id, UniReader::new(self.alloc))?;
+        match self.unis.outcome(id) {
+            Some(outcome) => Ok(UniHeader::is_final(outcome)),
+            None => Ok(false),
+        }
     }
 
     /// The verdict of a peer's unidirectional stream. Its reader is let go; what comes after the header
@@ -54,8 +53,8 @@ impl Inbox {
         ensures log_answer { (side : Side) (log : Log) (stage : ℕ → Stage) (untaken : List Action) → Refines side self.old log stage untaken → awaits_uni (stage id) ≡ true → IfOk result (λ outcome. outcome ≡ uni_verdict_of (contents log id) (end_of (events_of log) id)) }
         ensures log { (side : Side) (log : Log) (stage : ℕ → Stage) (untaken : List Action) → Refines side self.old log stage untaken → awaits_uni (stage id) ≡ true → OnOk result (Refines side self.new log (with_stage stage id (stage_from (verdict_offset (uni_verdict_of (contents log id) (end_of (events_of log) id))))) untaken) }
     {
-        self.pull_uni(id)?;
-        Ok(self.take_uni(id))
+        self.unis.pull(&mut self.transport, id, UniReader::new(self.alloc))?;
+        Ok(self.unis.release(id, UniReader::new(self.alloc)))
     }
 
     // ---- headers of bidirectional streams
@@ -69,8 +68,11 @@ impl Inbox {
         ensures log_answer { (side : Side) (log : Log) (stage : ℕ → Stage) (untaken : List Action) → Refines side self.old log stage untaken → awaits_bi (stage id) ≡ true → IfOk result (λ so. so ≡ is_final (bi_verdict_of (contents log id) (end_of (events_of log) id))) }
         ensures log { (side : Side) (log : Log) (stage : ℕ → Stage) (untaken : List Action) → Refines side self.old log stage untaken → awaits_bi (stage id) ≡ true → OnOk result (Refines side self.new log (with_stage stage id Stage.BiHeader) untaken) }
     {
-        self.pull_bi(id)?;
-        Ok(self.is_bi_final(id))
+        self.bis.pull(&mut self.transport, id, BiReader::new(self.alloc))?;
+        match self.bis.outcome(id) {
+            Some(outcome) => Ok(BiHeader::is_final(outcome)),
+            None => Ok(false),
+        }
     }
 
     /// The verdict of a peer's bidirectional stream. Its reader is let go; what comes after the header
@@ -82,8 +84,8 @@ impl Inbox {
         ensures log_answer { (side : Side) (log : Log) (stage : ℕ → Stage) (untaken : List Action) → Refines side self.old log stage untaken → awaits_bi (stage id) ≡ true → IfOk result (λ outcome. outcome ≡ bi_verdict_of (contents log id) (end_of (events_of log) id)) }
         ensures log { (side : Side) (log : Log) (stage : ℕ → Stage) (untaken : List Action) → Refines side self.old log stage untaken → awaits_bi (stage id) ≡ true → OnOk result (Refines side self.new log (with_stage stage id (stage_from (verdict_offset (bi_verdict_of (contents log id) (end_of (events_of log) id))))) untaken) }
     {
-        self.pull_bi(id)?;
-        Ok(self.take_bi(id))
+        self.bis.pull(&mut self.transport, id, BiReader::new(self.alloc))?;
+        Ok(self.bis.release(id, BiReader::new(self.alloc)))
     }
 
     // ---- responses
@@ -97,8 +99,11 @@ impl Inbox {
         ensures log_answer { (side : Side) (log : Log) (stage : ℕ → Stage) (untaken : List Action) → Refines side self.old log stage untaken → awaits_response (stage id) ≡ true → IfOk result (λ so. so ≡ is_answered (response_walk_of (contents log id) (end_of (events_of log) id))) }
         ensures log { (side : Side) (log : Log) (stage : ℕ → Stage) (untaken : List Action) → Refines side self.old log stage untaken → awaits_response (stage id) ≡ true → OnOk result (Refines side self.new log (with_stage stage id Stage.ResponseHead) untaken) }
     {
-        self.pull_response(id)?;
-        Ok(self.is_response_there(id))
+        self.responses.pull(&mut self.transport, id, FrameReader::for_response(self.alloc))?;
+        match self.responses.outcome(id) {
+            Some(outcome) => Ok(is_answered(outcome)),
+            None => Ok(false),
+        }
     }
 
     /// The response on a client's session stream. Its reader is let go; what comes after the response
@@ -110,8 +115,8 @@ impl Inbox {
         ensures log_answer { (side : Side) (log : Log) (stage : ℕ → Stage) (untaken : List Action) → Refines side self.old log stage untaken → awaits_response (stage id) ≡ true → IfOk result (λ outcome. outcome ≡ response_walk_of (contents log id) (end_of (events_of log) id)) }
         ensures log { (side : Side) (log : Log) (stage : ℕ → Stage) (untaken : List Action) → Refines side self.old log stage untaken → awaits_response (stage id) ≡ true → OnOk result (Refines side self.new log (with_stage stage id (stage_from (response_offset (response_walk_of (contents log id) (end_of (events_of log) id))))) untaken) }
     {
-        self.pull_response(id)?;
-        Ok(self.take_response(id))
+        self.responses.pull(&mut self.transport, id, FrameReader::for_response(self.alloc))?;
+        Ok(self.responses.release(id, FrameReader::for_response(self.alloc)))
     }
 
     // ---- the control stream
@@ -125,8 +130,14 @@ impl Inbox {
         ensures log_answer { (side : Side) (log : Log) (stage : ℕ → Stage) (untaken : List Action) → Refines side self.old log stage untaken → (at : ℕ) → control_offset (stage id) ≡ Some at → IfOk result (λ walk. walk ≡ control_walk_of (drop at (contents log id)) (end_of (events_of log) id)) }
         ensures log { (side : Side) (log : Log) (stage : ℕ → Stage) (untaken : List Action) → Refines side self.old log stage untaken → (at : ℕ) → control_offset (stage id) ≡ Some at → OnOk result (Refines side self.new log (with_stage stage id (Stage.ControlBody at)) untaken) }
     {
-        self.pull_control(id)?;
-        Ok(self.control_outcome(id))
+        self.controls.pull(&mut self.transport, id, ControlReader::new(self.alloc))?;
+        match self.controls.outcome(id) {
+            Some(walk) => Ok(*walk),
+            None => Ok(ControlWalk {
+                settings: None,
+                fault: None,
+            }),
+        }
     }
 
     // ---- a session's stream
@@ -141,8 +152,11 @@ impl Inbox {
         ensures log_answer { (side : Side) (log : Log) (stage : ℕ → Stage) (untaken : List Action) → Refines side self.old log stage untaken → (at : ℕ) → session_offset (stage id) ≡ Some at → IfOk result (λ so. so ≡ is_over (session_walk_of (drop at (contents log id)) (end_of (events_of log) id))) }
         ensures log { (side : Side) (log : Log) (stage : ℕ → Stage) (untaken : List Action) → Refines side self.old log stage untaken → (at : ℕ) → session_offset (stage id) ≡ Some at → OnOk result (Refines side self.new log (with_stage stage id (Stage.SessionBody at)) untaken) }
     {
-        self.pull_session(id)?;
-        Ok(self.is_session_final(id))
+        self.sessions.pull(&mut self.transport, id, FrameReader::for_session(self.alloc))?;
+        match self.sessions.outcome(id) {
+            Some(outcome) => Ok(SessionWalk::is_final(outcome)),
+            None => Ok(false),
+        }
     }
 
     /// How the peer ended the session, and whether its bytes alone did. The reader is let go.
@@ -153,130 +167,8 @@ impl Inbox {
         ensures log_answer { (side : Side) (log : Log) (stage : ℕ → Stage) (untaken : List Action) → Refines side self.old log stage untaken → (at : ℕ) → session_offset (stage id) ≡ Some at → IfOk result (λ end. (end.0 ≡ session_walk_of (drop at (contents log id)) (end_of (events_of log) id)) × (end.1 ≡ is_over (session_walk_of (drop at (contents log id)) Running))) }
         ensures log { (side : Side) (log : Log) (stage : ℕ → Stage) (untaken : List Action) → Refines side self.old log stage untaken → (at : ℕ) → session_offset (stage id) ≡ Some at → OnOk result (Refines side self.new log (with_stage stage id Stage.Anywhere) untaken) }
     {
-        let by_bytes = self.pull_session(id)?;
-        Ok((self.take_session(id), by_bytes))
-    }
-
-    // ---- steps
-
-    fn pull_uni(&mut self, id: StreamId) -> Result<bool, OutOfMemory>
-        ensures { OnOk result (UniPulled self.old self.new id) }
-    {
-        self.unis
-            .pull(&mut self.transport, id, UniReader::new(self.alloc))
-    }
-
-    fn is_uni_final(&self, id: StreamId) -> bool
-        ensures { result ≡ is_final (outcome_in uni_unfinished (reading_of tt self.now.unis id)) }
-    {
-        match self.unis.outcome(id) {
-            Some(outcome) => UniHeader::is_final(outcome),
-            None => false,
-        }
-    }
-
-    fn take_uni(&mut self, id: StreamId) -> Verdict
-        ensures outcome { result ≡ outcome_in uni_unfinished (reading_of tt self.old.unis id) }
-        ensures taken { UniTaken self.old self.new id }
-    {
-        self.unis.release(id, UniReader::new(self.alloc))
-    }
-
-    fn pull_bi(&mut self, id: StreamId) -> Result<bool, OutOfMemory>
-        ensures { OnOk result (BiPulled self.old self.new id) }
-    {
-        self.bis
-            .pull(&mut self.transport, id, BiReader::new(self.alloc))
-    }
-
-    fn is_bi_final(&self, id: StreamId) -> bool
-        ensures { result ≡ is_final (outcome_in bi_unfinished (reading_of 0 self.now.bis id)) }
-    {
-        match self.bis.outcome(id) {
-            Some(outcome) => BiHeader::is_final(outcome),
-            None => false,
-        }
-    }
-
-    fn take_bi(&mut self, id: StreamId) -> Verdict
-        ensures outcome { result ≡ outcome_in bi_unfinished (reading_of 0 self.old.bis id) }
-        ensures taken { BiTaken self.old self.new id }
-    {
-        self.bis.release(id, BiReader::new(self.alloc))
-    }
-
-    fn pull_response(&mut self, id: StreamId) -> Result<bool, OutOfMemory>
-        ensures { OnOk result (ResponsePulled self.old self.new id) }
-    {
-        self.responses.pull(
-            &mut self.transport,
-            id,
-            FrameReader::for_response(self.alloc),
-        )
-    }
-
-    fn is_response_there(&self, id: StreamId) -> bool
-        ensures { result ≡ is_answered (outcome_in response_unfinished (reading_of 0 self.now.responses id)) }
-    {
-        match self.responses.outcome(id) {
-            Some(outcome) => is_answered(outcome),
-            None => false,
-        }
-    }
-
-    fn take_response(&mut self, id: StreamId) -> ResponseWalk
-        ensures outcome { result ≡ outcome_in response_unfinished (reading_of 0 self.old.responses id) }
-        ensures taken { ResponseTaken self.old self.new id }
-    {
-        self.responses
-            .release(id, FrameReader::for_response(self.alloc))
-    }
-
-    fn pull_control(&mut self, id: StreamId) -> Result<bool, OutOfMemory>
-        ensures { OnOk result (ControlPulled self.old self.new id) }
-    {
-        self.controls
-            .pull(&mut self.transport, id, ControlReader::new(self.alloc))
-    }
-
-    fn control_outcome(&self, id: StreamId) -> ControlWalk
-        ensures { result ≡ outcome_in control_unfinished (reading_of None self.now.controls id) }
-    {
-        match self.controls.outcome(id) {
-            Some(walk) => *walk,
-            None => ControlWalk {
-                settings: None,
-                fault: None,
-            },
-        }
-    }
-
-    fn pull_session(&mut self, id: StreamId) -> Result<bool, OutOfMemory>
-        ensures pulled { OnOk result (SessionPulled self.old self.new id) }
-        ensures decided { IfOk result (λ decided. decided ≡ is_over_by_bytes self.old id) }
-    {
-        self.sessions.pull(
-            &mut self.transport,
-            id,
-            FrameReader::for_session(self.alloc),
-        )
-    }
-
-    fn is_session_final(&self, id: StreamId) -> bool
-        ensures { result ≡ is_over (outcome_in session_unfinished (reading_of tt self.now.sessions id)) }
-    {
-        match self.sessions.outcome(id) {
-            Some(outcome) => SessionWalk::is_final(outcome),
-            None => false,
-        }
-    }
-
-    fn take_session(&mut self, id: StreamId) -> SessionWalk
-        ensures outcome { result ≡ outcome_in session_unfinished (reading_of tt self.old.sessions id) }
-        ensures taken { SessionTaken self.old self.new id }
-    {
-        self.sessions
-            .release(id, FrameReader::for_session(self.alloc))
+        let by_bytes = self.sessions.pull(&mut self.transport, id, FrameReader::for_session(self.alloc))?;
+        Ok((self.sessions.release(id, FrameReader::for_session(self.alloc)), by_bytes))
     }
 }
 

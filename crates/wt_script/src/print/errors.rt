@@ -7,7 +7,7 @@ use crate::print::texts::{
     push_text,
 };
 use std::alloc::Global;
-use wt_turn::close::PeerClose;
+use wt_turn::close::{ApplicationClose, ConnectionClose};
 use wt_turn::connecting_error::{ConnectingError, UrlRefusal};
 use wt_turn::connection_error::{ConnectionError, QuicProtoError};
 use wt_turn::piece::Piece;
@@ -17,11 +17,22 @@ use wt_turn::stream_error::{
 use wt_wire::addr::Addr;
 use wt_wire::error::OutOfMemory;
 
-fn push_close<B>(
+fn push_connection_close(
     alloc: Global,
     out: &mut String,
     name: &str,
-    close: &PeerClose<B>,
+    close: &ConnectionClose,
+) -> Result<(), OutOfMemory>
+    ensures { OnOk result (string_bytes out.new ≡ string_bytes out.old ++ (name.now ++ coded_text close.now.code close.now.reason)) }
+{
+    push_coded(alloc, out, name, close.code().into_inner(), close.reason())
+}
+
+fn push_application_close(
+    alloc: Global,
+    out: &mut String,
+    name: &str,
+    close: &ApplicationClose,
 ) -> Result<(), OutOfMemory>
     ensures { OnOk result (string_bytes out.new ≡ string_bytes out.old ++ (name.now ++ coded_text close.now.code close.now.reason)) }
 {
@@ -92,10 +103,10 @@ fn push_connection(
 {
     match error {
         ConnectionError::ConnectionClosed(close) => {
-            push_close(alloc, out, "connection_closed ", close)
+            push_connection_close(alloc, out, "connection_closed ", close)
         }
         ConnectionError::ApplicationClosed(close) => {
-            push_close(alloc, out, "application_closed ", close)
+            push_application_close(alloc, out, "application_closed ", close)
         }
         ConnectionError::LocallyClosed => push_text(out, "locally_closed"),
         ConnectionError::LocalH3Error(error) => {

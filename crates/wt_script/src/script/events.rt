@@ -1,8 +1,8 @@
 //! The events of the transport that a line spells.
 ghost use Rattle.std.specs.Prelude.{◌≡◌, ◌∷◌, [], IfOk, Some, None};
 ghost use Rattle.std.specs.Option.{option_map};
-ghost use Rattle.wt_script.specs.Events.{bare_loss_of, connected_of, data_event_of, event_of, fact_of, limit_event_of, loss_of, stream_event_of, coded_loss_of, close_of};
-ghost use Rattle.wt_script.specs.Numbers.{id_of, text_of};
+ghost use Rattle.wt_script.specs.Events.{bare_loss_of, connected_of, data_event_of, event_of, fact_of, limit_event_of, loss_of, stream_event_of, told_loss_of, close_with};
+ghost use Rattle.wt_script.specs.Numbers.{bytes_of, id_of, text_of};
 ghost use Rattle.wt_script.specs.Words.{one, two};
 ghost use Rattle.wt_turn.specs.declared.loss.LossReason.TheVariants as losses;
 
@@ -13,7 +13,7 @@ use crate::script::pairs::{
 };
 use crate::script::words::{Parts, is_name};
 use std::alloc::Global;
-use wt_turn::close::PeerClose;
+use wt_turn::close::{ApplicationClose, ConnectionClose};
 use wt_turn::datagram_fact::DatagramFact;
 use wt_turn::loss::LossReason;
 use wt_turn::turn::Turn;
@@ -69,33 +69,45 @@ fn read_transport_error(alloc: Global, fields: &Parts) -> Result<Option<LossReas
     }
 }
 
-/// A close of the peer: its code and its reason.
-fn read_close<B>(alloc: Global, fields: &Parts) -> Result<Option<PeerClose<B>>, OutOfMemory>
-    ensures { IfOk result (λ close. close ≡ close_of fields.now) }
+fn read_connection_closed(alloc: Global, fields: &Parts) -> Result<Option<LossReason>, OutOfMemory>
+    ensures { IfOk result (λ loss. loss ≡ option_map (λ p. losses.ConnectionClosed (close_with p)) (two id_of bytes_of fields.now)) }
 {
     match code_and_bytes(alloc, fields)? {
-        Some((code, reason)) => Ok(Some(PeerClose::new(code, reason))),
+        Some((code, reason)) => {
+            let close = ConnectionClose::new(code, reason);
+            Ok(Some(LossReason::ConnectionClosed(close)))
+        }
         None => Ok(None),
     }
 }
 
-fn read_coded_loss(
+fn read_application_closed(alloc: Global, fields: &Parts) -> Result<Option<LossReason>, OutOfMemory>
+    ensures { IfOk result (λ loss. loss ≡ option_map (λ p. losses.ApplicationClosed (close_with p)) (two id_of bytes_of fields.now)) }
+{
+    match code_and_bytes(alloc, fields)? {
+        Some((code, reason)) => {
+            let close = ApplicationClose::new(code, reason);
+            Ok(Some(LossReason::ApplicationClosed(close)))
+        }
+        None => Ok(None),
+    }
+}
+
+fn read_told_loss(
     alloc: Global,
     kind: &[u8],
     fields: &Parts,
 ) -> Result<Option<LossReason>, OutOfMemory>
-    ensures { IfOk result (λ loss. loss ≡ coded_loss_of kind.now fields.now) }
+    ensures { IfOk result (λ loss. loss ≡ told_loss_of kind.now fields.now) }
 {
     if is_name(kind, b"transport") {
         return read_transport_error(alloc, fields);
     }
     if is_name(kind, b"connection") {
-        let close = read_close(alloc, fields)?;
-        return Ok(close.map(LossReason::ConnectionClosed));
+        return read_connection_closed(alloc, fields);
     }
     if is_name(kind, b"application") {
-        let close = read_close(alloc, fields)?;
-        return Ok(close.map(LossReason::ApplicationClosed));
+        return read_application_closed(alloc, fields);
     }
     Ok(None)
 }
@@ -110,7 +122,7 @@ fn read_loss(alloc: Global, fields: &Parts) -> Result<Option<LossReason>, OutOfM
     if fields.is_empty() {
         return Ok(read_bare_loss(kind));
     }
-    read_coded_loss(alloc, kind, &fields)
+    read_told_loss(alloc, kind, &fields)
 }
 
 fn connected_with(uni: &[u8], bi: &[u8], credit: &[u8], datagrams: &[u8]) -> Option<Turn>

@@ -55,11 +55,11 @@ pub fn read_headers(alloc: Global, words: &Parts) -> Result<Option<HeaderList>, 
 {
     let mut headers = HeaderList::new(alloc);
     let mut rest = words.next();
-    while let Some((word, later)) = rest {
+    while let Some((word, behind)) = rest {
         if !add_header(alloc, &mut headers, word)? {
             return Ok(None);
         }
-        rest = later.next();
+        rest = behind.next();
     }
     Ok(Some(headers))
 }

@@ -1,7 +1,7 @@
 //! The words of a line, and the parts of a word.
 ghost use Rattle.std.specs.Prelude.{◌≡◌, ◌∷◌, [], List, ℕ, Some, None, MatchOption, MatchBool};
 ghost use Rattle.std.specs.Option.{option_map};
-ghost use Rattle.wt_script.specs.Words.{alone, is_word, one, parts, parts_after, two, words};
+ghost use Rattle.wt_script.specs.Words.{alone, is_word, one, parts, parts_behind, two, words};
 
 use std::marker::Model;
 
@@ -15,11 +15,11 @@ pub struct Parts<'a> {
 impl<'a> Model for Parts<'a> {
     ghost use Rattle.std.specs.Prelude.{List, ℕ};
     ghost use Rattle.std.specs.Option.{option_map};
-    ghost use Rattle.wt_script.specs.Words.{parts_after};
+    ghost use Rattle.wt_script.specs.Words.{parts_behind};
 
     ghost Value = { List (List ℕ) };
 
-    ghost view = { λ p. parts_after p.separator (option_map (λ r. r.now) p.rest) };
+    ghost view = { λ p. parts_behind p.separator (option_map (λ r. r.now) p.rest) };
 }
 
 impl<'a> Parts<'a> {
@@ -40,7 +40,7 @@ impl<'a> Parts<'a> {
         Parts::of(b' ', line)
     }
 
-    /// The next part, and those after it; None where none is left.
+    /// The next part, and those behind it; None where none is left.
     pub fn next(&self) -> Option<(&'a [u8], Parts<'a>)>
         ensures { MatchOption result (self.now ≡ []) (λ p. self.now ≡ p.0.now ∷ p.1) }
     {
@@ -91,9 +91,9 @@ impl<'a> Parts<'a> {
     }
 }
 
-/// The first part, and what stands after the separator that ends it.
+/// The first part, and what stands behind the separator after it.
 fn cut(separator: u8, bytes: &[u8]) -> (&[u8], Option<&[u8]>)
-    ensures { result.0.now ∷ parts_after separator (option_map (λ r. r.now) result.1) ≡ parts separator bytes.now }
+    ensures { result.0.now ∷ parts_behind separator (option_map (λ r. r.now) result.1) ≡ parts separator bytes.now }
 {
     for (at, byte) in bytes.iter().enumerate() {
         if *byte == separator {

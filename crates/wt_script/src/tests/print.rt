@@ -23,7 +23,7 @@ pub fn reply_prints(rt: &impl Abort, alloc: Global, reply: Reply, line: &str) {
     prints(rt, alloc, &Answer { reply, actions }, line);
 }
 
-/// The line of an action after `done` is this text.
+/// The line of an action behind `done` is this text.
 fn action_prints(rt: &impl Abort, alloc: Global, action: Action, line: &str) {
     let mut actions = Actions::new(alloc);
     actions.push(action).expect(rt, "no memory");

@@ -1,7 +1,7 @@
 //! Calls on one half of a stream, as their rules say.
 ghost use Rattle.std.specs.Prelude.{◌≡◌, ◌≤◌, ◌++◌, length, take, drop, IfOk, IsTrue, OnErr, OnOk};
 ghost use Rattle.wt_streams.specs.HalfRules.{finish_answer, priority_answer, read_answer, read_count, read_exact_answer, read_exact_count, reset_answer, stopped_answer, write_all_answer, write_answer};
-ghost use Rattle.wt_seam.specs.Rules.{after_finishing, after_priority_unless_closed, after_reset_unless_closed, after_write, may_write_now, receiving_half_now, sending_half_now};
+ghost use Rattle.wt_seam.specs.Rules.{after_finishing, after_priority_unless_closed, after_reset_unless_closed, after_write, receiving_half_now, sending_half_now};
 ghost use Rattle.wt_seam.specs.Step.{after_consume, after_give_up, after_stop, can_receive_now, can_send_now, unread_now};
 
 use super::Transport;
@@ -55,14 +55,6 @@ impl Transport {
         Ok(())
     }
 
-    pub(crate) fn may_write(&self, id: StreamId) -> bool
-        requires { IsTrue (can_send_now self.now id) }
-        ensures { result ≡ may_write_now self.now id }
-    {
-        let stream = self.stream(id);
-        !self.is_open || !(stream.finished || stream.reset)
-    }
-
     pub(crate) fn finish_half(
         &mut self,
         id: StreamId,
@@ -103,7 +95,7 @@ impl Transport {
         Ok(answer)
     }
 
-    pub(crate) fn priority(&self, id: StreamId) -> Result<i32, ClosedStream>
+    pub fn priority(&self, id: StreamId) -> Result<i32, ClosedStream>
         requires { IsTrue (can_send_now self.now id) }
         ensures { result ≡ priority_answer (sending_half_now self.now id) }
     {
@@ -156,7 +148,7 @@ impl Transport {
     }
 
     /// How many bytes are unread.
-    pub(super) fn unread_count(&self, id: StreamId) -> usize
+    fn unread_count(&self, id: StreamId) -> usize
         ensures { result ≡ length (unread_now self.now id) }
     {
         self.unread_now(id) as usize
@@ -174,7 +166,7 @@ impl Transport {
     }
 
     /// Fills the buffer with unread bytes, which stay unread.
-    pub(super) fn copy_front(&self, id: StreamId, buffer: &mut [u8])
+    pub fn copy_front(&self, id: StreamId, buffer: &mut [u8])
         requires { length buffer.old ≤ length (unread_now self.now id) }
         ensures { buffer.new ≡ take (length buffer.old) (unread_now self.now id) }
     {

@@ -19,6 +19,24 @@ use wt_wire::ids::StreamId;
 use wt_wire::varint::VarInt;
 
 impl Transport {
+    /// The id of the stream that `open_uni` would open now.
+    pub fn next_uni(&self) -> Option<StreamId> {
+        let kind = self.local_uni();
+        if self.is_open && self.count(kind) < self.unis_allowed {
+            return VarInt::try_from_u64(4 * self.count(kind) + kind).map(StreamId::new);
+        }
+        None
+    }
+
+    /// The id of the stream that `open_bi` would open now.
+    pub fn next_bi(&self) -> Option<StreamId> {
+        let kind = self.local_bi();
+        if self.is_open && self.count(kind) < self.bis_allowed {
+            return VarInt::try_from_u64(4 * self.count(kind) + kind).map(StreamId::new);
+        }
+        None
+    }
+
     // ---- opening
 
     /// Opens this end's next unidirectional stream; None exactly where the connection isn't open or no
@@ -250,7 +268,7 @@ impl Transport {
 }
 
 /// The id of a kind's stream, counted from 0.
-pub(super) fn stream_id(kind: u64, index: u64) -> StreamId
+fn stream_id(kind: u64, index: u64) -> StreamId
     requires kind { kind < 4 }
     requires index { index < 2 ^ 60 }
     ensures { result ≡ 4 * index + kind }

@@ -2,13 +2,9 @@ use Rattle.std.proofs.Common.{arith, ◌≡◌, ◌<◌, ◌+◌, ◌∷◌, ◌
 use Rattle.wt_wire.specs.declared.side.Side.{Side}
 use Rattle.wt_turn.specs.declared.answer.Answer.{Answer}
 use Rattle.wt_turn.specs.declared.turn.Turn.{Turn}
-use Rattle.wt_core.specs.Built.{is_built}
-use Rattle.wt_core.specs.Next.{is_lawful, run, run_from, log_after}
-use Rattle.wt_trace.proofs.RunLaws.{behind, goes-on, both}
+use Rattle.wt_spec.specs.Answers.{is_lawful, log_after, run, run_from}
+use Rattle.wt_trace.proofs.RunLaws.{behind, goes-on}
 use Rattle.wt_trace.proofs.trace.run_turns.Goals as goal
-
-pub turn-requires : goal.turn-requires
-turn-requires c = both _ _ (sym c.is_lawful.ensures.state ∙ c.if-not-is_lawful.false) (sym c.is_built.ensures.state ∙ c.if-not-is_built.false)
 
 pub loop-at-preserved : goal.loop-at-preserved
 loop-at-preserved c =
@@ -18,11 +14,10 @@ loop-at-preserved c =
     let rest : drop c.loop-at.at c.args.turns.now ≡ t ∷ drop (c.loop-at.at + 1) c.args.turns.now =
     drop-cons c.args.turns.now c.loop-at.at t within ∙ ap (λ (u : Turn). u ∷ drop (suc c.loop-at.at) c.args.turns.now) (sym c.index-turns-at.is) ∙ ap (λ n. t ∷ drop n c.args.turns.now) (sym (add-one c.loop-at.at)) in
     let lawful : is_lawful c.loop-at.core.side h t ≡ true = sym (c.is_lawful.ensures.log h stands) ∙ c.if-not-is_lawful.false in
-    let built : is_built c.loop-at.core.side h t ≡ true = sym (c.is_built.ensures.log h stands) ∙ c.if-not-is_built.false in
     let here : behind c.loop-at.answers (run_from c.loop-at.core.side h (drop c.loop-at.at c.args.turns.now)) ≡ run c.args.side c.args.turns.now =
     subst (λ (s : Side). behind c.loop-at.answers (run_from s h (drop c.loop-at.at c.args.turns.now)) ≡ run c.args.side c.args.turns.now) (sym side) goes in
     let more = goes-on c.loop-at.core.side h t (drop c.loop-at.at c.args.turns.now) (drop (c.loop-at.at + 1) c.args.turns.now) c.loop-at.answers c.in_ok-answer.answer (run c.args.side c.args.turns.now)
-    rest lawful built (c.in_ok-answer.ensures.answer h stands) here in
+    rest lawful (c.in_ok-answer.ensures.answer h stands) here in
     let at_side : behind (c.loop-at.answers ++ c.in_ok-answer.answer ∷ []) (run_from c.args.side (log_after c.loop-at.core.side h t) (drop (c.loop-at.at + 1) c.args.turns.now)) ≡ run c.args.side c.args.turns.now =
     subst (λ (s : Side). behind (c.loop-at.answers ++ c.in_ok-answer.answer ∷ []) (run_from s (log_after c.loop-at.core.side h t) (drop (c.loop-at.at + 1) c.args.turns.now)) ≡ run c.args.side c.args.turns.now) side more in (
       log_after c.loop-at.core.side h t,

@@ -1,2 +1,0 @@
-pub mod ConnectTarget
-pub mod Reserved

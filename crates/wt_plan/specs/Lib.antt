@@ -1,8 +1,0 @@
-pub mod Records
-pub mod Planned
-pub mod FactsNow
-pub mod Heads
-pub mod Table
-pub mod Tells
-pub mod DriverAnswers
-pub mod Inboxes

@@ -1,9 +1,0 @@
-pub mod Fair
-pub mod Ends
-pub mod There
-pub mod Handshaking
-pub mod Rejecting
-pub mod Driving
-pub mod Halves
-pub mod Plain
-pub mod Theorems

@@ -1,0 +1,106 @@
+-- Which of a URL, a lookup and QUIC's answer decides.
+use Rattle.std.proofs.Common.{◌≡◌, ◌≢◌, ◌↔◌, ℕ, Bool, true, false, List, None, Result, Ok, Err, IsErr, bytes_eq, if◌then◌else◌, refl}
+use Rattle.std.proofs.lemmas.Bool.{false≢true}
+use Rattle.std.proofs.lemmas.Slice.Eq.{bytes_eq-Decides}
+use Rattle.url.specs.declared.host.Host.{Host}
+use Rattle.url.specs.declared.host.Host.TheVariants.{Domain, Ipv4, Ipv6}
+use Rattle.url.specs.Host.{IsIpHost}
+use Rattle.url.specs.Parser.{Parsed, parse_url}
+use Rattle.url.specs.Parts.{Parts, host_or_empty}
+use Rattle.wt_wire.specs.declared.addr.Addr.{Addr}
+use Rattle.wt_wire.specs.declared.lookup.ConnectOutcome.{ConnectOutcome}
+use Rattle.wt_wire.specs.declared.lookup.ConnectOutcome.TheVariants as outcomes
+use Rattle.wt_wire.specs.declared.lookup.Lookup.{Lookup}
+use Rattle.wt_wire.specs.declared.lookup.Lookup.TheVariants.{Found, NotFound, Fault}
+use Rattle.wt_session.specs.ConnectTarget.{IfParsed, address_of, and_then, admitted, dialled, https, looked_up, port_of, target_at, target_of, target_of_url, with_https}
+use Rattle.wt_turn.specs.declared.connecting_error.ConnectingError.TheVariants as errors
+use Rattle.wt_turn.specs.declared.connecting_error.UrlRefusal.{UrlRefusal}
+use Rattle.wt_turn.specs.declared.connecting_error.UrlRefusal.TheVariants.{Parse, Scheme}
+
+-- ---- the scheme
+
+-- a test that can't pass fails
+fails : (passes : Bool) → passes ≢ true → passes ≡ false
+fails true never = absurd (never refl)
+fails false never = refl
+
+-- the test of the scheme
+is_other : (scheme : List ℕ) → scheme ≢ https → bytes_eq scheme https ≡ false
+is_other scheme other = fails (bytes_eq scheme https) (λ e. other ((bytes_eq-Decides scheme https).0 e))
+
+is_same : (scheme : List ℕ) → scheme ≡ https → bytes_eq scheme https ≡ true
+is_same scheme same = (bytes_eq-Decides scheme https).1 same
+
+-- ---- what refuses a URL
+
+-- neither the lookup nor QUIC does
+lookup_refuses_no_url : (lookup : Lookup) (refusal : UrlRefusal) → looked_up lookup ≢ Err (errors.InvalidUrl refusal)
+lookup_refuses_no_url (Found address) refusal = λ h. cc
+lookup_refuses_no_url NotFound refusal = λ h. cc
+lookup_refuses_no_url (Fault reason) refusal = λ h. cc
+
+address_refuses_no_url : (host : Host (List ℕ)) (port : ℕ) (lookup : Lookup) (refusal : UrlRefusal) → address_of host port lookup ≢ Err (errors.InvalidUrl refusal)
+address_refuses_no_url (Domain name) port lookup refusal = lookup_refuses_no_url lookup refusal
+address_refuses_no_url (Ipv4 ip) port lookup refusal = λ h. cc
+address_refuses_no_url (Ipv6 ip) port lookup refusal = λ h. cc
+
+outcome_refuses_no_url : (outcome : ConnectOutcome) (address : Addr) (refusal : UrlRefusal) → admitted outcome address ≢ Err (errors.InvalidUrl refusal)
+outcome_refuses_no_url outcomes.Proceed address refusal = λ h. cc
+outcome_refuses_no_url outcomes.EndpointStopping address refusal = λ h. cc
+outcome_refuses_no_url outcomes.CidsExhausted address refusal = λ h. cc
+outcome_refuses_no_url (outcomes.InvalidServerName name) address refusal = λ h. cc
+outcome_refuses_no_url (outcomes.InvalidRemoteAddress refused) address refusal = λ h. cc
+
+-- two steps that don't give an error don't give it together
+neither : {A B E : Type 0} (first : Result A E) (next : A → Result B E) (error : E) →
+    first ≢ Err error → ((value : A) → next value ≢ Err error) → and_then first next ≢ Err error
+neither (Ok value) next error one other = other value
+neither (Err given) next error one other = λ h. one (let same : given ≡ error = cc in rw same refl)
+
+url_is_not_refused : (url : Parts) (lookup : Lookup) (outcome : ConnectOutcome) (refusal : UrlRefusal) → target_of_url (Ok url) lookup outcome ≢ Err (errors.InvalidUrl refusal)
+url_is_not_refused url lookup outcome refusal =
+    neither (dialled url lookup outcome) (λ address. Ok (target_at url address)) (errors.InvalidUrl refusal)
+    (neither (address_of (host_or_empty url) (port_of url) lookup) (admitted outcome) (errors.InvalidUrl refusal)
+    (address_refuses_no_url (host_or_empty url) (port_of url) lookup refusal)
+    (λ address. outcome_refuses_no_url outcome address refusal))
+    (λ address h. cc)
+
+-- where the scheme was tested, the text was a URL
+tested : (url : Parts) (passes : Bool) (lookup : Lookup) (outcome : ConnectOutcome) →
+    target_of_url (if passes then Ok url else Err Scheme) lookup outcome ≢ Err (errors.InvalidUrl Parse)
+tested url true lookup outcome = url_is_not_refused url lookup outcome Parse
+tested url false lookup outcome = λ h. cc
+
+parse_decides : (parsed : Parsed Parts) (lookup : Lookup) (outcome : ConnectOutcome) →
+    (target_of_url (with_https parsed) lookup outcome ≡ Err (errors.InvalidUrl Parse)) ↔ IsErr parsed
+parse_decides (Ok url) lookup outcome = (λ h. absurd (tested url (bytes_eq url.scheme https) lookup outcome h), λ h. absurd (false≢true h))
+parse_decides (Err error) lookup outcome = (λ h. refl, λ h. refl)
+
+scheme_decides : (parsed : Parsed Parts) (lookup : Lookup) (outcome : ConnectOutcome) →
+    (target_of_url (with_https parsed) lookup outcome ≡ Err (errors.InvalidUrl Scheme)) ↔ IfParsed parsed (λ url. url.scheme ≢ https)
+scheme_decides (Ok url) lookup outcome = (
+  λ h same. url_is_not_refused url lookup outcome Scheme (let passed = rw (is_same url.scheme same) at h in passed),
+  λ other. rw (is_other url.scheme other) refl,
+)
+scheme_decides (Err error) lookup outcome = (λ h. cc, λ h. absurd h)
+
+pub parse_exactly : (text : List ℕ) (lookup : Lookup) (outcome : ConnectOutcome) →
+    (target_of text lookup outcome ≡ Err (errors.InvalidUrl Parse)) ↔ IsErr (parse_url None text)
+parse_exactly text lookup outcome = parse_decides (parse_url None text) lookup outcome
+
+pub scheme_exactly : (text : List ℕ) (lookup : Lookup) (outcome : ConnectOutcome) →
+    (target_of text lookup outcome ≡ Err (errors.InvalidUrl Scheme)) ↔ IfParsed (parse_url None text) (λ url. url.scheme ≢ https)
+scheme_exactly text lookup outcome = scheme_decides (parse_url None text) lookup outcome
+
+-- ---- the lookup
+
+-- an IP address is its own, whatever the lookup says
+same_address : (host : Host (List ℕ)) (port : ℕ) (first second : Lookup) → IsIpHost host → address_of host port first ≡ address_of host port second
+same_address (Domain name) port first second h = absurd h
+same_address (Ipv4 ip) port first second h = refl
+same_address (Ipv6 ip) port first second h = refl
+
+pub same_without_lookup : (url : Parts) (first second : Lookup) (outcome : ConnectOutcome) → IsIpHost (host_or_empty url) →
+    dialled url first outcome ≡ dialled url second outcome
+same_without_lookup url first second outcome h =
+    rw (same_address (host_or_empty url) (port_of url) first second h) refl

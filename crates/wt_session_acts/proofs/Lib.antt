@@ -1,2 +1,0 @@
-pub mod SendsMay
-pub mod OwnActions
