@@ -69,11 +69,11 @@ receives-on side (Called r) log k c = c
 
 stops-stay : (side : Side) (e : Entry) (log : Log) (xs : List Stopped) → CanStop side log xs → CanStop side (e ∷ log) xs
 stops-stay side e log [] c = tt
-stops-stay side e log (x ∷ xs) c = (receives-on side e log x.id c.0 , stops-stay side e log xs c.1)
+stops-stay side e log (x ∷ xs) c = (receives-on side e log x.id c.0, stops-stay side e log xs c.1)
 
 stops-join : (side : Side) (log : Log) (xs ys : List Stopped) → CanStop side log xs → CanStop side log ys → CanStop side log (xs ++ ys)
 stops-join side log [] ys c d = d
-stops-join side log (x ∷ xs) ys c d = (c.0 , stops-join side log xs ys c.1 d)
+stops-join side log (x ∷ xs) ys c d = (c.0, stops-join side log xs ys c.1 d)
 
 -- ---- a peer's stream can receive
 
@@ -103,7 +103,7 @@ module _ (side : Side) (log : Log) (kind : ℕ) (low : kind < 4) (peers : (local
 
   ids-receive : (n count : ℕ) → n + count ≤ peer_count side (events_of log) kind → AllReceive side log (stream_ids kind n count)
   ids-receive n zero l = tt
-  ids-receive n (suc count) l = (peers-receive n (omega arith) , ids-receive (suc n) count (omega arith))
+  ids-receive n (suc count) l = (peers-receive n (omega arith), ids-receive (suc n) count (omega arith))
 
 -- ---- what holds of the progress, whatever is scanned
 
@@ -171,12 +171,12 @@ uni-stops d k (verdicts.Decoder at) = once-stops d.decoder
 uni-stops d k _ = refl
 
 bi-itself : (side : Side) (log : Log) (d : Dispatched) (k : ℕ) (v : Verdict) → can_receive side log k ≡ true → CanStop side log (listed (bi_consequence d k v).stop)
-bi-itself side log d k (verdicts.Refused code) r = (r , tt)
+bi-itself side log d k (verdicts.Refused code) r = (r, tt)
 bi-itself side log d k (verdicts.Request headers at) r = by d.requests
   where
     by : (cs : List Classified) → CanStop side log (listed (queued_behind cs k).stop)
     by [] = tt
-    by (c ∷ cs) = (r , tt)
+    by (c ∷ cs) = (r, tt)
 bi-itself side log d k _ r = tt
 
 -- the checks leave the stops
@@ -223,14 +223,25 @@ moment-stops side log calls table =
     moment-holds side log (λ p. CanStop side log p.stops) calls table
     (λ d k v p r c. stops-join side log p.stops (listed (uni_consequence d k v).stop) c (subst (λ (o : Option Stopped). CanStop side log (listed o)) (sym (uni-stops d k v)) tt))
     (λ d k v p r c. stops-join side log p.stops (listed (bi_consequence d k v).stop) c (bi-itself side log d k v r))
-    (λ d.
-    ((λ p c. to p (datagram-stops ((transport_view side log).ready && calls.datagrams == p.datagrams) (transport_view side log) p) c)
-    , ((λ p c. to p (session-stops (transport_view side log) calls.session p) c)
-    , ((λ p c. to p (critical-stops (transport_view side log).control_stopped p) c)
-    , ((λ p c. to p (control-stops (transport_view side log) d.control p) c)
-    , ((λ p c. to p (qpack-stops (transport_view side log) d.encoder p) c)
-    , ((λ p c. to p (qpack-stops (transport_view side log) d.decoder p) c)
-    , tt)))))))
+    (λ d. (
+      (λ p c. to p (datagram-stops ((transport_view side log).ready && calls.datagrams == p.datagrams) (transport_view side log) p) c),
+      (
+        (λ p c. to p (session-stops (transport_view side log) calls.session p) c),
+        (
+          (λ p c. to p (critical-stops (transport_view side log).control_stopped p) c),
+          (
+            (λ p c. to p (control-stops (transport_view side log) d.control p) c),
+            (
+              (λ p c. to p (qpack-stops (transport_view side log) d.encoder p) c),
+              (
+                (λ p c. to p (qpack-stops (transport_view side log) d.decoder p) c),
+                tt,
+              ),
+            ),
+          ),
+        ),
+      ),
+    ))
     tt
   where
     to : {xs : List Stopped} (p : Progress) → xs ≡ p.stops → CanStop side log p.stops → CanStop side log xs
@@ -300,14 +311,25 @@ moment-fair side log calls table f =
     moment-holds side log (λ p. EndsFairly calls.session p.ending) calls table
     (λ d k v p r c. fair-fault calls.session (uni_consequence d k v).fault)
     (λ d k v p r c. fair-fault calls.session (bi_consequence d k v).fault)
-    (λ d.
-    ((λ p c. fair-datagram calls.session ((transport_view side log).ready && calls.datagrams == p.datagrams) (transport_view side log) p c)
-    , ((λ p c. fair-session (transport_view side log) calls.session p c)
-    , ((λ p c. fair-critical calls.session (transport_view side log).control_stopped p c)
-    , ((λ p c. fair-control calls.session (transport_view side log) d.control p c)
-    , ((λ p c. fair-qpack calls.session (transport_view side log) d.encoder p c)
-    , ((λ p c. fair-qpack calls.session (transport_view side log) d.decoder p c)
-    , tt)))))))
+    (λ d. (
+      (λ p c. fair-datagram calls.session ((transport_view side log).ready && calls.datagrams == p.datagrams) (transport_view side log) p c),
+      (
+        (λ p c. fair-session (transport_view side log) calls.session p c),
+        (
+          (λ p c. fair-critical calls.session (transport_view side log).control_stopped p c),
+          (
+            (λ p c. fair-control calls.session (transport_view side log) d.control p c),
+            (
+              (λ p c. fair-qpack calls.session (transport_view side log) d.encoder p c),
+              (
+                (λ p c. fair-qpack calls.session (transport_view side log) d.decoder p c),
+                tt,
+              ),
+            ),
+          ),
+        ),
+      ),
+    ))
     f
 
 fair-none : (session : Option (ℕ × ℕ)) (e : Option Ending) → e ≡ None → EndsFairly session e

@@ -105,7 +105,7 @@ send-later side a log k = half-later (exists side log k) (exists side (Sent a �
 
 stop-later : (side : Side) (a : Action) (log : Log) (xs : List Stopped) → CanStop side log xs → CanStop side (Sent a ∷ log) xs
 stop-later side a log [] c = tt
-stop-later side a log (x ∷ xs) c = (receive-later side a log x.id c.0 , stop-later side a log xs c.1)
+stop-later side a log (x ∷ xs) c = (receive-later side a log x.id c.0, stop-later side a log xs c.1)
 
 pub stop-after : (side : Side) (acts : List Action) (log : Log) (xs : List Stopped) → CanStop side log xs → CanStop side (with_actions acts log) xs
 stop-after side [] log xs c = c
@@ -227,8 +227,8 @@ not-opened zero e = absurd cc
 not-opened (suc n) e = omega arith
 
 self-kind : (side : Side) → (local_uni side % 4 ≡ local_uni side) × (local_uni side / 4 ≡ 0) × ((peer_uni side == local_uni side) ≡ false)
-self-kind Client = (refl , refl , refl)
-self-kind Server = (refl , refl , refl)
+self-kind Client = (refl, refl, refl)
+self-kind Server = (refl, refl, refl)
 
 -- what was opened is there
 pub control_there : (side : Side) (log : Log) → (control_sent side log).opened ≡ true → can_send side log (local_uni side) ≡ true

@@ -94,9 +94,9 @@ fn classify(
 ) -> Result<Option<Slot>, OutOfMemory>
     ensures log { (side : Side) (log : Log) (stage : ℕ → Stage) (untaken : List Action) (n : ℕ) → Refines side inbox.old log stage untaken → awaits half (stage id) ≡ true
         → IfOk result (λ left. Leaves side log stage untaken id
-            (look_stage true half ((rule_of half (transport_view side log)).consequence dispatched.old id ((rule_of half (transport_view side log)).verdict id)).surplus ((rule_of half (transport_view side log)).verdict id))
-            (classify_slot true (rule_of half (transport_view side log)) id n (known_by dispatched.old progress.old))
-            n left inbox.new (known_by dispatched.new progress.new)) }
+        (look_stage true half ((rule_of half (transport_view side log)).consequence dispatched.old id ((rule_of half (transport_view side log)).verdict id)).surplus ((rule_of half (transport_view side log)).verdict id))
+        (classify_slot true (rule_of half (transport_view side log)) id n (known_by dispatched.old progress.old))
+        n left inbox.new (known_by dispatched.new progress.new)) }
 {
     let verdict = release_header(inbox, half, id)?;
     let consequence = dispatched.consequence(half, id, &verdict);
@@ -123,9 +123,9 @@ fn look(
 ) -> Result<Option<Slot>, OutOfMemory>
     ensures log { (side : Side) (log : Log) (stage : ℕ → Stage) (untaken : List Action) (n : ℕ) → Refines side inbox.old log stage untaken → awaits half (stage id) ≡ true
         → IfOk result (λ left. Leaves side log stage untaken id
-            (dequeue_stage true half (rule_of half (transport_view side log)) id (known_by dispatched.old progress.old) (stage id))
-            (classify_slot (is_final ((rule_of half (transport_view side log)).verdict id)) (rule_of half (transport_view side log)) id n (known_by dispatched.old progress.old))
-            n left inbox.new (known_by dispatched.new progress.new)) }
+        (dequeue_stage true half (rule_of half (transport_view side log)) id (known_by dispatched.old progress.old) (stage id))
+        (classify_slot (is_final ((rule_of half (transport_view side log)).verdict id)) (rule_of half (transport_view side log)) id n (known_by dispatched.old progress.old))
+        n left inbox.new (known_by dispatched.new progress.new)) }
 {
     let is_decided = has_verdict(inbox, half, id)?;
     if is_decided {
@@ -155,9 +155,9 @@ fn visit(
 ) -> Result<Option<Slot>, OutOfMemory>
     ensures log { (side : Side) (log : Log) (stage : ℕ → Stage) (untaken : List Action) → Refines side inbox.old log stage untaken → is_open log ≡ true → AwaitsAt half slot.now.place (stage slot.now.id)
         → IfOk result (λ left. Leaves side log stage untaken slot.now.id
-            (visit_stage (is_ready side log) half (rule_of half (transport_view side log)) slot.now.place slot.now.id occupied (known_by dispatched.old progress.old) (stage slot.now.id))
-            (visit_slot (is_ready side log) (rule_of half (transport_view side log)) slot.now.place slot.now occupied (known_by dispatched.old progress.old))
-            occupied left inbox.new (known_by dispatched.new progress.new)) }
+        (visit_stage (is_ready side log) half (rule_of half (transport_view side log)) slot.now.place slot.now.id occupied (known_by dispatched.old progress.old) (stage slot.now.id))
+        (visit_slot (is_ready side log) (rule_of half (transport_view side log)) slot.now.place slot.now occupied (known_by dispatched.old progress.old))
+        occupied left inbox.new (known_by dispatched.new progress.new)) }
 {
     let id = slot.id();
     match slot.place() {
@@ -196,7 +196,7 @@ pub fn scan(
     ensures log { (side : Side) (log : Log) (stage : ℕ → Stage) (untaken : List Action) → Refines side inbox.old log stage untaken → is_open log ≡ true
         → AllAwait half stage slots.old.items → AreDistinct slots.old.items → IsBounded (slots_of half) 0 slots.old.items
         → OnOk result (Scans side log untaken (is_ready side log) half (rule_of half (transport_view side log)) stage slots.old.items slots.new.items
-            (known_by dispatched.old progress.old) (known_by dispatched.new progress.new) inbox.new) }
+        (known_by dispatched.old progress.old) (known_by dispatched.new progress.new) inbox.new) }
 {
     let most = slots_of(half);
     let mut at = 0;

@@ -69,7 +69,7 @@ fn send_control(inbox: &mut Inbox, alloc: Global, sent: &mut usize) -> Result<()
     ensures log { (side : Side) (log : Log) (stage : ℕ → Stage) (untaken : List Action) → Refines side inbox.old log stage untaken → is_open log ≡ true
         → control_sent side log ≡ record { opened = true; sent = sent.old } → ControlRuns side log → (transport_view side log).may_open ≡ true
         → OnOk result (SendsControl side log stage untaken (send_of (local_uni side) (drop sent.old (take (transport_view side log).credit local_control_bytes))) inbox.new
-            sent.new (sent.old + length (drop sent.old (take (transport_view side log).credit local_control_bytes)))) }
+        sent.new (sent.old + length (drop sent.old (take (transport_view side log).credit local_control_bytes)))) }
 {
     let id = control_id(inbox.side());
     if !inbox.may_send(id) {

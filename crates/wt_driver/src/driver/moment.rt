@@ -122,7 +122,7 @@ impl Driver {
     fn end_session(&mut self, id: StreamId) -> Result<(), OutOfMemory>
         ensures log { (side : Side) (log : Log) (stage : ℕ → Stage) (untaken : List Action) (at : ℕ) → Refines side self.old.inbox log stage untaken → session_offset (stage id) ≡ Some at
             → OnOk result (Moves side log untaken self.old self.new (with_stage stage id Anywhere)
-                (record self.old.state { progress = session_read (drop at (contents log id)) (end_of (events_of log) id) self.old.state.progress })) }
+            (record self.old.state { progress = session_read (drop at (contents log id)) (end_of (events_of log) id) self.old.state.progress })) }
     {
         let (walk, by_capsule) = self.inbox.release_session(id)?;
         self.note_session(walk, by_capsule);
@@ -141,7 +141,7 @@ impl Driver {
     fn read_session(&mut self, id: StreamId) -> Result<(), OutOfMemory>
         ensures log { (side : Side) (log : Log) (stage : ℕ → Stage) (untaken : List Action) (at : ℕ) → Refines side self.old.inbox log stage untaken → session_offset (stage id) ≡ Some at
             → OnOk result (Moves side log untaken self.old self.new (with_stage stage id (session_stage (is_over (session_walk_of (drop at (contents log id)) (end_of (events_of log) id))) at))
-                (record self.old.state { progress = session_read (drop at (contents log id)) (end_of (events_of log) id) self.old.state.progress })) }
+            (record self.old.state { progress = session_read (drop at (contents log id)) (end_of (events_of log) id) self.old.state.progress })) }
     {
         let is_over = self.has_session_end(id)?;
         if is_over {
@@ -153,7 +153,7 @@ impl Driver {
     fn walk_session(&mut self, session: Option<(StreamId, usize)>) -> Result<(), OutOfMemory>
         ensures log { (side : Side) (log : Log) (stage : ℕ → Stage) (untaken : List Action) → Refines side self.old.inbox log stage untaken → WalkFrom session_offset stage session
             → OnOk result (Moves side log untaken self.old self.new (session_stages (transport_view side log) session stage)
-                (record self.old.state { progress = check_session (transport_view side log) session self.old.state.progress })) }
+            (record self.old.state { progress = check_session (transport_view side log) session self.old.state.progress })) }
     {
         match session {
             None => Ok(()),
@@ -199,7 +199,7 @@ impl Driver {
     fn check_session(&mut self) -> Result<(), OutOfMemory>
         ensures log { (side : Side) (log : Log) (stage : ℕ → Stage) (untaken : List Action) → Refines side self.old.inbox log stage untaken → WalkFrom session_offset stage self.old.state.session
             → OnOk result (Moves side log untaken self.old self.new (unless_ended_stage self.old.state.progress.ending (session_stages (transport_view side log) self.old.state.session stage) stage)
-                (record self.old.state { progress = unless_ended self.old.state.progress.ending (check_session (transport_view side log) self.old.state.session) self.old.state.progress })) }
+            (record self.old.state { progress = unless_ended self.old.state.progress.ending (check_session (transport_view side log) self.old.state.session) self.old.state.progress })) }
     {
         let session = self.session();
         let goes_on = self.goes_on();
@@ -232,7 +232,7 @@ impl Driver {
     fn read_control(&mut self, id: StreamId) -> Result<(), OutOfMemory>
         ensures log { (side : Side) (log : Log) (stage : ℕ → Stage) (untaken : List Action) (at : ℕ) → Refines side self.old.inbox log stage untaken → control_offset (stage id) ≡ Some at
             → OnOk result (Moves side log untaken self.old self.new (with_stage stage id (ControlBody at))
-                (record self.old.state { progress = control_read (control_walk_of (drop at (contents log id)) (end_of (events_of log) id)) self.old.state.progress })) }
+            (record self.old.state { progress = control_read (control_walk_of (drop at (contents log id)) (end_of (events_of log) id)) self.old.state.progress })) }
     {
         match self.inbox.control_walk(id) {
             Ok(walk) => {
@@ -246,7 +246,7 @@ impl Driver {
     fn walk_control(&mut self, control: Option<(StreamId, usize)>) -> Result<(), OutOfMemory>
         ensures log { (side : Side) (log : Log) (stage : ℕ → Stage) (untaken : List Action) → Refines side self.old.inbox log stage untaken → WalkFrom control_offset stage control
             → OnOk result (Moves side log untaken self.old self.new (control_stages control stage)
-                (record self.old.state { progress = check_control (transport_view side log) control self.old.state.progress })) }
+            (record self.old.state { progress = check_control (transport_view side log) control self.old.state.progress })) }
     {
         match control {
             None => Ok(()),
@@ -261,7 +261,7 @@ impl Driver {
     fn check_control(&mut self) -> Result<(), OutOfMemory>
         ensures log { (side : Side) (log : Log) (stage : ℕ → Stage) (untaken : List Action) → Refines side self.old.inbox log stage untaken → WalkFrom control_offset stage self.old.state.dispatched.control
             → OnOk result (Moves side log untaken self.old self.new (unless_ended_stage self.old.state.progress.ending (control_stages self.old.state.dispatched.control stage) stage)
-                (record self.old.state { progress = unless_ended self.old.state.progress.ending (check_control (transport_view side log) self.old.state.dispatched.control) self.old.state.progress })) }
+            (record self.old.state { progress = unless_ended self.old.state.progress.ending (check_control (transport_view side log) self.old.state.dispatched.control) self.old.state.progress })) }
     {
         let control = self.control();
         let goes_on = self.goes_on();
