@@ -1,13 +1,2 @@
-pub mod Readable
-pub mod StreamTableFacts
-pub mod Moments
-pub mod Facts
-pub mod Ranges
-pub mod AfterTurns
-pub mod Replay
-pub mod CallTurns
-pub mod Start
-pub mod ReplayCalls
-pub mod Refinement
-pub mod TurnCases
-pub mod Recorded
+pub mod Below
+pub mod Refining

@@ -4,12 +4,8 @@
 //! whole log of the connection.
 #![tactic(auto)]
 
-mod built;
-mod driver;
 pub mod machine;
 pub mod send;
-mod session;
-mod streams;
 #[cfg(test)]
 mod tests;
 

@@ -6,32 +6,40 @@ use Rattle.wt_driver.proofs.Moved.{open-is}
 use Rattle.wt_driver.proofs.StageMoments.{out-staged}
 use Rattle.wt_driver.proofs.Turning.{unchanged-follows}
 use Rattle.wt_driver.proofs.Worked.{sends-with, untaken-sent, within-sent}
-use Rattle.wt_driver.specs.Calling.{SparesControl}
 use Rattle.wt_driver.specs.DriverValue.{DriverValue}
-use Rattle.wt_driver.specs.Tie.{Follows, SendsWhileOpen, untaken_since}
+use Rattle.wt_driver.specs.Tie.{Follows, untaken_since}
 use Rattle.wt_driver_spec.proofs.Following.{open-more, out-followed}
 use Rattle.wt_driver_spec.proofs.RestMoments.{open-says}
+use Rattle.wt_driver_spec.specs.Asking.{SendsWhileOpen, SparesControl}
 use Rattle.wt_driver_spec.specs.DriverState.{DriverState, state_of}
 use Rattle.wt_driver_spec.specs.Rest.{AtRest, Resting, RestsWhileOpen}
 use Rattle.wt_driver_spec.specs.Step.{begin_scan, control_after, step_actions}
 use Rattle.wt_inbox.specs.Stage as inboxes
 use Rattle.wt_seam_spec.specs.Joined.{newest_first}
 use Rattle.wt_seam_spec.specs.Outgoing.{if_open}
-use Rattle.wt_seam_spec.specs.Streams.{local_uni}
-use Rattle.wt_spec.specs.Driver.{ControlSent, transport_view}
+use Rattle.wt_seam_spec.specs.Streams.{local_uni, opens}
+use Rattle.wt_spec.specs.Driver.{ControlSent, control_sent, transport_view}
 use Rattle.wt_turn.specs.Log.{Log, Sent, closes, is_open, with_actions}
 use Rattle.wt_turn.specs.declared.action.Action.{Action}
 use Rattle.wt_turn.specs.declared.action.Action.TheVariants as actions
 use Rattle.wt_wire.specs.declared.side.Side.{Side}
 
-module _ (side : Side) (log : Log) (a : Action) (s : SparesControl side a) where
+-- what was so before, where it is so now
+already : (now before : Bool) → (now ≡ true → before ≡ true) → (now || before) ≡ before
+already true before f = sym (f refl)
+already false before f = refl
+
+module _ (side : Side) (log : Log) (a : Action) (s : SparesControl side log a) where
   -- this end's control stream stays
-  control-stays : (c : ControlSent) → control_after (local_uni side) a c ≡ c
-  control-stays c = λ i. record { opened = s.opens i || c.opened; sent = (ap (λ (n : ℕ). c.sent + n) s.sent ∙ add-zero c.sent) i }
+  control-stays : control_after (local_uni side) a (state_of side log).control_sent ≡ (state_of side log).control_sent
+  unfolding state_of
+  control-stays =
+      let c : ControlSent = control_sent side log in
+      λ i. record { opened = already (opens (local_uni side) a) c.opened s.opens i; sent = (ap (λ (n : ℕ). c.sent + n) s.sent ∙ add-zero c.sent) i }
 
   -- so does all that is kept, but that a close ends the connection
   pub acted-state : state_of side (Sent a ∷ log) ≡ record (state_of side log) { is_open = not (closes a) && (state_of side log).is_open }
-  acted-state = out-followed side log a ∙ (λ i. record (state_of side log) { control_sent = control-stays (state_of side log).control_sent i; is_open = not (closes a) && (state_of side log).is_open })
+  acted-state = out-followed side log a ∙ (λ i. record (state_of side log) { control_sent = control-stays i; is_open = not (closes a) && (state_of side log).is_open })
 
   module _ (o : is_open (Sent a ∷ log) ≡ true) where
     parts : (not (closes a) && is_open log) ≡ true
@@ -81,5 +89,5 @@ closed-follows side log taken d new code reason f x k q = by (is_open log) x
   where
     by : (b : Bool) → inboxes.Refines side new.inbox (with_actions (if b then actions.Close code reason ∷ [] else []) log) f.refines.stage (newest_first (if b then actions.Close code reason ∷ [] else []) (untaken_since taken log))
         → Follows side new (with_actions (if b then actions.Close code reason ∷ [] else []) log) taken
-    by true y = acted-follows side log (actions.Close code reason) (record { opens = refl; sent = refl; finishes = refl; resets = refl }) taken d new f y k q
+    by true y = acted-follows side log (actions.Close code reason) (record { opens = λ e. absurd cc; sent = refl; finishes = refl; resets = refl }) taken d new f y k q
     by false y = unchanged-follows side log taken d f new y k q

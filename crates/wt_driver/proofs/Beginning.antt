@@ -3,7 +3,7 @@ use Rattle.std.proofs.Common.{arith, ◌≡◌, ℕ, true, [], refl, sym, subst,
 use Rattle.std.specs.Prelude.{None, Some}
 use Rattle.wt_driver.proofs.StageMoments.{start-staged}
 use Rattle.wt_driver.specs.DriverValue.{DriverValue, first_state}
-use Rattle.wt_driver.specs.Flushing.{SendFacts}
+use Rattle.wt_driver_spec.specs.Asking.{SendFacts}
 use Rattle.wt_driver.specs.Tie.{Follows}
 use Rattle.wt_driver_spec.proofs.RestMoments.{start-rests}
 use Rattle.wt_driver_spec.specs.DriverState.{state_of}

@@ -3,16 +3,17 @@ use Rattle.std.proofs.Common.{◌≡◌, ◌≤◌, ◌+◌, ℕ, suc, Bool, tru
 use Rattle.std.specs.Prelude.{◌==◌, Option, Some, if◌then◌else◌, ℤ}
 use Rattle.wt_driver.proofs.Early.{early}
 use Rattle.wt_driver.proofs.Moved.{open-is}
-use Rattle.wt_driver.proofs.StageAnswers.{read-staged}
+use Rattle.wt_driver.proofs.StageAnswers.{read-staged, response-staged}
 use Rattle.wt_driver.proofs.StageEntries.{called-fits}
 use Rattle.wt_driver.proofs.StageTables.{is-own}
 use Rattle.wt_driver.proofs.StageWork.{passed-waits, received-waits}
-use Rattle.wt_driver.specs.Calling.{HalfAsks, IsEarly, MayBeCalled, called_queue}
+use Rattle.wt_driver.specs.Calling.{IsEarly, called_queue}
+use Rattle.wt_driver_spec.specs.Asking.{Establishes, MayBeCalled}
 use Rattle.wt_driver.specs.DriverValue.{DriverValue, IsAmong, with_state, without_first}
-use Rattle.wt_driver.specs.Records.{record_of}
-use Rattle.wt_driver.specs.declared.record.Record.{Record}
-use Rattle.wt_driver.specs.declared.record.Record.TheVariants as records
-use Rattle.wt_driver.specs.Stages.{ResponseRead, called_stages, read_on}
+use Rattle.wt_turn.specs.Records.{record_of}
+use Rattle.wt_turn.specs.declared.record.Record.{Record}
+use Rattle.wt_turn.specs.declared.record.Record.TheVariants as records
+use Rattle.wt_driver.specs.Stages.{called_stages, established_stages, read_on}
 use Rattle.wt_driver.specs.Tie.{Follows, TakenIn, unsettled, untaken_since}
 use Rattle.wt_driver_spec.proofs.RestMoments.{open-says}
 use Rattle.wt_driver_spec.specs.DriverState.{DriverState, state_of}
@@ -20,18 +21,19 @@ use Rattle.wt_driver_spec.specs.Moment.{may_release}
 use Rattle.wt_driver_spec.specs.Step.{after_call, deliver, release}
 use Rattle.wt_inbox.proofs.Passing.{goes-called, passes}
 use Rattle.wt_inbox.specs.Stage as inboxes
-use Rattle.wt_inbox.specs.Stage.{Anywhere, Body, IsAt, Stage, body_offset, stage_from, with_stage}
+use Rattle.wt_inbox.specs.Stage.{Anywhere, Body, IsAt, Stage, awaits_response, body_offset, stage_from, with_stage}
+use Rattle.wt_proto.specs.ResponseWalk.{response_offset, response_walk_of}
 use Rattle.wt_inbox.specs.State.{InboxState}
 use Rattle.wt_seam.specs.State as seam
 use Rattle.wt_streams.specs.StreamState.{rows}
 use Rattle.wt_seam_spec.specs.Sent.{is_reset, priority_of}
-use Rattle.wt_seam_spec.specs.Reports.{initial_credit}
+use Rattle.wt_seam_spec.specs.Reports.{end_of, initial_credit}
 use Rattle.wt_seam_spec.specs.Streams.{contents, stream_count}
 use Rattle.wt_seam_spec.specs.Unread.{ReadPosition}
 use Rattle.wt_spec.specs.Driver.{stream_table}
 use Rattle.wt_spec.specs.Halves as halves
 use Rattle.wt_spec.specs.StreamTable.{verdict_of}
-use Rattle.wt_turn.specs.Log.{BytesRead, CallRecord, Called, ConnectStarted, DatagramPassed, DatagramReceived, HandshakeOver, Log, OpeningFailed, OpeningStarted, Polled, PrioritySet, RequestDelivered, ResetUnsent, ResponseStarted, SessionEstablished, StreamAccepted, StreamGivenUp, StreamPassed, all_events_of, calls_of}
+use Rattle.wt_turn.specs.Log.{BytesRead, CallRecord, Called, ConnectStarted, DatagramPassed, DatagramReceived, HandshakeOver, Log, OpeningFailed, OpeningStarted, Polled, PrioritySet, RequestDelivered, ResetUnsent, ResponseStarted, SessionEstablished, StreamAccepted, StreamGivenUp, StreamPassed, all_events_of, calls_of, events_of}
 use Rattle.wt_turn.specs.declared.action.Action.{Action}
 use Rattle.wt_wire.specs.declared.side.Side.{Side}
 use Rattle.wt_wire.specs.declared.side.Side.TheVariants.{Client, Server}
@@ -95,23 +97,31 @@ queue-so DatagramReceived log = received-waits log
 queue-so DatagramPassed log = passed-waits log
 queue-so _ log = refl
 
-read-so : (side : Side) (log : Log) (d : DriverValue) (stage : ℕ → Stage) (r : CallRecord) → HalfAsks side log d stage r → ResponseRead side r stage
-read-so Client log d stage (SessionEstablished id at) h = h
-read-so Server log d stage (SessionEstablished id at) h = tt
-read-so Client log d stage _ h = tt
-read-so Server log d stage _ h = tt
+-- What letting the response go ensures where a session is established: a client reads on behind it.
+abbrev pub ReleasesResponse : DriverValue → DriverValue → ℕ → ℕ → Type 0
+ReleasesResponse d new id at = (log : Log) (stage : ℕ → Stage) (untaken : List Action) → inboxes.Refines Client d.inbox log stage untaken → awaits_response (stage id) ≡ true
+    → response_offset (response_walk_of (contents log id) (end_of (events_of log) id)) ≡ Some at → inboxes.Refines Client new.inbox log (with_stage stage id (Body at)) untaken
 
-module _ (side : Side) (log : Log) (taken : ℕ) (d : DriverValue) (f : Follows side d log taken) (r : CallRecord) (a : MayBeCalled side log d f.refines.stage r) where
+-- a server keeps to its stages
+abbrev pub KeepsStages : DriverValue → DriverValue → Type 0
+KeepsStages d new = (log : Log) (stage : ℕ → Stage) (untaken : List Action) → inboxes.Refines Server d.inbox log stage untaken → inboxes.Refines Server new.inbox log stage untaken
+
+established-inbox : (side : Side) (log : Log) (taken : ℕ) (d new : DriverValue) (id at : ℕ) (f : Follows side d log taken) → ReleasesResponse d new id at → KeepsStages d new → Establishes side log id at
+    → inboxes.Refines side new.inbox log (established_stages side id at f.refines.stage) (untaken_since taken log)
+established-inbox Client log taken d new id at f client server a = client log f.refines.stage (untaken_since taken log) f.refines.inbox (response-staged Client log f.refines.stage id f.refines.fits f.refines.staged a.0) a.1
+established-inbox Server log taken d new id at f client server a = server log f.refines.stage (untaken_since taken log) f.refines.inbox
+
+module _ (side : Side) (log : Log) (taken : ℕ) (d : DriverValue) (f : Follows side d log taken) (r : CallRecord) (a : MayBeCalled side log r) where
   open-before : d.state.is_open ≡ (state_of side log).is_open
   open-before = ap (λ (s : DriverState). s.is_open) f.refines.state_is
 
   -- the record, with what it did
-  pub call-taken : (new : DriverValue) (b : Bool) → inboxes.Refines side new.inbox (Called r ∷ log) (called_stages r f.refines.stage) (untaken_since taken log) → new.state ≡ record (after_call r d.state) { is_open = b }
+  pub call-taken : (new : DriverValue) (b : Bool) → inboxes.Refines side new.inbox (Called r ∷ log) (called_stages side r f.refines.stage) (untaken_since taken log) → new.state ≡ record (after_call r d.state) { is_open = b }
       → b ≡ (state_of side log).is_open → new.queue ≡ called_queue r d.queue → TakenIn side log (Called r) new taken
   call-taken new b x s o q = record {
-    stage = called_stages r f.refines.stage;
+    stage = called_stages side r f.refines.stage;
     inbox = x;
-    fit = called-fits side log f.refines.stage r (is-own side log f.refines.fits) a.can (read-so side log d f.refines.stage r a.half) f.refines.staged;
+    fit = called-fits side log f.refines.stage r (is-own side log f.refines.fits) a.can f.refines.staged;
     state_is = s ∙ (λ i. record (after_call r (f.refines.state_is i)) { is_open = o i });
     queue_is = q ∙ ap (called_queue r) f.refines.queue_is ∙ sym (queue-so r log);
     within = f.within;
@@ -142,7 +152,7 @@ ChangesNothing _ = ⊥
 
 module _ (side : Side) (log : Log) (taken : ℕ) (d : DriverValue) (f : Follows side d log taken) where
   abbrev Asks : CallRecord → Type 0
-  Asks r = MayBeCalled side log d f.refines.stage r
+  Asks r = MayBeCalled side log r
 
   opened : d.state.is_open ≡ (state_of side log).is_open
   opened = ap (λ (s : DriverState). s.is_open) f.refines.state_is
@@ -179,9 +189,13 @@ module _ (side : Side) (log : Log) (taken : ℕ) (d : DriverValue) (f : Follows 
     delivered-taken id e a = subst (λ (v : DriverValue). TakenIn side log (Called (RequestDelivered id)) v taken) (sym e)
         (call-taken side log taken d f (RequestDelivered id) a (with_state d (deliver id d.state)) d.state.is_open (kept (RequestDelivered id) tt) refl opened refl)
 
-    pub established-taken : (id at : ℕ) → new ≡ with_state d (record d.state { session = Some (id, at) }) → Asks (SessionEstablished id at) → TakenIn side log (Called (SessionEstablished id at)) new taken
-    established-taken id at e a = subst (λ (v : DriverValue). TakenIn side log (Called (SessionEstablished id at)) v taken) (sym e)
-        (call-taken side log taken d f (SessionEstablished id at) a (with_state d (record d.state { session = Some (id, at) })) d.state.is_open (kept (SessionEstablished id at) tt) refl opened refl)
+    pub established-taken : (id at : ℕ) → ReleasesResponse d new id at → KeepsStages d new → new.state ≡ record d.state { session = Some (id, at); is_open = new.inbox.transport.is_open } → new.queue ≡ d.queue
+        → Asks (SessionEstablished id at) → TakenIn side log (Called (SessionEstablished id at)) new taken
+    established-taken id at client server s q a =
+        let stage = established_stages side id at f.refines.stage in
+        let x = established-inbox side log taken d new id at f client server a.half in
+        let y = inbox-kept side new.inbox log stage (untaken_since taken log) (SessionEstablished id at) tt x in
+        call-taken side log taken d f (SessionEstablished id at) a new new.inbox.transport.is_open y s (behind (SessionEstablished id at) new.inbox stage y) q
 
     pub accepted-taken : (id : ℕ) → (IsAmong 4 id d.state.unis → IsAmong 1 id d.state.bis → new ≡ with_state d (release id d.state)) → Asks (StreamAccepted id) → TakenIn side log (Called (StreamAccepted id)) new taken
     accepted-taken id e a = subst (λ (v : DriverValue). TakenIn side log (Called (StreamAccepted id)) v taken) (sym (e (first id a.may).unis (first id a.may).bis))
@@ -218,10 +232,10 @@ module _ (side : Side) (log : Log) (taken : ℕ) (d : DriverValue) (f : Follows 
         let e : body_offset (f.refines.stage id) ≡ Some at = read-staged side log f.refines.stage id f.refines.fits f.refines.uses f.refines.staged a.half in
         let z = x at e a.can.1 in
         let w = subst (λ (o : Option ℕ). inboxes.Refines side new.inbox log (with_stage f.refines.stage id (stage_from (read_on count o))) (untaken_since taken log)) (sym e) z in
-        let y = inbox-kept side new.inbox log (called_stages (BytesRead id count) f.refines.stage) (untaken_since taken log) (BytesRead id count) tt w in
-        call-taken side log taken d f (BytesRead id count) a new new.inbox.transport.is_open y s (behind (BytesRead id count) new.inbox (called_stages (BytesRead id count) f.refines.stage) y) q
+        let y = inbox-kept side new.inbox log (called_stages side (BytesRead id count) f.refines.stage) (untaken_since taken log) (BytesRead id count) tt w in
+        call-taken side log taken d f (BytesRead id count) a new new.inbox.transport.is_open y s (behind (BytesRead id count) new.inbox (called_stages side (BytesRead id count) f.refines.stage) y) q
 
-    pub told-taken : (r : CallRecord) → after_call r d.state ≡ d.state → called_queue r d.queue ≡ d.queue → called_stages r f.refines.stage ≡ f.refines.stage → inboxes.Refines side new.inbox (Called r ∷ log) f.refines.stage (untaken_since taken log)
+    pub told-taken : (r : CallRecord) → after_call r d.state ≡ d.state → called_queue r d.queue ≡ d.queue → called_stages side r f.refines.stage ≡ f.refines.stage → inboxes.Refines side new.inbox (Called r ∷ log) f.refines.stage (untaken_since taken log)
         → new.state ≡ record d.state { is_open = new.inbox.transport.is_open } → new.queue ≡ d.queue → Asks r → TakenIn side log (Called r) new taken
     told-taken r same same_queue same_stages x s q a =
         call-taken side log taken d f r a new new.inbox.transport.is_open (subst (λ (z : ℕ → Stage). inboxes.Refines side new.inbox (Called r ∷ log) z (untaken_since taken log)) (sym same_stages) x)
@@ -250,5 +264,5 @@ no-other records.Polled a b c d e f g h i j = tt
 
 -- what is shown of a record's shape holds of the record
 pub of-shape : (side : Side) (log : Log) (taken : ℕ) (d : DriverValue) (stage : ℕ → Stage) (new : DriverValue) (call shape : Record) → call ≡ shape
-    → (MayBeCalled side log d stage (record_of shape) → TakenIn side log (Called (record_of shape)) new taken) → MayBeCalled side log d stage (record_of call) → TakenIn side log (Called (record_of call)) new taken
-of-shape side log taken d stage new call shape e g = subst (λ (x : Record). MayBeCalled side log d stage (record_of x) → TakenIn side log (Called (record_of x)) new taken) (sym e) g
+    → (MayBeCalled side log (record_of shape) → TakenIn side log (Called (record_of shape)) new taken) → MayBeCalled side log (record_of call) → TakenIn side log (Called (record_of call)) new taken
+of-shape side log taken d stage new call shape e g = subst (λ (x : Record). MayBeCalled side log (record_of x) → TakenIn side log (Called (record_of x)) new taken) (sym e) g

@@ -4,7 +4,8 @@ use Rattle.std.proofs.Common.{arith, ◌≡◌, ◌<◌, ◌≤◌, ◌+◌, ◌
 use Rattle.std.specs.Prelude.{Option, Some, None, Result, Ok, Err, drop, is_some, nat_lt, not, ◌==◌, ◌&&◌, ◌||◌}
 use Rattle.std.proofs.lemmas.Bool.{and_parts, lt-ltb, ltb-true}
 use Rattle.wt_driver.proofs.Flushed.{receive-later}
-use Rattle.wt_driver.specs.Flushing.{CanReset, CanStop, MayFlush, SendFacts}
+use Rattle.wt_driver.specs.Flushing.{CanReset, CanStop, MayFlush}
+use Rattle.wt_driver_spec.specs.Asking.{SendFacts}
 use Rattle.wt_driver_spec.proofs.Following.{open-more}
 use Rattle.wt_driver_spec.specs.Step.{with_no_stops}
 use Rattle.wt_wire.specs.declared.error.ErrorCode.TheVariants as h3
@@ -76,7 +77,7 @@ stops-join side log (x ∷ xs) ys c d = (c.0, stops-join side log xs ys c.1 d)
 
 -- ---- a peer's stream can receive
 
-abbrev AllReceive : Side → Log → List ℕ → Type 0
+abbrev pub AllReceive : Side → Log → List ℕ → Type 0
 AllReceive side log [] = Unit {0}
 AllReceive side log (k ∷ ks) = (can_receive side log k ≡ true) × AllReceive side log ks
 
@@ -86,11 +87,11 @@ quarter-of n kind l = omega arith
 kind-of : (n kind : ℕ) → kind < 4 → (4 * n + kind) % 4 ≡ kind
 kind-of n kind l = omega arith
 
-not-bi : (side : Side) → (local_uni side == peer_bi side) ≡ false
+pub not-bi : (side : Side) → (local_uni side == peer_bi side) ≡ false
 not-bi Client = refl
 not-bi Server = refl
 
-not-uni : (side : Side) → (local_uni side == peer_uni side) ≡ false
+pub not-uni : (side : Side) → (local_uni side == peer_uni side) ≡ false
 not-uni Client = refl
 not-uni Server = refl
 
@@ -100,7 +101,7 @@ module _ (side : Side) (log : Log) (kind : ℕ) (low : kind < 4) (peers : (local
       (λ i. nat_lt (quarter-of n kind low i) (peer_count side (all_events_of log) (kind-of n kind low i) + local_count (actions_of log) (kind-of n kind low i)) && not (local_uni side == kind-of n kind low i))
       ∙ (λ i. lt-ltb n (peer_count side (all_events_of log) kind + local_count (actions_of log) kind) (let m = events-among side kind log in omega arith) i && not (peers i))
 
-  ids-receive : (n count : ℕ) → n + count ≤ peer_count side (events_of log) kind → AllReceive side log (stream_ids kind n count)
+  pub ids-receive : (n count : ℕ) → n + count ≤ peer_count side (events_of log) kind → AllReceive side log (stream_ids kind n count)
   ids-receive n zero l = tt
   ids-receive n (suc count) l = (peers-receive n (omega arith), ids-receive (suc n) count (omega arith))
 

@@ -3,7 +3,8 @@ use Rattle.std.proofs.Common.{arith, ◌≡◌, ◌<◌, ◌≤◌, ◌+◌, ◌
 use Rattle.std.specs.Prelude.{Option, Some, None, is_some, min, nat_lt, not, ◌==◌, ◌&&◌, if◌then◌else◌}
 use Rattle.std.proofs.lemmas.Bool.{lt-ltb, ltb-true, and_parts}
 use Rattle.std.proofs.lemmas.List.{drop_more, drop_all}
-use Rattle.wt_driver.specs.Flushing.{CanReset, CanStop, ControlRuns, OpensControl, Sends, SendsControl, local_kind}
+use Rattle.wt_driver.specs.Flushing.{CanReset, CanStop, ControlRuns, OpensControl, Sends, SendsControl}
+use Rattle.wt_seam_spec.specs.Acting.{local_kind}
 use Rattle.wt_driver_spec.proofs.ControlStream.{control-opens, control-sends, take-behind}
 use Rattle.wt_driver_spec.proofs.Following.{open-more}
 use Rattle.wt_inbox.specs.Stage.{Refines, Stage}

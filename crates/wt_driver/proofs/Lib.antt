@@ -7,6 +7,9 @@ pub mod Checks
 pub mod Flushed
 pub mod FlushedWhole
 pub mod FlushFacts
+pub mod AcceptLooks
+pub mod AcceptUses
+pub mod AcceptSteps
 pub mod BiChannelLaws
 pub mod SharedResultLaws
 pub mod StageChecks
@@ -26,3 +29,4 @@ pub mod Calling
 pub mod Acting
 pub mod Beginning
 pub mod Early
+pub mod Answering

@@ -3,28 +3,30 @@ use Rattle.std.proofs.Common.{arith, ◌≡◌, ◌<◌, ℕ, ◌+◌, ◌%◌, 
 use Rattle.std.specs.Prelude.{Option, Some, None, ◌==◌, ◌||◌, ◌&&◌, not, if◌then◌else◌}
 use Rattle.std.specs.List.{list_any}
 use Rattle.std.proofs.lemmas.Bool.{and_parts, eq-eqb, eqb-true, false_from_ne_true, or_parts, true≢false}
+use Rattle.wt_driver.proofs.StageEntries.{IsOwn, client-id, with-fits}
 use Rattle.wt_driver.proofs.StageScans.{AreOf, none-found, verdict-found}
 use Rattle.std.proofs.lemmas.Bool.Decides.{nat_tests}
 use Rattle.wt_driver.proofs.StageTables.{entry-found, is-own, use-session}
 use Rattle.wt_driver.specs.Scanning.{AllAwait}
-use Rattle.wt_driver.specs.Stages.{ClassifiedSays, FirstSays, OfLocalBi, OfLocalUni, StageSays, StagesFit, StreamRole, TableFits, Uses, classified_of, is_sessions, may_give, passes, peer_role, role_by, role_of, use_of}
+use Rattle.wt_driver.specs.Stages.{ClassifiedSays, FirstSays, ResponseSays, StageFits, StageSays, StagesFit, TableFits, peer_role}
+use Rattle.wt_driver_spec.specs.Asking.{AwaitsResponse}
+use Rattle.wt_driver_spec.specs.Uses.{CallUse, ForRequest, OfLocalBi, OfLocalUni, StreamRole, Uses, classified_of, is_sessions, may_give, passes, response_at, role_by, role_of, use_of}
 use Rattle.wt_driver.specs.declared.slot.Half.{Half}
 use Rattle.wt_driver.specs.declared.slot.Half.TheVariants.{Bi, Uni}
 use Rattle.wt_driver_spec.proofs.Following.{sound}
 use Rattle.wt_driver_spec.proofs.StreamIds.{bi-low, kind-is, uni-low}
 use Rattle.wt_driver_spec.specs.DriverState.{Arrived, Dequeued, Held, slot_by, slots}
 use Rattle.wt_driver_spec.specs.Moment.{Fits}
-use Rattle.wt_inbox.specs.Stage.{Stage, awaits_response, body_offset}
+use Rattle.wt_inbox.specs.Stage.{ResponseHead, Stage, awaits_response, body_offset, with_stage}
 use Rattle.wt_proto.specs.declared.verdict.Verdict.{Verdict}
 use Rattle.wt_proto.specs.declared.verdict.Verdict.TheVariants as verdicts
 use Rattle.wt_seam_spec.specs.Streams.{local_uni, peer_bi, peer_count, peer_uni}
-use Rattle.wt_spec.specs.Driver.{established, stream_table, transport_view}
-use Rattle.wt_spec.specs.Halves.{bytes_read, gives_up, has_receiving_half, is_accepted, total_read}
+use Rattle.wt_spec.specs.Driver.{stream_table, transport_view}
+use Rattle.wt_spec.specs.Halves.{gives_up, has_receiving_half, is_accepted, total_read}
 use Rattle.wt_spec.specs.Halves as halves
-use Rattle.wt_spec.specs.Handshake.{Connecting, handshake_state}
 use Rattle.wt_spec.specs.Scan.{bi_ids, has, is_released, uni_ids}
-use Rattle.wt_spec.specs.StreamTable.{CallView, Classified, StreamTable, is_webtransport, verdict_of}
-use Rattle.wt_turn.specs.Log.{BytesRead, CallRecord, Called, ConnectStarted, Entry, HandshakeOver, Log, RequestDelivered, ResponseStarted, SessionEstablished, StreamAccepted, StreamGivenUp, StreamPassed, calls_of, events_of}
+use Rattle.wt_spec.specs.StreamTable.{CallView, Classified, Ending, StreamTable, is_webtransport, verdict_of}
+use Rattle.wt_turn.specs.Log.{BytesRead, CallRecord, Called, Entry, Log, StreamAccepted, StreamGivenUp, StreamPassed, calls_of, events_of}
 use Rattle.wt_wire.specs.declared.side.Side.{Side}
 use Rattle.wt_wire.specs.declared.side.Side.TheVariants.{Client, Server}
 
@@ -193,19 +195,45 @@ read-staged side log stage k fits uses f half =
 
 -- ---- a client's response
 
--- a client that connects can read the response
-connecting : (log : Log) (reserved : Option (List ℕ)) (head : List ℕ) → Uses Client log → handshake_state (calls_of log) ≡ Connecting reserved head → (established (calls_of log) ≡ None) × ((use_of 0 (calls_of log)).is_over ≡ false)
-connecting [] reserved head uses e = absurd cc
-connecting (Called (ConnectStarted r h) ∷ log) reserved head uses e = (uses.0.1, uses.0.2)
-connecting (Called (RequestDelivered id) ∷ log) reserved head uses e = absurd cc
-connecting (Called (ResponseStarted accepts h) ∷ log) reserved head uses e = absurd cc
-connecting (Called (SessionEstablished id at) ∷ log) reserved head uses e = absurd cc
-connecting (Called HandshakeOver ∷ log) reserved head uses e = absurd cc
-connecting (Called _ ∷ log) reserved head uses e = connecting log reserved head uses.1 e
-connecting (_ ∷ log) reserved head uses e = connecting log reserved head uses.1 e
+-- no stream is for a server's request
+no-request : (a b d : Bool) → role_by a b false d ≡ ForRequest → ⊥
+no-request true b d e = absurd cc
+no-request false true d e = absurd cc
+no-request false false true e = absurd cc
+no-request false false false e = absurd cc
 
-pub response-staged : (log : Log) (stage : ℕ → Stage) (reserved : Option (List ℕ)) (head : List ℕ) → Fits Client log → Uses Client log → StagesFit Client log stage → handshake_state (calls_of log) ≡ Connecting reserved head
-    → awaits_response (stage 0) ≡ true
-response-staged log stage reserved head fits uses f e =
-    let c = connecting log reserved head uses e in
-    (rw (is-own Client log fits, use-session 0 (calls_of log) ∙ c.0, c.1) at (f 0))
+-- the stream for a request is never classified
+request-own : (side : Side) (id : ℕ) (cs : List Classified) → IsOwn side cs → role_of side id ≡ ForRequest → classified_of id cs ≡ None
+request-own Client id cs own e = ap (λ (i : ℕ). classified_of i cs) (client-id id 0 None (ap (λ (r : StreamRole). response_at r 0) e)) ∙ own
+request-own Server id cs own e = absurd (no-request (id % 4 == 2) (id % 4 == 0) (id % 4 == 1) e)
+
+-- what is said of the stage of a stream on which a response is awaited
+module _ (role : StreamRole) (done : CallUse) (ending : Option Ending) (o : Option Classified) (stage : Stage) (r : role ≡ ForRequest) (n : o ≡ None) (s : done.session ≡ None) (v : done.is_over ≡ false) where
+  says-awaits : StageSays role done ending o stage → awaits_response stage ≡ true
+  says-awaits f =
+      let a : StageSays ForRequest done ending o stage = subst (λ (x : StreamRole). StageSays x done ending o stage) r f in
+      let b : ResponseSays done.session done.is_over ending stage = subst (λ (x : Option Classified). StageSays ForRequest done ending x stage) n a in
+      let c : ResponseSays None done.is_over ending stage = subst (λ (x : Option (ℕ × ℕ)). ResponseSays x done.is_over ending stage) s b in
+      subst (λ (x : Bool). ResponseSays None x ending stage) v c
+
+  awaits-says : awaits_response stage ≡ true → StageSays role done ending o stage
+  awaits-says f =
+      let c : ResponseSays None done.is_over ending stage = subst (λ (x : Bool). ResponseSays None x ending stage) (sym v) f in
+      let b : ResponseSays done.session done.is_over ending stage = subst (λ (x : Option (ℕ × ℕ)). ResponseSays x done.is_over ending stage) (sym s) c in
+      let a : StageSays ForRequest done ending o stage = subst (λ (x : Option Classified). StageSays ForRequest done ending x stage) (sym n) b in
+      subst (λ (x : StreamRole). StageSays x done ending o stage) (sym r) a
+
+module _ (side : Side) (log : Log) (stage : ℕ → Stage) (id : ℕ) (fits : Fits side log) (f : StagesFit side log stage) (a : AwaitsResponse side log id) where
+  none : classified_of id (stream_table side log).classified ≡ None
+  none = request-own side id (stream_table side log).classified (is-own side log fits) a.role
+
+  -- a response that is awaited can be read
+  pub response-staged : awaits_response (stage id) ≡ true
+  response-staged =
+      says-awaits (role_of side id) (use_of id (calls_of log)) (stream_table side log).progress.ending (classified_of id (stream_table side log).classified) (stage id) a.role none (use-session id (calls_of log) ∙ a.unestablished) a.goes_on (f id)
+
+  -- the stages fit once it is being read
+  pub response-fits : StagesFit side log (with_stage stage id ResponseHead)
+  response-fits =
+      with-fits (StageFits side (calls_of log) (stream_table side log)) stage id ResponseHead (λ k e. f k)
+      (awaits-says (role_of side id) (use_of id (calls_of log)) (stream_table side log).progress.ending (classified_of id (stream_table side log).classified) ResponseHead a.role none (use-session id (calls_of log) ∙ a.unestablished) a.goes_on refl)

@@ -7,7 +7,8 @@ use Rattle.wt_driver.proofs.StageEntries.{IsOwn}
 use Rattle.wt_driver.proofs.StageMoments.{after-bis, after-unis, bis-fit, bis-of, entry-fits, unis-fit, unis-of}
 use Rattle.wt_driver.proofs.StageScans.{verdict-found, verdict_in}
 use Rattle.wt_driver.specs.Scanning.{AllAwait}
-use Rattle.wt_driver.specs.Stages.{CallUse, ClassifiedSays, ForRequest, MayUseBy, ResponseReadBy, StageSays, StagesFit, StreamRole, TableFits, Uses, bi_stages, classified_of, datagram_checked, entry_stages, request_at, response_at, role_of, session_at, session_stages, uni_stages, unless_ended_stage, use_of}
+use Rattle.wt_driver.specs.Stages.{ClassifiedSays, StageSays, StagesFit, TableFits, bi_stages, datagram_checked, entry_stages, session_stages, uni_stages, unless_ended_stage}
+use Rattle.wt_driver_spec.specs.Uses.{CallUse, ForRequest, MayUseBy, StreamRole, Uses, classified_of, request_at, response_at, role_of, session_at, use_of}
 use Rattle.wt_driver.specs.declared.slot.Half.TheVariants.{Bi, Uni}
 use Rattle.wt_driver.proofs.StageTables.{is-own, session-is, use-session}
 use Rattle.wt_driver_spec.proofs.Bounded.{log-bounded, takes-bounded}
@@ -131,6 +132,6 @@ scan-asked side log m stage may can fits uses moment f =
     (subst (λ (x : DriverState). Bounded (begin_scan x)) (sym same) (record { unis = bounded.unis; bis = bounded.bis })) f)
 
 -- It does, where the stages fit before the entry.
-pub entry-asked : (side : Side) (log : Log) (m : Entry) (stage : ℕ → Stage) → MayFollow side log m → MayUseBy side log m → Fits side log → Uses side log → ResponseReadBy side m stage → (is_moment m && is_open (m ∷ log)) ≡ true
-    → StagesFit side log stage → ScanAsks (transport_view side (m ∷ log)) (begin_scan (after_entry (transport_view side log) m (state_of side log))) (entry_stages m stage)
-entry-asked side log m stage may can fits uses read moment f = scan-asked side log m (entry_stages m stage) may can fits uses moment (entry-fits side log stage m (is-own side log fits) can read f)
+pub entry-asked : (side : Side) (log : Log) (m : Entry) (stage : ℕ → Stage) → MayFollow side log m → MayUseBy side log m → Fits side log → Uses side log → (is_moment m && is_open (m ∷ log)) ≡ true
+    → StagesFit side log stage → ScanAsks (transport_view side (m ∷ log)) (begin_scan (after_entry (transport_view side log) m (state_of side log))) (entry_stages side m stage)
+entry-asked side log m stage may can fits uses moment f = scan-asked side log m (entry_stages side m stage) may can fits uses moment (entry-fits side log stage m (is-own side log fits) can f)

@@ -4,7 +4,8 @@ use Rattle.std.specs.Prelude.{Option, Some, None, ◌==◌, ◌&&◌, if◌then�
 use Rattle.std.proofs.lemmas.Bool.{eq-eqb, eqb-true}
 use Rattle.wt_driver.proofs.StageEntries.{IsOwn, client-id, with-fits}
 use Rattle.wt_driver.proofs.StageScans.{verdict_in, verdict-found, weaker-says}
-use Rattle.wt_driver.specs.Stages.{CallUse, ClassifiedSays, ForRequest, StageSays, StreamRole, TableFits, check_stages, classified_of, control_stages, datagram_checked, is_session_over, request_at, response_at, role_of, session_at, session_stage, session_stages, unless_ended_stage, use_of}
+use Rattle.wt_driver.specs.Stages.{ClassifiedSays, StageSays, TableFits, check_stages, control_stages, datagram_checked, is_session_over, session_stage, session_stages, unless_ended_stage}
+use Rattle.wt_driver_spec.specs.Uses.{CallUse, ForRequest, StreamRole, classified_of, request_at, response_at, role_of, session_at, use_of}
 use Rattle.wt_driver_spec.specs.Claims.{IsOnce}
 use Rattle.wt_driver_spec.specs.DriverState.{state_by}
 use Rattle.wt_inbox.specs.Stage.{ControlBody, Stage, session_offset}

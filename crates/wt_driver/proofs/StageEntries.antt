@@ -3,8 +3,9 @@ use Rattle.std.proofs.Common.{arith, ◌%◌, ◌≡◌, ℕ, ◌+◌, Bool, tru
 use Rattle.std.specs.Prelude.{Option, Some, None, ◌==◌, ◌||◌, if◌then◌else◌}
 use Rattle.std.proofs.lemmas.Bool.{eq-eqb, eqb-true}
 use Rattle.wt_driver_spec.proofs.ClassifiedOnce.{turned-round}
-use Rattle.wt_driver.specs.Stages.{BodySays, CallUse, ClassifiedSays, ForRequest, MayUse, ResponseRead, OfLocalBi, ResponseSays, StageFits, StreamRole, StageSays, StagesFit, TableFits, called_stages, classified_of, is_for_application, is_sessions, read_on, response_at, role_by, role_of, session_at, use_of}
-use Rattle.wt_inbox.specs.Stage.{Anywhere, Stage, body_offset, session_offset, stage_from, with_stage}
+use Rattle.wt_driver.specs.Stages.{BodySays, ClassifiedSays, ResponseSays, StageFits, StageSays, StagesFit, TableFits, called_stages, established_stages, read_on}
+use Rattle.wt_driver_spec.specs.Uses.{CallUse, ForRequest, MayUse, OfLocalBi, StreamRole, classified_of, is_for_application, is_sessions, response_at, role_by, role_of, session_at, use_of}
+use Rattle.wt_inbox.specs.Stage.{Anywhere, Body, Stage, body_offset, session_offset, stage_from, with_stage}
 use Rattle.wt_proto.specs.declared.verdict.Verdict.{Verdict}
 use Rattle.wt_proto.specs.declared.verdict.Verdict.TheVariants as verdicts
 use Rattle.wt_spec.specs.Driver.{stream_table}
@@ -115,17 +116,6 @@ module _ (calls : List CallRecord) (table : StreamTable) (stage : ℕ → Stage)
       by true e = subst (λ i. StageFits Client (SessionEstablished id at ∷ calls) table i (stage i)) (sym zero-id ∙ eqb-true id k e) front
       by false e = not-request (k % 4 == 3) (k % 4 == 1) (k == 0) (k % 4 == 0) (use_of k calls) (Some (id, at)) table.progress.ending (classified_of k table.classified) (stage k) (turned-round 0 k (ap (λ i. i == k) (sym zero-id) ∙ e)) (f k e)
 
-  -- its handshake failed
-  pub client-over : ((k : ℕ) → (0 == k) ≡ false → StageFits Client calls table k (stage k)) → (use_of 0 calls).session ≡ None → classified_of 0 table.classified ≡ None → TableFits Client (HandshakeOver ∷ calls) table stage
-  client-over f no-session none k = by (0 == k) refl
-    where
-      front : StageFits Client (HandshakeOver ∷ calls) table 0 (stage 0)
-      front = rw none (rw no-session tt)
-
-      by : (e : Bool) → (0 == k) ≡ e → StageFits Client (HandshakeOver ∷ calls) table k (stage k)
-      by true e = subst (λ i. StageFits Client (HandshakeOver ∷ calls) table i (stage i)) (eqb-true 0 k e) front
-      by false e = over-says (role_of Client k) (use_of k calls) table.progress.ending (classified_of k table.classified) (stage k) (f k e)
-
   server-established : (id at : ℕ) → TableFits Server calls table stage → TableFits Server (SessionEstablished id at ∷ calls) table stage
   server-established id at f k = other-role (k % 4 == 2) (k % 4 == 0) (k % 4 == 1) (use_of k calls) (Some (id, at)) table.progress.ending (classified_of k table.classified) (stage k) (f k)
 
@@ -144,7 +134,7 @@ module _ (side : Side) (log : Log) (table : StreamTable) (stage : ℕ → Stage)
   same-use id k r ne same f = says-so (role_of side k) (use_of k (calls_of log)) (use_of k (r ∷ calls_of log)) table.progress.ending (classified_of k table.classified) (stage k) (sym same) f
 
   read-fits : (id count : ℕ) → is_for_application (role_of side id) (classified_of id table.classified) ≡ true → TableFits side (calls_of log) table stage
-      → TableFits side (BytesRead id count ∷ calls_of log) table (called_stages (BytesRead id count) stage)
+      → TableFits side (BytesRead id count ∷ calls_of log) table (called_stages side (BytesRead id count) stage)
   read-fits id count may f = with-fits (StageFits side (BytesRead id count ∷ calls_of log) table) stage id (stage_from (read_on count (body_offset (stage id)))) (λ k e. same-use id k (BytesRead id count) e (rw e refl) (f k))
       (says-so (role_of side id) _ (use_of id (BytesRead id count ∷ calls_of log)) table.progress.ending (classified_of id table.classified) _ (sym same) (read-says (role_of side id) (use_of id (calls_of log)) count table.progress.ending (classified_of id table.classified) (stage id) may (f id)))
     where
@@ -158,23 +148,23 @@ module _ (side : Side) (log : Log) (table : StreamTable) (stage : ℕ → Stage)
 
 -- a session is established
 established-fits : (side : Side) (calls : List CallRecord) (table : StreamTable) (stage : ℕ → Stage) (id at : ℕ) → IsOwn side table.classified
-    → session_at side (role_of side id) (classified_of id table.classified) at ≡ Some at → ResponseRead side (SessionEstablished id at) stage → TableFits side calls table stage
-    → TableFits side (SessionEstablished id at ∷ calls) table stage
-established-fits Client calls table stage id at own may read f =
+    → session_at side (role_of side id) (classified_of id table.classified) at ≡ Some at → TableFits side calls table stage
+    → TableFits side (SessionEstablished id at ∷ calls) table (established_stages side id at stage)
+established-fits Client calls table stage id at own may f =
     let zero-id = client-id id at (classified_of id table.classified) may in
-    client-established calls table stage id at zero-id (λ k e. f k) read (ap (λ i. classified_of i table.classified) zero-id ∙ own)
-established-fits Server calls table stage id at own may read f = server-established calls table stage id at f
+    client-established calls table (with_stage stage id (Body at)) id at zero-id (λ k e. rw e (f k)) (rw (eq-eqb id id refl) refl) (ap (λ i. classified_of i table.classified) zero-id ∙ own)
+established-fits Server calls table stage id at own may f = server-established calls table stage id at f
 
 pub named-for : (role : StreamRole) (o : Option Classified) → is_sessions o ≡ true → is_for_application role o ≡ true
 named-for role None e = absurd cc
 named-for role (Some c) e = e
 
 -- each call leaves each stream at a stage that fits
-pub called-fits : (side : Side) (log : Log) (stage : ℕ → Stage) (r : CallRecord) → IsOwn side (stream_table side log).classified → MayUse side log r → ResponseRead side r stage → StagesFit side log stage
-    → TableFits side (r ∷ calls_of log) (stream_table side log) (called_stages r stage)
-called-fits side log stage (BytesRead id count) own may read f = read-fits side log (stream_table side log) stage id count may.0 f
-called-fits side log stage (StreamGivenUp id) own may read f = drop-fits side log (stream_table side log) stage id (StreamGivenUp id) may (λ k. refl) f
-called-fits side log stage (StreamPassed id) own may read f = drop-fits side log (stream_table side log) stage id (StreamPassed id) (named-for (role_of side id) (classified_of id (stream_table side log).classified) may.0) (λ k. refl) f
-called-fits side log stage (SessionEstablished id at) own may read f = established-fits side (calls_of log) (stream_table side log) stage id at own may.0 read f
-called-fits side log stage HandshakeOver own may read f = λ k. over-says (role_of side k) (use_of k (calls_of log)) (stream_table side log).progress.ending (classified_of k (stream_table side log).classified) (stage k) (f k)
-called-fits side log stage _ own may read f = f
+pub called-fits : (side : Side) (log : Log) (stage : ℕ → Stage) (r : CallRecord) → IsOwn side (stream_table side log).classified → MayUse side log r → StagesFit side log stage
+    → TableFits side (r ∷ calls_of log) (stream_table side log) (called_stages side r stage)
+called-fits side log stage (BytesRead id count) own may f = read-fits side log (stream_table side log) stage id count may.0 f
+called-fits side log stage (StreamGivenUp id) own may f = drop-fits side log (stream_table side log) stage id (StreamGivenUp id) may (λ k. refl) f
+called-fits side log stage (StreamPassed id) own may f = drop-fits side log (stream_table side log) stage id (StreamPassed id) (named-for (role_of side id) (classified_of id (stream_table side log).classified) may.0) (λ k. refl) f
+called-fits side log stage (SessionEstablished id at) own may f = established-fits side (calls_of log) (stream_table side log) stage id at own may.0 f
+called-fits side log stage HandshakeOver own may f = λ k. over-says (role_of side k) (use_of k (calls_of log)) (stream_table side log).progress.ending (classified_of k (stream_table side log).classified) (stage k) (f k)
+called-fits side log stage _ own may f = f

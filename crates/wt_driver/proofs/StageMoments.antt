@@ -2,16 +2,17 @@
 use Rattle.std.proofs.Common.{◌≡◌, ℕ, zero, suc, arith, ◌+◌, ◌%◌, ◌*◌, Bool, true, false, List, [], ◌∷◌, refl, sym, ap, subst, ◌∙◌}
 use Rattle.std.specs.Prelude.{Some, None, ◌&&◌}
 use Rattle.wt_driver.proofs.StageChecks.{checks-fit}
-use Rattle.wt_driver.proofs.StageEntries.{IsOwn, called-fits, client-established, client-over}
+use Rattle.wt_driver.proofs.StageEntries.{IsOwn, called-fits}
 use Rattle.wt_driver.proofs.StageScans.{AreOf, scan-fits}
 use Rattle.wt_driver.proofs.StageTables.{is-own, session-is, use-session}
-use Rattle.wt_driver.specs.Stages.{ForRequest, MayUseBy, OfLocalBi, OfLocalUni, OfPeerBi, OfPeerUni, RequestOpened, StageSays, StreamRole, no_use, ResponseReadBy, StagesFit, StagesFitBut, TableFits, Uses, bi_stages, check_stages, entry_stages, moment_stages, role_of, scanned_stages, session_at, uni_stages, classified_of, use_of}
+use Rattle.wt_driver.specs.Stages.{StageSays, StagesFit, TableFits, bi_stages, check_stages, entry_stages, moment_stages, scanned_stages, uni_stages}
+use Rattle.wt_driver_spec.specs.Uses.{ForRequest, MayUseBy, OfLocalBi, OfLocalUni, OfPeerBi, OfPeerUni, StreamRole, no_use, Uses, role_of, session_at, classified_of, use_of}
 use Rattle.wt_driver.specs.declared.slot.Half.TheVariants.{Bi, Uni}
 use Rattle.wt_driver_spec.proofs.Following.{Sound, before_scan, open-more, sound, taken-in, untouched-entry}
 use Rattle.wt_driver_spec.proofs.ScanSlots.{Untouched, scan-later, scan-same, scan-slots, slots-same, untouched-later}
 use Rattle.wt_driver_spec.proofs.StreamIds.{apart-ids, bi-low, uni-low}
 use Rattle.wt_driver_spec.specs.Claims.{IsOnce}
-use Rattle.wt_inbox.specs.Stage.{Stage, all_untouched, session_offset, with_stage}
+use Rattle.wt_inbox.specs.Stage.{Stage, all_untouched}
 use Rattle.wt_driver_spec.specs.DriverState.{DriverState, Slot, slots, state_by, state_of}
 use Rattle.wt_driver_spec.specs.Moment.{Fits, MayFollow, is_local, scans}
 use Rattle.wt_driver_spec.specs.Step.{after_entry, scan_bi_slots, scan_uni_slots, with_scanned_bis, with_scanned_unis}
@@ -19,7 +20,7 @@ use Rattle.wt_seam_spec.specs.Streams.{peer_bi, peer_uni}
 use Rattle.wt_spec.specs.Driver.{ControlSent, apply_if, call_view, control_sent, established, flush, is_moment, log_and_flush, pending_actions, stream_table, transport_view}
 use Rattle.wt_spec.specs.Scan.{bi_ids, bi_rule, scan_bis, scan_order, scan_unis, stream_ids, uni_ids, uni_rule, without_stops}
 use Rattle.wt_spec.specs.StreamTable.{CallView, StreamTable, TransportView}
-use Rattle.wt_turn.specs.Log.{CallRecord, Called, Entry, Event, HandshakeOver, Log, ReportedLate, Sent, SessionEstablished, calls_of, is_open, with_actions}
+use Rattle.wt_turn.specs.Log.{CallRecord, Called, Entry, Event, Log, ReportedLate, Sent, calls_of, is_open, with_actions}
 use Rattle.wt_turn.specs.declared.action.Action.{Action}
 use Rattle.wt_wire.specs.declared.side.Side.{Side}
 use Rattle.wt_wire.specs.declared.side.Side.TheVariants.{Client, Server}
@@ -101,10 +102,10 @@ module _ (t : TransportView) (d : CallView) (sent : ControlSent) (open_ : Bool) 
 -- ---- each entry
 
 -- an entry leaves what is known of the calls to a stream, and its stages fit the table before its scan
-pub entry-fits : (side : Side) (log : Log) (stage : ℕ → Stage) (m : Entry) → IsOwn side (stream_table side log).classified → MayUseBy side log m → ResponseReadBy side m stage → StagesFit side log stage
-    → TableFits side (calls_of (m ∷ log)) (stream_table side log) (entry_stages m stage)
-entry-fits side log stage (Called r) own may read f = called-fits side log stage r own may read f
-entry-fits side log stage _ own may read f = f
+pub entry-fits : (side : Side) (log : Log) (stage : ℕ → Stage) (m : Entry) → IsOwn side (stream_table side log).classified → MayUseBy side log m → StagesFit side log stage
+    → TableFits side (calls_of (m ∷ log)) (stream_table side log) (entry_stages side m stage)
+entry-fits side log stage (Called r) own may f = called-fits side log stage r own may f
+entry-fits side log stage _ own may f = f
 
 -- the scan of a moment, where it is one
 scanned-where : (b : Bool) (side : Side) (log : Log) (m : Entry) (stage : ℕ → Stage) → Untouched (is_local side) (call_view (m ∷ log)) (stream_table side log)
@@ -136,9 +137,9 @@ scan-staged side log m stage may can fits uses f =
     (is-own side (m ∷ log) (may, fits)) (sound side (m ∷ log) (may, fits)).once (λ x e. session-is side (m ∷ log) x (can, uses) e) f)
 
 -- each entry, with its scan, leaves each stream at a stage that fits
-pub entry-staged : (side : Side) (log : Log) (m : Entry) (stage : ℕ → Stage) → MayFollow side log m → MayUseBy side log m → Fits side log → Uses side log → ResponseReadBy side m stage → StagesFit side log stage
+pub entry-staged : (side : Side) (log : Log) (m : Entry) (stage : ℕ → Stage) → MayFollow side log m → MayUseBy side log m → Fits side log → Uses side log → StagesFit side log stage
     → StagesFit side (m ∷ log) (moment_stages (transport_view side log) (transport_view side (m ∷ log)) m (state_of side log) stage)
-entry-staged side log m stage may can fits uses read f = scan-staged side log m (entry_stages m stage) may can fits uses (entry-fits side log stage m (is-own side log fits) can read f)
+entry-staged side log m stage may can fits uses f = scan-staged side log m (entry_stages side m stage) may can fits uses (entry-fits side log stage m (is-own side log fits) can f)
 
 -- ---- what goes out
 
@@ -166,10 +167,10 @@ flush-staged side log m stage f = by (is_moment m && is_open (m ∷ log))
     by false = f
 
 -- A whole moment leads from stages that fit to stages that fit.
-pub moment-staged : (side : Side) (log : Log) (m : Entry) (stage : ℕ → Stage) → MayFollow side log m → MayUseBy side log m → Fits side log → Uses side log → ResponseReadBy side m stage → StagesFit side log stage
+pub moment-staged : (side : Side) (log : Log) (m : Entry) (stage : ℕ → Stage) → MayFollow side log m → MayUseBy side log m → Fits side log → Uses side log → StagesFit side log stage
     → StagesFit side (log_and_flush side log m) (moment_stages (transport_view side log) (transport_view side (m ∷ log)) m (state_of side log) stage)
-moment-staged side log m stage may can fits uses read f =
-    flush-staged side log m (moment_stages (transport_view side log) (transport_view side (m ∷ log)) m (state_of side log) stage) (entry-staged side log m stage may can fits uses read f)
+moment-staged side log m stage may can fits uses f =
+    flush-staged side log m (moment_stages (transport_view side log) (transport_view side (m ∷ log)) m (state_of side log) stage) (entry-staged side log m stage may can fits uses f)
 
 -- ---- what may follow, behind a moment
 
@@ -198,34 +199,3 @@ start-says OfLocalUni = tt
 pub start-staged : (side : Side) → StagesFit side [] all_untouched
 unfolding stream_table
 start-staged side k = start-says (role_of side k)
-
--- ---- a client reads the response before its record
-
--- one stream may be at any stage, where it alone isn't asked
-pub but-with : (side : Side) (log : Log) (stage : ℕ → Stage) (id : ℕ) (to : Stage) → StagesFitBut id side log stage → StagesFitBut id side log (with_stage stage id to)
-but-with side log stage id to f k ne = rw ne (f k ne)
-
-pub but-one : (side : Side) (log : Log) (stage : ℕ → Stage) (id : ℕ) → StagesFit side log stage → StagesFitBut id side log stage
-but-one side log stage id f k ne = f k
-
-pub out-but : (side : Side) (log : Log) (a : Action) (stage : ℕ → Stage) (id : ℕ) → StagesFitBut id side log stage → StagesFitBut id side (Sent a ∷ log) stage
-unfolding stream_table
-out-but side log a stage id f = f
-
-pub actions-but : (side : Side) (acts : List Action) (log : Log) (stage : ℕ → Stage) (id : ℕ) → StagesFitBut id side log stage → StagesFitBut id side (with_actions acts log) stage
-actions-but side [] log stage id f = f
-actions-but side (a ∷ later) log stage id f = actions-but side later (Sent a ∷ log) stage id (out-but side log a stage id f)
-
--- its session is established: the stream is read behind the response
-pub established-staged : (log : Log) (stage : ℕ → Stage) (at : ℕ) → Fits Client log → Uses Client log → RequestOpened Client log → StagesFitBut 0 Client log stage → session_offset (stage 0) ≡ Some at
-    → StagesFit Client (log_and_flush Client log (Called (SessionEstablished 0 at))) (moment_stages (transport_view Client log) (transport_view Client (Called (SessionEstablished 0 at) ∷ log)) (Called (SessionEstablished 0 at)) (state_of Client log) stage)
-established-staged log stage at fits uses opened f read =
-    flush-staged Client log (Called (SessionEstablished 0 at)) _
-    (scan-staged Client log (Called (SessionEstablished 0 at)) stage tt (refl, opened) fits uses (client-established (calls_of log) (stream_table Client log) stage 0 at refl f read (is-own Client log fits)))
-
--- its handshake failed: nothing is asked of the stream any more
-pub over-staged : (log : Log) (stage : ℕ → Stage) → Fits Client log → Uses Client log → StagesFitBut 0 Client log stage → established (calls_of log) ≡ None
-    → StagesFit Client (log_and_flush Client log (Called HandshakeOver)) (moment_stages (transport_view Client log) (transport_view Client (Called HandshakeOver ∷ log)) (Called HandshakeOver) (state_of Client log) stage)
-over-staged log stage fits uses f none =
-    flush-staged Client log (Called HandshakeOver) _
-    (scan-staged Client log (Called HandshakeOver) stage tt tt fits uses (client-over (calls_of log) (stream_table Client log) stage f (use-session 0 (calls_of log) ∙ none) (is-own Client log fits)))

@@ -3,7 +3,7 @@ use Rattle.std.proofs.Common.{arith, ◌≡◌, ℕ, Bool, true, false, List, []
 use Rattle.std.specs.Prelude.{Option, Some, None, ◌||◌, ◌&&◌, nat_lt}
 use Rattle.wt_driver.proofs.StageEntries.{IsOwn}
 use Rattle.wt_driver.proofs.StageScans.{none-found, stays-found}
-use Rattle.wt_driver.specs.Stages.{Uses, classified_of, queued_at, role_of, session_at, use_of}
+use Rattle.wt_driver_spec.specs.Uses.{Uses, classified_of, queued_at, role_of, session_at, use_of}
 use Rattle.wt_driver_spec.proofs.Following.{sound}
 use Rattle.wt_driver_spec.proofs.StreamIds.{kinds-miss}
 use Rattle.wt_driver_spec.specs.Moment.{Fits}

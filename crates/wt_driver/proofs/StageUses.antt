@@ -7,7 +7,7 @@ use Rattle.wt_driver.proofs.StageAnswers.{accepted-given, local-bi-role, own-unc
 use Rattle.wt_driver.proofs.StageEntries.{named-for}
 use Rattle.wt_driver.proofs.StageScans.{verdict-found, verdict_in}
 use Rattle.wt_driver.proofs.StageTables.{entry-found}
-use Rattle.wt_driver.specs.Stages.{MayUse, OfLocalBi, OfLocalUni, RequestOpened, StreamRole, Uses, classified_of, is_for_application, is_sessions, may_give, passes, queued_at, request_at, role_of}
+use Rattle.wt_driver_spec.specs.Uses.{MayUse, OfLocalBi, OfLocalUni, RequestOpened, StreamRole, Uses, classified_of, is_for_application, is_sessions, may_give, passes, queued_at, request_at, role_of}
 use Rattle.wt_driver_spec.proofs.ClassifiedOnce.{In, found-in, only-in}
 use Rattle.wt_driver_spec.proofs.Following.{sound}
 use Rattle.wt_driver_spec.specs.Claims.{IsOnce}

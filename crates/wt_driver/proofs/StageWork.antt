@@ -7,7 +7,8 @@ use Rattle.wt_driver.proofs.StageMoments.{actions-staged, actions-use, scan-stag
 use Rattle.wt_driver.proofs.StageUses.{calls-with}
 use Rattle.wt_driver.specs.DriverValue.{DriverValue, without_first}
 use Rattle.wt_driver.specs.Moving.{HasDatagram, Moves, front_of}
-use Rattle.wt_driver.specs.Stages.{MayUseBy, StagesFit, TableFits, Uses, scanned_stages}
+use Rattle.wt_driver.specs.Stages.{StagesFit, TableFits, scanned_stages}
+use Rattle.wt_driver_spec.specs.Uses.{MayUseBy, Uses}
 use Rattle.wt_driver.specs.Tie.{Refines, unsettled}
 use Rattle.wt_driver_spec.proofs.Following.{actions-fit, entry-followed, events-with, open-more, scanned-out, sound, taken-in}
 use Rattle.wt_driver_spec.proofs.RestMoments.{flushed-state}
@@ -26,14 +27,14 @@ use Rattle.wt_turn.specs.declared.action.Action.{Action}
 use Rattle.wt_wire.specs.declared.side.Side.{Side}
 
 -- the first of what is left behind so many
-slice-front : (xs : List (List ℕ)) (n : ℕ) → slice_get xs n ≡ front_of (drop n xs)
+pub slice-front : (xs : List (List ℕ)) (n : ℕ) → slice_get xs n ≡ front_of (drop n xs)
 slice-front [] zero = refl
 slice-front [] (suc n) = refl
 slice-front (x ∷ xs) zero = refl
 slice-front (x ∷ xs) (suc n) = slice-front xs n
 
 -- actions settle no datagram
-unsettled-with : (acts : List Action) (log : Log) → unsettled (with_actions acts log) ≡ unsettled log
+pub unsettled-with : (acts : List Action) (log : Log) → unsettled (with_actions acts log) ≡ unsettled log
 unsettled-with acts log = λ i. drop (settled_datagrams (calls-with acts log i)) (datagrams_of (events-with acts log i))
 
 -- ---- the datagrams that wait

@@ -9,8 +9,8 @@ use Rattle.wt_driver.proofs.StageMoments.{late-staged}
 use Rattle.wt_driver.proofs.StageWork.{datagram-waits}
 use Rattle.wt_driver.specs.Arriving.{EventTaken, arrived, event_of, is_call}
 use Rattle.wt_driver.specs.DriverValue.{DriverValue, with_state}
-use Rattle.wt_driver.specs.Flushing.{SendFacts}
-use Rattle.wt_driver.specs.Stages.{Uses}
+use Rattle.wt_driver_spec.specs.Asking.{SendFacts}
+use Rattle.wt_driver_spec.specs.Uses.{Uses}
 use Rattle.wt_driver.specs.Tie.{Follows, TakenIn, unsettled, untaken_since}
 use Rattle.wt_driver_spec.proofs.Following.{open-more}
 use Rattle.wt_driver_spec.proofs.RestMoments.{late-followed, open-says}

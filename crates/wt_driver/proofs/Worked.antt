@@ -6,10 +6,12 @@ use Rattle.wt_driver.proofs.FlushFacts.{may_flush}
 use Rattle.wt_driver.proofs.StageSteps.{may-scan}
 use Rattle.wt_driver.proofs.StageWork.{idle-refines, work-asks, work-datagram, work-refines}
 use Rattle.wt_driver.specs.DriverValue.{DriverValue}
-use Rattle.wt_driver.specs.Flushing.{Flushes, MayFlush, SendFacts}
+use Rattle.wt_driver.specs.Flushing.{Flushes, MayFlush}
+use Rattle.wt_driver_spec.specs.Asking.{SendFacts}
 use Rattle.wt_driver.specs.Moving.{HasDatagram, MayScan, Moves}
 use Rattle.wt_driver.specs.Stages.{scanned_stages}
-use Rattle.wt_driver.specs.Tie.{Follows, Refines, SendsWhileOpen, TakenIn, untaken_since}
+use Rattle.wt_driver.specs.Tie.{Follows, Refines, TakenIn, untaken_since}
+use Rattle.wt_driver_spec.specs.Asking.{SendsWhileOpen}
 use Rattle.wt_driver_spec.proofs.Following.{entry-followed, scanned-out, sound}
 use Rattle.wt_driver_spec.proofs.RestMoments.{flushed-state, moment-rests-open, open-says, still-open}
 use Rattle.wt_driver_spec.proofs.Sending.{sent_at_once}
@@ -17,7 +19,6 @@ use Rattle.wt_driver_spec.specs.AtOnce.{control_flushed, flushed}
 use Rattle.wt_driver_spec.specs.DriverState.{DriverState, state_of}
 use Rattle.wt_driver_spec.specs.Step.{scan_state, step_actions}
 use Rattle.wt_inbox.specs.Stage as inboxes
-use Rattle.wt_inbox.specs.Stage.{Stage}
 use Rattle.wt_message.specs.FixedBytes.{local_control_bytes}
 use Rattle.wt_seam.specs.State.{TransportState}
 use Rattle.wt_seam_spec.specs.Joined.{newest_first, send_of}

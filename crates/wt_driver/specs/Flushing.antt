@@ -1,19 +1,16 @@
 -- What goes out at a moment and for a call, and under which conditions it may.
-use Rattle.std.specs.Prelude.{◌≡◌, [], ◌∷◌, Bool, List, Option, Some, false, if◌then◌else◌, is_some, true, ℕ}
+use Rattle.std.specs.Prelude.{◌≡◌, [], ◌∷◌, Bool, List, Option, Some, false, is_some, true, ℕ}
 use Rattle.wt_driver_spec.specs.AtOnce.{control_flushed}
 use Rattle.wt_inbox.specs.Stage.{Refines, Stage}
 use Rattle.wt_inbox.specs.State.{InboxState}
 use Rattle.wt_seam_spec.specs.Joined.{newest_first}
-use Rattle.wt_seam_spec.specs.Outgoing.{may_send, opened_id, sending}
 use Rattle.wt_seam_spec.specs.Reports.{stop_of}
 use Rattle.wt_seam_spec.specs.Sent.{is_finished, is_reset}
-use Rattle.wt_seam_spec.specs.Streams.{can_receive, can_send, local_bi, local_uni}
-use Rattle.wt_spec.specs.Driver.{ControlSent, control_actions, control_sent, established, session_id, transport_view}
+use Rattle.wt_seam_spec.specs.Streams.{can_receive, can_send, local_uni}
+use Rattle.wt_spec.specs.Driver.{ControlSent, control_actions, control_sent, session_id, transport_view}
 use Rattle.wt_spec.specs.StreamTable.{BySession, Ending, Progress, Stopped}
-use Rattle.wt_turn.specs.Log.{Log, Sent, actions_of, calls_of, events_of, is_open, with_actions}
+use Rattle.wt_turn.specs.Log.{Log, actions_of, events_of, with_actions}
 use Rattle.wt_turn.specs.declared.action.Action.{Action}
-use Rattle.wt_turn.specs.declared.action.Action.TheVariants as actions
-use Rattle.wt_wire.specs.Ids.{is_bidirectional}
 use Rattle.wt_wire.specs.declared.side.Side.{Side}
 
 -- ---- at a moment
@@ -59,33 +56,3 @@ pub record SendsControl (side : Side) (log : Log) (stage : ℕ → Stage) (untak
 pub record Flushes (side : Side) (log : Log) (stage : ℕ → Stage) (untaken : List Action) (acts : List Action) (x : InboxState) (own : ControlSent) : Type 0 where
   pub inbox : Refines side x (with_actions acts log) stage (newest_first acts untaken)
   pub control_is : own ≡ control_flushed (transport_view side log).may_open (transport_view side log).credit (control_sent side log)
-
--- What lets a driver send, of a log: this end's control stream isn't finished or reset, and the session's stream has a
--- sending half.
-pub record SendFacts (side : Side) (log : Log) : Type 0 where
-  pub unfinished : is_finished (actions_of log) (local_uni side) ≡ false
-  pub unreset : is_reset log (local_uni side) ≡ false
-  pub session : (s : ℕ × ℕ) → established (calls_of log) ≡ Some s → can_send side log s.0 ≡ true
-
--- ---- for a call
-
--- the kind of this end's streams that has the id's direction
-abbrev pub local_kind : Side → ℕ → ℕ
-local_kind side id = if is_bidirectional id then local_bi side else local_uni side
-
--- An action of a call may go out: the connection is open, the stream has the half that it is about, an opened stream is
--- the next one, and credit is left for all that is sent.
-abbrev pub MayAct : Side → Log → Action → Type 0
-MayAct side log (actions.Dial address name) = is_open log ≡ true
-MayAct side log (actions.Opened id) = opened_id side log (local_kind side id) ≡ Some id
-MayAct side log (actions.Send id piece) = (may_send side log id ≡ true) × (sending log id piece ≡ actions.Send id piece ∷ [])
-MayAct side log (actions.Finish id) = may_send side log id ≡ true
-MayAct side log (actions.ResetOut id code) = (is_open log ≡ true) × (can_send side log id ≡ true)
-MayAct side log (actions.StopOut id code) = (is_open log ≡ true) × (can_receive side log id ≡ true)
-MayAct side log (actions.DatagramOut piece) = is_open log ≡ true
-MayAct side log (actions.Close code reason) = is_open log ≡ true
-
--- each of these actions may go out after those before it
-abbrev pub MayActAll : Side → Log → List Action → Type 0
-MayActAll side log [] = Unit {0}
-MayActAll side log (a ∷ later) = MayAct side log a × MayActAll side (Sent a ∷ log) later

@@ -3,8 +3,8 @@ pub mod Poll
 pub mod SharedResult
 pub mod Places
 pub mod Found
+pub mod Given
 pub mod Rules
-pub mod Records
 pub mod Scanning
 pub mod Stages
 pub mod Moving

@@ -1,8 +1,19 @@
--- How the ending of a connection is told by a driver.
-use Rattle.std.specs.Prelude.{Bool, None, Option, Some, false, true}
-use Rattle.wt_spec.specs.StreamTable.{ByFault, BySession, Ending}
+-- How a driver tells the ending of the connection, the peer's SETTINGS and the request that is queued.
+use Rattle.std.specs.Borrow.{Bor}
+use Rattle.std.specs.Prelude.{[], ◌∷◌, ◌&&◌, Bool, Err, List, None, Ok, Option, Result, Some, false, if◌then◌else◌, not, true, ℕ}
+use Rattle.wt_driver.specs.DriverValue.{DriverValue}
+use Rattle.wt_driver_spec.specs.DriverState.{DriverState}
+use Rattle.wt_message.specs.declared.settings.Settings.{Settings}
+use Rattle.wt_proto.specs.declared.verdict.Verdict.{Verdict}
+use Rattle.wt_proto.specs.declared.verdict.Verdict.TheVariants as verdicts
+use Rattle.wt_spec.specs.StreamTable.{ByFault, BySession, Classified, Ending}
 use Rattle.wt_turn.specs.declared.driver_error.DriverError.{DriverError}
 use Rattle.wt_turn.specs.declared.driver_error.DriverError.TheVariants as errors
+use Rattle.wt_turn.specs.declared.poll.Poll.{Poll}
+use Rattle.wt_turn.specs.declared.poll.Poll.TheVariants.{Pending, Ready}
+use Rattle.wt_wire.specs.HeaderList.{Fields}
+
+-- ---- the ending
 
 -- the driver's own ending, and without one that it isn't connected
 abbrev pub error_of : Option Ending → DriverError
@@ -14,3 +25,36 @@ error_of (Some (BySession code reason by_capsule)) = errors.ApplicationClosed (r
 abbrev pub result_of : Bool → Option Ending → Option DriverError
 result_of true ending = None
 result_of false ending = Some (error_of ending)
+
+-- ---- the peer's SETTINGS
+
+-- they are due where they came and weren't given
+abbrev pub due_settings : DriverValue → Option Settings
+due_settings d = if d.state.progress.settings && not d.has_given_settings then d.settings else None
+
+-- the SETTINGS that are due, else the result, and without one that nothing is there yet
+abbrev pub settings_or : Option Settings → Option DriverError → Poll (Result Settings DriverError)
+settings_or (Some settings) end = Ready (Ok settings)
+settings_or None (Some error) = Ready (Err error)
+settings_or None None = Pending
+
+-- ---- the request that is queued
+
+-- the queued requests, once SETTINGS came
+abbrev pub requests_now : DriverState → List Classified
+requests_now s = if s.progress.settings then s.dispatched.requests else []
+
+-- what is told of a request: its stream, its fields, and the offset behind it
+abbrev pub request_as : Option (ℕ × Bor Fields × ℕ) → Option (ℕ × Fields × ℕ)
+request_as None = None
+request_as (Some told) = Some (told.0, told.1.now, told.2)
+
+-- the request that a verdict says of a stream
+abbrev pub request_in : ℕ → Verdict → Option (ℕ × Fields × ℕ)
+request_in id (verdicts.Request fields at) = Some (id, fields, at)
+request_in id _ = None
+
+-- the first request among these streams
+abbrev pub first_request : List Classified → Option (ℕ × Fields × ℕ)
+first_request [] = None
+first_request (c ∷ later) = request_in c.id c.verdict

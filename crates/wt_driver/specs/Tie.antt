@@ -1,8 +1,9 @@
 -- Which logs a driver refines.
 use Rattle.std.specs.Prelude.{◌-◌, ◌≡◌, ◌≤◌, ◌∷◌, List, drop, length, take, true, ℕ}
 use Rattle.wt_driver.specs.DriverValue.{DriverValue}
-use Rattle.wt_driver.specs.Flushing.{SendFacts}
-use Rattle.wt_driver.specs.Stages.{MayUseBy, StagesFit, TableFits, Uses}
+use Rattle.wt_driver_spec.specs.Asking.{SendsWhileOpen}
+use Rattle.wt_driver.specs.Stages.{StagesFit, TableFits}
+use Rattle.wt_driver_spec.specs.Uses.{MayUseBy, Uses}
 use Rattle.wt_driver_spec.specs.DriverState.{state_of}
 use Rattle.wt_driver_spec.specs.Moment.{Fits, MayFollow}
 use Rattle.wt_driver_spec.specs.Rest.{RestsWhileOpen}
@@ -11,7 +12,7 @@ use Rattle.wt_inbox.specs.Stage as inboxes
 use Rattle.wt_inbox.specs.Stage.{Stage}
 use Rattle.wt_seam_spec.specs.Reports.{datagrams_of}
 use Rattle.wt_spec.specs.Driver.{is_moment, settled_datagrams, stream_table, transport_view}
-use Rattle.wt_turn.specs.Log.{Entry, Log, actions_of, calls_of, events_of, is_open}
+use Rattle.wt_turn.specs.Log.{Entry, Log, actions_of, calls_of, events_of}
 use Rattle.wt_turn.specs.declared.action.Action.{Action}
 use Rattle.wt_wire.specs.declared.side.Side.{Side}
 
@@ -33,10 +34,6 @@ pub record Refines (side : Side) (d : DriverValue) (log : Log) (untaken : List A
 -- the actions of the log that weren't taken yet, the newest first, where so many were taken
 abbrev pub untaken_since : ℕ → Log → List Action
 untaken_since taken log = take (length (actions_of log) - taken) (actions_of log)
-
--- what lets a driver send, as long as the connection is open
-abbrev pub SendsWhileOpen : Side → Log → Type 0
-SendsWhileOpen side log = is_open log ≡ true → SendFacts side log
 
 -- A driver follows a log, of which so many actions were taken: it refines it, with the other ones not taken yet, and where
 -- the connection is open all is at rest, and the driver may send.

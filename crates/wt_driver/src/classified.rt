@@ -1,12 +1,14 @@
 //! A stream with its verdict, and what it leads to that the verdict is known.
 ghost use Rattle.std.specs.Prelude.{◌≡◌, Some, false};
 ghost use Rattle.wt_proto.specs.Uni.{is_final};
+ghost use Rattle.wt_driver.specs.Results.{request_as, request_in};
 ghost use Rattle.wt_driver.specs.Scanning.{is_given_up};
 ghost use Rattle.wt_spec.specs.Connection.{is_for_session};
 ghost use Rattle.wt_spec.specs.Scan.{is_released};
 ghost use Rattle.wt_spec.specs.StreamTable.{faulty, none_of_it, stopped_with};
 
 use std::marker::Model;
+use wt_proto::session::SessionRequest;
 use wt_proto::verdict::Verdict;
 use wt_wire::error::ErrorCode;
 use wt_wire::ids::{SessionId, StreamId};
@@ -26,6 +28,18 @@ impl Model for Classified {
     ghost Value = { Classified };
 
     ghost view = { λ c. record { id = c.id; verdict = c.verdict; surplus = c.surplus } };
+}
+
+impl Classified {
+    /// The request that the verdict says: its stream, the request, and the offset behind it.
+    pub fn request(&self) -> Option<(StreamId, &SessionRequest, usize)>
+        ensures { request_as result ≡ request_in self.now.id self.now.verdict }
+    {
+        match &self.verdict {
+            Verdict::Request(request, at) => Some((self.id, request, *at)),
+            _ => None,
+        }
+    }
 }
 
 /// A receiving half that is stopped, with this code.

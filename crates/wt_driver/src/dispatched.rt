@@ -1,6 +1,7 @@
 //! The classified streams by their use.
 ghost use Rattle.std.specs.Prelude.{◌≡◌, ◌++◌, ◌∷◌, [], None, Some, OnOk, not};
 ghost use Rattle.wt_driver.specs.Found.{due_as};
+ghost use Rattle.wt_driver.specs.Results.{first_request, request_as};
 ghost use Rattle.wt_driver.specs.Rules.{consequence_of};
 ghost use Rattle.wt_driver_spec.specs.Due.{due_stream};
 ghost use Rattle.wt_driver_spec.specs.Step.{dispatch, is_other};
@@ -11,6 +12,7 @@ use crate::classified::{Classified, Consequence, is_for_session};
 use crate::slot::Half;
 use std::alloc::Global;
 use std::marker::Model;
+use wt_proto::session::SessionRequest;
 use wt_proto::verdict::Verdict;
 use wt_wire::error::{ErrorCode, OutOfMemory};
 use wt_wire::ids::{SessionId, StreamId};
@@ -120,11 +122,14 @@ impl DispatchedStreams {
         self.decoder
     }
 
-    /// The queued requests.
-    pub fn requests(&self) -> &[Classified]
-        ensures { result.now ≡ self.now.requests }
+    /// The first queued request: its stream, the request, and the offset behind it.
+    pub fn first_request(&self) -> Option<(StreamId, &SessionRequest, usize)>
+        ensures { request_as result ≡ first_request self.now.requests }
     {
-        self.requests.as_slice()
+        match self.requests.as_slice() {
+            [first, ..] => first.request(),
+            [] => None,
+        }
     }
 
     /// What follows from the verdict of a unidirectional stream.

@@ -10,7 +10,6 @@ pub mod driver;
 pub mod ending;
 pub mod laws;
 pub mod progress;
-pub mod record;
 pub mod scan;
 pub mod shared_result;
 pub mod slot;

@@ -6,3 +6,5 @@ pub mod Bounds
 pub mod AtOnce
 pub mod Rest
 pub mod Claims
+pub mod Uses
+pub mod Asking

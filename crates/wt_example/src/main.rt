@@ -1,24 +1,38 @@
 //! The README's example: a server's connection takes its first turn.
 //!
-//! [`Core::turn`] requires that the turn is lawful and built, so the prover refuses a call of it
-//! where that isn't known.
+//! [`Core::turn`] requires that the turn is lawful, so the prover refuses a call of it where
+//! that isn't known.
 #![tactic(auto)]
 
 use anyhow::Result;
+use std::alloc::Global;
 use wt_core::Core;
-use wt_turn::{DatagramFact, Turn};
+use wt_turn::{Answer, DatagramFact, Turn};
+use wt_wire::error::OutOfMemory;
 use wt_wire::side::Side;
 
-fn main(rt: HostRuntime) -> Result<()> {
-    let mut core = Core::new(rt.alloc(), Side::Server)?;
+/// The answer to a turn, where it may come.
+fn answer(core: &mut Core, turn: &Turn) -> Result<Option<Answer>, OutOfMemory> {
+    if core.is_lawful(turn) {
+        return Ok(Some(core.turn(turn)?));
+    }
+    Ok(None)
+}
+
+/// The answer of a server's connection to its first turn.
+fn first_answer(alloc: Global) -> Result<Option<Answer>, OutOfMemory> {
+    let mut core = Core::new(alloc, Side::Server)?;
     let turn = Turn::Connected {
         uni: 9,
         bi: 9,
         credit: 1000,
         datagrams: DatagramFact::Limit(1200),
     };
-    if core.is_lawful(&turn) && core.is_built(&turn) {
-        let answer = core.turn(&turn)?;
+    answer(&mut core, &turn)
+}
+
+fn main(rt: HostRuntime) -> Result<()> {
+    if let Some(answer) = first_answer(rt.alloc())? {
         println!(rt; "{answer:?}")?;
     }
     Ok(())

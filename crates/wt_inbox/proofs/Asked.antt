@@ -1,6 +1,6 @@
 -- What asking and releasing leave of every stream's answers.
 use Rattle.std.proofs.Common.{◌≡◌, ℕ, Bool, false, List, None, refl, ap, ◌∙◌}
-use Rattle.std.specs.Prelude.{is_some, ◌==◌}
+use Rattle.std.specs.Prelude.{Err, IfOk, Ok, OnOk, Result, is_some, ◌==◌}
 use Rattle.wt_wire.specs.declared.side.StreamEnd.{StreamEnd}
 use Rattle.wt_wire.specs.declared.side.StreamEnd.TheVariants.{Running}
 use Rattle.wt_proto.specs.declared.walk.Step.{Step}
@@ -24,6 +24,18 @@ use Rattle.wt_inbox.specs.State.{InboxState, SameAt, bi_verdict_now, control_now
 use Rattle.wt_inbox.specs.Moves.{BiPulled, BiTaken, ControlPulled, ResponsePulled, ResponseTaken, SameReaders, SessionPulled, SessionTaken, UniPulled, UniTaken}
 use Rattle.wt_inbox.proofs.QuietLaws.{same_end}
 use Rattle.wt_inbox.proofs.Reaching.{answered, asked-by, asked-same}
+
+-- ---- answers
+
+-- what holds anyway holds on success
+pub on-ok : {T E P : Type 0} (r : Result T E) → P → OnOk r P
+on-ok (Ok x) p = p
+on-ok (Err e) p = tt
+
+-- what holds of an answer
+pub if-ok : {T E : Type 0} {P Q : T → Type 0} (r : Result T E) → ((x : T) → P x → Q x) → IfOk r P → IfOk r Q
+if-ok (Ok x) f p = f x p
+if-ok (Err e) f p = tt
 
 -- ---- the readers of other streams
 

@@ -1,3 +1,4 @@
+pub mod Copied
 pub mod Streams
 pub mod Consuming
 pub mod ReadOn

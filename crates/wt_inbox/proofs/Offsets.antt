@@ -31,7 +31,8 @@ use Rattle.wt_proto.proofs.FrameLaws.{chosen_by}
 use Rattle.wt_proto.proofs.UniReading.{uni_lawful}
 use Rattle.wt_proto.proofs.BiReading.{bi_lawful}
 use Rattle.wt_proto.proofs.ResponseReading.{response_lawful}
-use Rattle.wt_inbox.specs.Stage.{verdict_offset, response_offset}
+use Rattle.wt_inbox.specs.Stage.{verdict_offset}
+use Rattle.wt_proto.specs.ResponseWalk.{response_offset}
 
 -- an outcome with an offset: it is within the bytes, and the bytes up to it make the outcome final
 pub record IsOffset {O : Type 0} (final : O → Bool) (outcome_of : List ℕ → StreamEnd → O) (offset : O → Option ℕ) : Type 0 where

@@ -29,7 +29,8 @@ use Rattle.wt_seam.proofs.Refining.{refined_end, refined_unread}
 use Rattle.wt_inbox.specs.Kept.{no_reading, outcome_by, reading_of}
 use Rattle.wt_inbox.specs.State.{InboxState, bi_verdict_now, control_now, response_now, session_now, uni_verdict_now}
 use Rattle.wt_inbox.specs.Moves.{BiPulled, BiTaken, ControlPulled, ResponsePulled, ResponseTaken, SameReaders, SessionPulled, SessionTaken, UniPulled, UniTaken}
-use Rattle.wt_inbox.specs.Stage.{Stage, Untouched, UniHeader, BiHeader, ResponseHead, Body, ControlBody, SessionBody, GivenUp, Anywhere, HasNoWalk, HasReached, IsAt, Refines, awaits_bi, awaits_response, awaits_uni, control_offset, response_offset, session_offset, stage_from, verdict_offset, with_stage}
+use Rattle.wt_inbox.specs.Stage.{Stage, Untouched, UniHeader, BiHeader, ResponseHead, Body, ControlBody, SessionBody, GivenUp, Anywhere, HasNoWalk, HasReached, IsAt, Refines, awaits_bi, awaits_response, awaits_uni, control_offset, session_offset, stage_from, verdict_offset, with_stage}
+use Rattle.wt_proto.specs.ResponseWalk.{response_offset}
 use Rattle.wt_inbox.proofs.Offsets.{bi_offset, response_offset_is, uni_offset}
 use Rattle.wt_inbox.proofs.Asked.{readers-twice, uni-pulled-readers, uni-taken-readers, bi-pulled-readers, bi-taken-readers, response-pulled-readers, response-taken-readers, control-pulled-readers, session-pulled-readers, session-taken-readers}
 use Rattle.wt_inbox.proofs.Reaching.{outcome-is, reached-on, read-all, stands-at}

@@ -8,8 +8,6 @@ use Rattle.wt_turn.specs.Log.{Log, actions_of, events_of}
 use Rattle.wt_proto.specs.declared.walk.Step.{Step}
 use Rattle.wt_proto.specs.declared.verdict.Verdict.{Verdict}
 use Rattle.wt_proto.specs.declared.verdict.Verdict.TheVariants as verdicts
-use Rattle.wt_proto.specs.declared.response_walk.ResponseWalk.{ResponseWalk}
-use Rattle.wt_proto.specs.declared.response_walk.ResponseWalk.TheVariants as responses
 use Rattle.wt_proto.specs.Progress.{Reading, progress_over}
 use Rattle.wt_proto.specs.Uni.{uni_decides, uni_verdict_of, is_final}
 use Rattle.wt_proto.specs.Bi.{bi_decides, bi_verdict_of}
@@ -89,11 +87,6 @@ verdict_offset (verdicts.Encoder at) = Some at
 verdict_offset (verdicts.Decoder at) = Some at
 verdict_offset (verdicts.Request request at) = Some at
 verdict_offset _ = None
-
--- the offset after a response
-abbrev pub response_offset : ResponseWalk → Option ℕ
-response_offset (responses.Response response at) = Some at
-response_offset _ = None
 
 -- a stream is read from this offset on, where there is one
 abbrev pub stage_from : Option ℕ → Stage

@@ -6,6 +6,7 @@
 //! say the same of the whole log of a connection.
 #![tactic(auto)]
 
+mod copies;
 pub mod inbox;
 mod reading;
 mod shelf;

@@ -86,6 +86,11 @@ fn has_response(rt: &impl Abort, inbox: &mut Inbox, id: StreamId) -> bool {
     inbox.has_response(id).expect(rt, "no memory")
 }
 
+fn is_response_there(rt: &impl Abort, inbox: &mut Inbox, id: StreamId) -> bool {
+    let walk = inbox.response(id).expect(rt, "no memory");
+    matches!(walk, ResponseWalk::Response(_, 17))
+}
+
 fn release_response(rt: &impl Abort, inbox: &mut Inbox, id: StreamId) -> ResponseWalk {
     inbox.release_response(id).expect(rt, "no memory")
 }
@@ -214,9 +219,12 @@ fn a_response_is_read_up_to_its_last_byte(rt: HostRuntime) {
     let id = stream(0);
     take_bytes(&rt, &mut inbox, id, &RESPONSE[..16]);
     assert!(rt; !has_response(&rt, &mut inbox, id));
+    assert!(rt; !is_response_there(&rt, &mut inbox, id));
     take_bytes(&rt, &mut inbox, id, &RESPONSE[16..]);
     take_bytes(&rt, &mut inbox, id, b"hi");
     assert!(rt; has_response(&rt, &mut inbox, id));
+    assert!(rt; is_response_there(&rt, &mut inbox, id));
+    assert!(rt; is_response_there(&rt, &mut inbox, id));
     assert!(rt;
         matches!(
             release_response(&rt, &mut inbox, id),

@@ -23,7 +23,7 @@ use Rattle.wt_wire.specs.Ids.{is_bidirectional}
 use Rattle.wt_wire.specs.declared.side.Side.{Side}
 use Rattle.wt_wire.specs.declared.side.Side.TheVariants.{Client, Server}
 use Rattle.wt_wire.specs.declared.side.StreamEnd.{StreamEnd}
-use Rattle.wt_laws.proofs.Caused.{Caused, caused-accept, caused-connect-to, caused-continue, caused-deliver, caused-receive, caused-start, covered-whole, either, head-out, leaf, not-stopped, own-if, own-send, polled}
+use Rattle.wt_laws.proofs.Caused.{Caused, caused-accept, caused-connect-to, caused-continue, caused-deliver, caused-receive, caused-start, covered-whole, either, head-out, leaf, not-stopped, own-if, own-send, polled, unrefused, unrefused-whole}
 use Rattle.wt_laws.proofs.Steps.{Brings, ByByte, ByEvent, ByLate, Nothing, Steps, blind-actions, blind-flush, calls-with, event_of}
 use Rattle.wt_laws.specs.Causes.{ByAcceptance, ByOpening, ByRejection, CloseCause, DatagramOf, FoundStream, OfCall, OfEndpoint, OfHeader, OfWrite, OwnCauses, accepted_kind, bytes_for, frame_of, is_accept, is_receive, opened_kind, polls_opening, reads_from}
 use Rattle.wt_laws.specs.ReplyCauses.{AtClose, AtDatagram, AtEndpointClose, AtEvent, AtFinish, AtOpening, AtPriority, AtReset, AtStop, AtWrite, DoneCause, GivenStream, HeadUnsent, NoStreamToOpen, NoWriteCredit, NotClosed, NotEnded, NothingUnread, OfTheStream, ReplyCause, StoppedCause, TooFewUnread, WrittenCause, asks_for_session, half_of, is_call, is_closed_error, needs_half, waits_for_end}
@@ -71,7 +71,7 @@ module _ (side : Side) (turn : Turn) where
     caused-header : is_open log ≡ true → is_refused log k left ≡ false → (b : Bool) → is_covered log k left ≡ b → (c : Bool) → is_bidirectional k ≡ c
         → Caused side turn log (if b then reply_with (log_call side log (send_of k left) (StreamAccepted k)) (if c then replies.BiReady k else replies.SendReady k) else poll_sending side log (send_of k (covered log k left)) replies.Pending)
     unfolding left
-    caused-header o f true c x y = leaf side turn log (send_of k left) (StreamAccepted k) _ (own-send side turn log k left o (OfHeader s at p d i (sym (covered-whole log k left c)))) (ByOpening (record {
+    caused-header o f true c x y = leaf side turn log (send_of k left) (StreamAccepted k) _ (own-send side turn log k left o (unrefused-whole side turn log k left f c) (OfHeader s at p d i (sym (covered-whole log k left c)))) (ByOpening (record {
       polls = p;
       opening = still-opening (send_of k left) log k ∙ i;
       session = s;
@@ -87,7 +87,7 @@ module _ (side : Side) (turn : Turn) where
         ready : (x : Bool) → is_bidirectional k ≡ x → ReplyCause side turn log (if x then replies.BiReady k else replies.SendReady k)
         ready true y = (record { polls = p; opening = i; still_open = o; session = s; at = at; is_established = d; covers = c }, y)
         ready false y = (record { polls = p; opening = i; still_open = o; session = s; at = at; is_established = d; covers = c }, y)
-    caused-header o f false c x y = leaf side turn log (send_of k (covered log k left)) Polled replies.Pending (own-send side turn log k (covered log k left) o (OfHeader s at p d i refl)) tt refl (o, HeadUnsent k (stream_header k s) (OfTheStream s at p i d refl) c (not-stopped side turn (stop_of (events_of log) k) left (credit_left log k) f c))
+    caused-header o f false c x y = leaf side turn log (send_of k (covered log k left)) Polled replies.Pending (own-send side turn log k (covered log k left) o (unrefused side turn (stop_of (events_of log) k) left (credit_left log k) f) (OfHeader s at p d i refl)) tt refl (o, HeadUnsent k (stream_header k s) (OfTheStream s at p i d refl) c (not-stopped side turn (stop_of (events_of log) k) left (credit_left log k) f c))
 
     caused-opening : Caused side turn log (continue_opening side log k left)
     unfolding left
@@ -142,6 +142,14 @@ module _ (side : Side) (turn : Turn) where
   open-write log k true a stop o x = o
   open-write log k false a stop o x = absurd (cc)
 
+  -- and the stream not stopped
+  unstopped-write : (log : Log) (k : ℕ) (o a : Bool) (stop : Option ℕ)
+      → (if not o then Some writes.NotConnected else (if a then Some writes.Closed else elim stop [ Some code ↦ Some (writes.Stopped code) | None ↦ None ])) ≡ None → stop ≡ None
+  unstopped-write log k true true stop x = absurd (cc)
+  unstopped-write log k true false None x = refl
+  unstopped-write log k true false (Some code) x = absurd (cc)
+  unstopped-write log k false a stop x = absurd (cc)
+
   written-cause : (log : Log) (k : ℕ) (bytes : List ℕ) → bytes_for k turn ≡ Some bytes → write_error log k ≡ None → WrittenCause side turn log (length (covered log k bytes))
   written-cause log k bytes h e = record { stream = k; bytes = bytes; handed_in = h; no_error = e; as_credit = refl }
 
@@ -187,7 +195,7 @@ module _ (side : Side) (turn : Turn) where
   caused-write reply log k bytes (Some e) h c w q f = polled side turn log (replies.WriteFailed e) refl (AtWrite k bytes h w)
   caused-write reply log k bytes None h c w q f =
       let o = open-write log k (is_open log) _ (stop_of (events_of log) k) refl w in
-      leaf side turn log (send_of k (covered log k bytes)) Polled (reply bytes (length (covered log k bytes))) (own-send side turn log k (covered log k bytes) o (OfWrite bytes h c w refl)) tt q (f w o)
+      leaf side turn log (send_of k (covered log k bytes)) Polled (reply bytes (length (covered log k bytes))) (own-send side turn log k (covered log k bytes) o (λ b rest e. unstopped-write log k (is_open log) _ (stop_of (events_of log) k) w) (OfWrite bytes h c w refl)) tt q (f w o)
 
   stopped-cause : (log : Log) (k : ℕ) (failing : StreamWriteError → Reply) (closed : Reply) (stop : Option ℕ) → ((e : StreamWriteError) → is_closed_error e ≡ false → StoppedCause log k e → ReplyCause side turn log (failing e))
       → (stop_of (events_of log) k ≡ None → is_done log k ≡ true → ReplyCause side turn log closed) → waits_for_end turn ≡ Some k → stop_of (events_of log) k ≡ stop → ReplyCause side turn log (stopped_reply log k failing closed stop)

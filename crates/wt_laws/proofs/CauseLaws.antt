@@ -2,6 +2,7 @@
 use Rattle.std.specs.Prelude.{[], ◌&&◌, ◌++◌, ◌==◌, ◌∷◌, ◌≡◌, ◌≢◌, Bool, List, None, Option, Some, drop, false, if◌then◌else◌, length, nat_lt, not, take, true, ℕ}
 use Rattle.std.proofs.Common.{◌∙◌, ap, arith, refl, subst, sym}
 use Rattle.std.proofs.lemmas.Bool.{eqb-true, ltb-true, not-false}
+use Rattle.std.proofs.lemmas.List.{append-nil, append_assoc}
 use Rattle.wt_proto.specs.Bi.{bi_verdict_of}
 use Rattle.wt_message.specs.FixedBytes.{local_control_bytes}
 use Rattle.wt_proto.specs.declared.verdict.Verdict.{Verdict}
@@ -20,7 +21,7 @@ use Rattle.wt_laws.proofs.Moments.{AsBi, AsUni, ClassifiedAs, IsKept, causes, ke
 use Rattle.wt_laws.proofs.Reached.{reached}
 use Rattle.wt_laws.proofs.Steps.{Keeps}
 use Rattle.wt_laws.specs.Causes.{OwnCauses}
-use Rattle.wt_laws.specs.Laws.{ActionsHaveCauses, ClosesFault, ClosesSession, DriverCauses, ForCall, ForDriver, GoesOnFrom, IsRefused, IsSurplus, OpensControl, ReplyHasCause, ResetsSession, SendsControl, StoppedFor, StopsStream}
+use Rattle.wt_laws.specs.Laws.{ActionsHaveCauses, ClosesFault, ClosesSession, DriverCauses, ForCall, ForDriver, GoesOnFrom, IsRefused, IsSurplus, OpensControl, ReplyHasCause, ResetsSession, SendsControl, StoppedFor, StopsStream, before_newest}
 use Rattle.wt_laws.specs.Reachable.{IsReachable, is_among}
 use Rattle.wt_spec.specs.Answers.{is_lawful}
 use Rattle.wt_spec.specs.Driver.{apply_if, call_view, close_actions, control_actions, control_sent, established, flush, is_moment, log_and_flush, opened_if, pending_actions, reset_if, session_id, stop_actions, stream_table}
@@ -115,12 +116,12 @@ classified-stop side log t k v x n (AsBi a b c d) = subst (λ (o : Option Stoppe
 
 stops-kept : (side : Side) (log : Log) → IsKept (causes side log) (λ t. StopsFor side log t.classified t.progress.stops)
 stops-kept side log = record {
-  by_ending = λ t e p. p;
+  by_ending = λ t e x p. p;
   by_moment = λ t p. tt;
-  by_settings = λ t b p. p;
+  by_settings = λ t b x p. p;
   by_datagram = λ t n p. p;
   by_dequeued = λ t k p. p;
-  by_classified = λ t k v e x n p. stops-more side log t.classified (record { id = k; verdict = v; surplus = e.surplus } ∷ []) (t.progress.stops ++ listed e.stop)
+  by_classified = λ t k v e x n still p. stops-more side log t.classified (record { id = k; verdict = v; surplus = e.surplus } ∷ []) (t.progress.stops ++ listed e.stop)
       (stops-append side log t.classified t.progress.stops (listed e.stop) p (classified-stop side log t k v e n x));
 }
 
@@ -129,6 +130,63 @@ moment-stops : (side : Side) (e : Entry) (log : Log) → is_moment e ≡ true �
 unfolding stream_table
 moment-stops side e log m o =
     rw (m, o) (kept-moment (λ t. StopsFor side (e ∷ log) t.classified t.progress.stops) side (e ∷ log) (stops-kept side (e ∷ log)) (stream_table side log) tt)
+
+-- ---- the stops of a moment are for streams that weren't classified before it
+
+abbrev AllNew : List Classified → List Stopped → Type 0
+AllNew before [] = Unit {0}
+AllNew before (x ∷ xs) = (verdict_of x.id before ≡ None) × AllNew before xs
+
+new-append : (before : List Classified) (xs ys : List Stopped) → AllNew before xs → AllNew before ys → AllNew before (xs ++ ys)
+new-append before [] ys p q = q
+new-append before (x ∷ xs) ys p q = (p.0, new-append before xs ys p.1 q)
+
+bi-new : (before : List Classified) (d : Dispatched) (k : ℕ) (v : Verdict) → verdict_of k before ≡ None → AllNew before (listed (bi_consequence d k v).stop)
+bi-new before d k (verdicts.Fault code) n = tt
+bi-new before d k (verdicts.Refused code) n = (n, tt)
+bi-new before d k (verdicts.Request headers at) n = behind d.requests
+  where
+    behind : (queued : List Classified) → AllNew before (listed (queued_behind queued k).stop)
+    behind [] = tt
+    behind (c ∷ later) = (n, tt)
+bi-new before d k _ n = tt
+
+classified-new : (side : Side) (log : Log) (before : List Classified) (t : StreamTable) (k : ℕ) (v : Verdict) (x : Consequence) → verdict_of k before ≡ None → ClassifiedAs side log t k v x → AllNew before (listed x.stop)
+classified-new side log before t k v x n (AsUni a b c d) = subst (λ (o : Option Stopped). AllNew before (listed o)) (sym (ap (λ (y : Consequence). y.stop) d ∙ no-uni-stop (dispatched (call_view log) t.classified) k v)) tt
+classified-new side log before t k v x n (AsBi a b c d) = subst (λ (o : Option Stopped). AllNew before (listed o)) (sym (ap (λ (y : Consequence). y.stop) d)) (bi-new before (dispatched (call_view log) t.classified) k v n)
+
+-- what isn't in a list isn't in its front
+none-front : (k : ℕ) (cs ds : List Classified) → verdict_of k (cs ++ ds) ≡ None → verdict_of k cs ≡ None
+none-front k [] ds n = refl
+none-front k (c ∷ cs) ds n = at (c.id == k) n (none-front k cs ds)
+  where
+    at : (b : Bool) → (if b then Some c.verdict else verdict_of k (cs ++ ds)) ≡ None → (verdict_of k (cs ++ ds) ≡ None → verdict_of k cs ≡ None) → (if b then Some c.verdict else verdict_of k cs) ≡ None
+    at true n f = n
+    at false n f = f n
+
+record NewStops (before : List Classified) (t : StreamTable) : Type 0 where
+  pub more : List Classified
+  pub goes_on : t.classified ≡ before ++ more
+  pub all_new : AllNew before t.progress.stops
+
+new-kept : (side : Side) (log : Log) (before : List Classified) → IsKept (causes side log) (NewStops before)
+new-kept side log before = record {
+  by_ending = λ t e c p. record { more = p.more; goes_on = p.goes_on; all_new = p.all_new };
+  by_moment = λ t p. record { more = p.more; goes_on = p.goes_on; all_new = tt };
+  by_settings = λ t b c p. record { more = p.more; goes_on = p.goes_on; all_new = p.all_new };
+  by_datagram = λ t c p. record { more = p.more; goes_on = p.goes_on; all_new = p.all_new };
+  by_dequeued = λ t k p. record { more = p.more; goes_on = p.goes_on; all_new = p.all_new };
+  by_classified = λ t k v e x n still p. record {
+    more = p.more ++ record { id = k; verdict = v; surplus = e.surplus } ∷ [];
+    goes_on = ap (λ cs. cs ++ record { id = k; verdict = v; surplus = e.surplus } ∷ []) p.goes_on ∙ append_assoc before p.more (record { id = k; verdict = v; surplus = e.surplus } ∷ []);
+    all_new = new-append before t.progress.stops (listed e.stop) p.all_new (classified-new side log before t k v e (none-front k before p.more (ap (verdict_of k) (sym p.goes_on) ∙ n)) x);
+  };
+}
+
+moment-new : (side : Side) (e : Entry) (log : Log) → is_moment e ≡ true → is_open (e ∷ log) ≡ true → AllNew (stream_table side log).classified (stream_table side (e ∷ log)).progress.stops
+unfolding stream_table
+moment-new side e log m o =
+    rw (m, o) (kept-moment (NewStops (stream_table side log).classified) side (e ∷ log) (new-kept side (e ∷ log) (stream_table side log).classified) (stream_table side log) (record { more = []; goes_on = sym (append-nil (stream_table side log).classified); all_new = tt })).all_new
 
 module _ (side : Side) (log : Log) where
   opened-cause : (b : Bool) → not (local_count (actions_of log) (local_uni side) == 0) ≡ b → unis_allowed (events_of log) ≢ 0 → DriverCauses side log (opened_if (not b) (local_uni side))
@@ -146,9 +204,9 @@ module _ (side : Side) (log : Log) where
       all-append side log (opened_if (not s.opened) (local_uni side)) (send_of (local_uni side) (drop s.sent (take (credit (events_of log) (local_uni side)) local_control_bytes)))
       (opened-cause s.opened refl (f refl)) (send-cause (drop s.sent (take (credit (events_of log) (local_uni side)) local_control_bytes)) refl)
 
-  stop-causes : (xs : List Stopped) → StopsFor side log (stream_table side log).classified xs → DriverCauses side log (stop_actions xs)
-  stop-causes [] p = tt
-  stop-causes (x ∷ xs) p = (StopsStream x p.0, stop-causes xs p.1)
+  stop-causes : (xs : List Stopped) → AllNew (stream_table side (before_newest log)).classified xs → StopsFor side log (stream_table side log).classified xs → DriverCauses side log (stop_actions xs)
+  stop-causes [] n p = tt
+  stop-causes (x ∷ xs) n p = (StopsStream x n.0 p.0, stop-causes xs n.1 p.1)
 
   reset-cause : (b : Bool) (code : ℕ) (reason : List ℕ) → (stream_table side log).progress.ending ≡ Some (BySession code reason b) → DriverCauses side log (reset_if b (session_id (established (calls_of log))))
   reset-cause true code reason q = (ResetsSession code reason q, tt)
@@ -163,17 +221,17 @@ module _ (side : Side) (log : Log) where
   allowed : nat_lt 0 (unis_allowed (events_of log)) ≡ true → unis_allowed (events_of log) ≢ 0
   allowed e z = absurd (let l = ltb-true 0 (unis_allowed (events_of log)) e in omega arith)
 
-  pending-causes : StopsFor side log (stream_table side log).classified (stream_table side log).progress.stops → DriverCauses side log (pending_actions side log)
-  pending-causes p =
+  pending-causes : AllNew (stream_table side (before_newest log)).classified (stream_table side log).progress.stops → StopsFor side log (stream_table side log).classified (stream_table side log).progress.stops → DriverCauses side log (pending_actions side log)
+  pending-causes n p =
       all-append side log (control_actions (nat_lt 0 (unis_allowed (events_of log))) (local_uni side) (credit (events_of log) (local_uni side)) (control_sent side log) ++ stop_actions (stream_table side log).progress.stops)
       (close_actions (session_id (established (calls_of log))) (stream_table side log).progress.ending)
       (all-append side log (control_actions (nat_lt 0 (unis_allowed (events_of log))) (local_uni side) (credit (events_of log) (local_uni side)) (control_sent side log)) (stop_actions (stream_table side log).progress.stops)
-      (control-cause (nat_lt 0 (unis_allowed (events_of log))) allowed) (stop-causes (stream_table side log).progress.stops p))
+      (control-cause (nat_lt 0 (unis_allowed (events_of log))) allowed) (stop-causes (stream_table side log).progress.stops n p))
       (ending-cause (stream_table side log).progress.ending refl)
 
 -- what the driver sends at a moment, each for its cause
 pub driver-causes : (side : Side) (e : Entry) (log : Log) → is_moment e ≡ true → is_open (e ∷ log) ≡ true → DriverCauses side (e ∷ log) (pending_actions side (e ∷ log))
-driver-causes side e log m o = pending-causes side (e ∷ log) (moment-stops side e log m o)
+driver-causes side e log m o = pending-causes side (e ∷ log) (moment-new side e log m o) (moment-stops side e log m o)
 
 -- ---- all that went out
 

@@ -126,9 +126,19 @@ module _ (side : Side) (turn : Turn) where
   own-append log [] bs o p = p
   own-append log (a ∷ as_) bs o p = (o.0, own-append (Sent a ∷ log) as_ bs o.1 p)
 
-  pub own-send : (log : Log) (k : ℕ) (piece : List ℕ) → is_open log ≡ true → SendCause side turn log k piece → OwnCauses side turn log (send_of k piece)
-  own-send log k [] o c = tt
-  own-send log k (b ∷ piece) o c = ((o, c), tt)
+  -- where there is a piece to send, the peer didn't stop the stream
+  abbrev pub Unstopped : Log → ℕ → List ℕ → Type 0
+  Unstopped log k piece = (b : ℕ) (rest : List ℕ) → piece ≡ b ∷ rest → stop_of (events_of log) k ≡ None
+
+  pub own-send : (log : Log) (k : ℕ) (piece : List ℕ) → is_open log ≡ true → Unstopped log k piece → SendCause side turn log k piece → OwnCauses side turn log (send_of k piece)
+  own-send log k [] o f c = tt
+  own-send log k (b ∷ piece) o f c = ((o, c, f b piece refl), tt)
+
+  -- a rest of a head that isn't refused
+  pub unrefused : (stop : Option ℕ) (left : List ℕ) (n : ℕ) → (is_some stop && not (is_empty left)) ≡ false → (b : ℕ) (rest : List ℕ) → take n left ≡ b ∷ rest → stop ≡ None
+  unrefused None left n r b rest e = refl
+  unrefused (Some x) [] n r b rest e = absurd (let l = length-take {A = ℕ} n [] in let z = ap length e in omega (arith, l, z))
+  unrefused (Some x) (y ∷ left) n r b rest e = absurd (cc)
 
   pub own-if : (log : Log) (a : Action) (b : Bool) → (b ≡ true → ActionCause side turn log a) → OwnCauses side turn log (if b then a ∷ [] else [])
   own-if log a true f = (f refl, tt)
@@ -259,12 +269,16 @@ module _ (side : Side) (turn : Turn) where
       → Caused side turn log (reply_with (log_call side log (send_of id (covered log id (head_left log id head))) waiting) replies.Pending)
   partly log id accepts head waiting i r o x c =
       leaf log (send_of id (covered log id (head_left log id head))) waiting replies.Pending
-      (own-send log id (covered log id (head_left log id head)) o (OfResponse accepts head r.from i refl)) (r.waits (send_of id (covered log id (head_left log id head)))) r.quiet
+      (own-send log id (covered log id (head_left log id head)) o (unrefused (stop_of (events_of log) id) (head_left log id head) (credit_left log id) x) (OfResponse accepts head r.from i refl)) (r.waits (send_of id (covered log id (head_left log id head)))) r.quiet
       (o, HeadUnsent id head (OfTheResponse accepts r.from i) c (not-stopped (stop_of (events_of log) id) (head_left log id head) (credit_left log id) x c))
 
-  wholly : (log : Log) (id : ℕ) (accepts : Bool) (head : List ℕ) → id ≡ requested (calls_of log) → ResponseFrom turn (calls_of log) accepts head → is_open log ≡ true → is_covered log id (head_left log id head) ≡ true
+  -- the whole rest of a head that isn't refused
+  pub unrefused-whole : (log : Log) (k : ℕ) (left : List ℕ) → is_refused log k left ≡ false → is_covered log k left ≡ true → Unstopped log k left
+  unrefused-whole log k left x c b rest e = unrefused (stop_of (events_of log) k) left (credit_left log k) x b rest (covered-whole log k left c ∙ e)
+
+  wholly : (log : Log) (id : ℕ) (accepts : Bool) (head : List ℕ) → id ≡ requested (calls_of log) → ResponseFrom turn (calls_of log) accepts head → is_open log ≡ true → is_refused log id (head_left log id head) ≡ false → is_covered log id (head_left log id head) ≡ true
       → OwnCauses side turn log (send_of id (head_left log id head))
-  wholly log id accepts head i f o c = own-send log id (head_left log id head) o (OfResponse accepts head f i (sym (covered-whole log id (head_left log id head) c)))
+  wholly log id accepts head i f o x c = own-send log id (head_left log id head) o (unrefused-whole log id (head_left log id head) x c) (OfResponse accepts head f i (sym (covered-whole log id (head_left log id head) c)))
 
   caused-accepted : (log : Log) (id : ℕ) (head : List ℕ) (waiting : CallRecord) → id ≡ requested (calls_of log) → Responds log true head waiting → Caused side turn log (accept_response side log id (head_left log id head) waiting)
   caused-accepted log id head waiting i r =
@@ -275,15 +289,15 @@ module _ (side : Side) (turn : Turn) where
       either (is_covered log id left) _ _
       (λ c. let by : EstablishedBy side turn (with_actions (send_of id left) log) id (request_end (verdict_of id (stream_table side log).classified)) =
       record { before = log; own = send_of id left; is = refl; was_open = not-false _ o; under_way = r.under_way; how = ByAnswer head r.from i c refl refl } in
-      settled log (send_of id left) (SessionEstablished id _) (replies.Session id) (wholly log id true head i r.from (not-false _ o) c) by refl (send_of id left, _, by))
+      settled log (send_of id left) (SessionEstablished id _) (replies.Session id) (wholly log id true head i r.from (not-false _ o) x c) by refl (send_of id left, _, by))
       (λ c. partly log id true head waiting i r (not-false _ o) x c)))
 
   -- the finish of a rejection, behind what is left of it
-  own-finish : (log : Log) (id : ℕ) (head : List ℕ) → id ≡ requested (calls_of log) → ResponseFrom turn (calls_of log) false head → is_open log ≡ true → is_covered log id (head_left log id head) ≡ true → is_finished (actions_of log) id ≡ false
+  own-finish : (log : Log) (id : ℕ) (head : List ℕ) → id ≡ requested (calls_of log) → ResponseFrom turn (calls_of log) false head → is_open log ≡ true → is_refused log id (head_left log id head) ≡ false → is_covered log id (head_left log id head) ≡ true → is_finished (actions_of log) id ≡ false
       → OwnCauses side turn log (send_of id (head_left log id head) ++ actions.Finish id ∷ [])
-  own-finish log id head i f o c n =
+  own-finish log id head i f o x c n =
       let left = head_left log id head in
-      own-append log (send_of id left) _ (wholly log id false head i f o c)
+      own-append log (send_of id left) _ (wholly log id false head i f o x c)
       ((open-send log id left ∙ o, OfRejection head (subst (λ cs. ResponseFrom turn cs false head) (sym (calls-with (send_of id left) log)) f) (i ∙ ap requested (sym (calls-with (send_of id left) log))) (head-out log id head) (finished-send left ∙ n)), tt)
     where
       finished-send : (piece : List ℕ) → is_finished (actions_of (with_actions (send_of id piece) log)) id ≡ is_finished (actions_of log) id
@@ -294,11 +308,11 @@ module _ (side : Side) (turn : Turn) where
   none-there None e = refl
   none-there (Some x) e = absurd (cc)
 
-  caused-rejected : (log : Log) (id : ℕ) (head : List ℕ) (waiting : CallRecord) → id ≡ requested (calls_of log) → Responds log false head waiting → is_open log ≡ true → is_covered log id (head_left log id head) ≡ true
+  caused-rejected : (log : Log) (id : ℕ) (head : List ℕ) (waiting : CallRecord) → id ≡ requested (calls_of log) → Responds log false head waiting → is_open log ≡ true → is_refused log id (head_left log id head) ≡ false → is_covered log id (head_left log id head) ≡ true
       → Caused side turn log (finish_rejection side log id (head_left log id head) waiting)
-  caused-rejected log id head waiting i r o c =
+  caused-rejected log id head waiting i r o n c =
       either (not (is_finished (actions_of log) id)) _ _
-      (λ f. leaf log _ waiting replies.Pending (own-finish log id head i r.from o c (not-true _ f)) (r.waits (send_of id (head_left log id head) ++ actions.Finish id ∷ [])) r.quiet
+      (λ f. leaf log _ waiting replies.Pending (own-finish log id head i r.from o n c (not-true _ f)) (r.waits (send_of id (head_left log id head) ++ actions.Finish id ∷ [])) r.quiet
       (o, Finishing head r.from (subst (λ (n : ℕ). is_covered log n (head_left log n head) ≡ true) i c) (subst (λ (n : ℕ). is_finished (actions_of log) n ≡ false) i (not-true _ f)))) (λ f.
       either (is_some (stop_of (events_of log) id) || is_acknowledged (events_of log) id) _ _
       (λ x. let y = subst (λ (n : ℕ). is_finished (actions_of log) n ≡ true) i (not-false _ f) in let z = subst (λ (n : ℕ). (is_some (stop_of (events_of log) n) || is_acknowledged (events_of log) n) ≡ true) i x in
@@ -315,7 +329,7 @@ module _ (side : Side) (turn : Turn) where
       let left = head_left log id head in
       either (not (is_open log)) _ _ (λ o. failed-so log [] replies.Rejected r.under_way tt refl (ConnectionEnded head r.from (not-true _ o))) (λ o.
       either (is_refused log id left) _ _ (λ x. let y = subst (λ (n : ℕ). is_refused log n (head_left log n head) ≡ true) i x in failed log [] _ replies.Rejected (StoppedEarly false head r.from y refl) refl r.under_way tt refl (RejectionRefused head r.from y)) (λ x.
-      either (is_covered log id left) _ _ (λ c. caused-rejected log id head waiting i r (not-false _ o) c) (λ c. partly log id false head waiting i r (not-false _ o) x c)))
+      either (is_covered log id left) _ _ (λ c. caused-rejected log id head waiting i r (not-false _ o) x c) (λ c. partly log id false head waiting i r (not-false _ o) x c)))
 
   caused-respond : (log : Log) (accepts : Bool) (head : List ℕ) (waiting : CallRecord) → Responds log accepts head waiting → Caused side turn log (respond side log accepts head waiting)
   caused-respond log true head waiting r = caused-accepted log (requested (calls_of log)) head waiting refl r
@@ -364,10 +378,10 @@ module _ (side : Side) (turn : Turn) where
     pub left_at : head_left log (local_bi side) head ≡ left
     pub left_is : head_left (with_actions own log) (local_bi side) head ≡ left
 
-  sends-request : (log : Log) (own : List Action) (left piece : List ℕ) (w : Onward log) → Opens log own left w.head → is_open log ≡ true → piece ≡ covered log (local_bi side) left → OwnCauses side turn log (own ++ send_of (local_bi side) piece)
-  sends-request log own left piece w x o e =
+  sends-request : (log : Log) (own : List Action) (left piece : List ℕ) (w : Onward log) → Opens log own left w.head → is_open log ≡ true → is_some (stop_of (events_of log) (local_bi side)) ≡ false → piece ≡ covered log (local_bi side) left → OwnCauses side turn log (own ++ send_of (local_bi side) piece)
+  sends-request log own left piece w x o n e =
       own-append log own (send_of (local_bi side) piece) x.causes
-      (own-send (with_actions own log) (local_bi side) piece (x.stays ∙ o)
+      (own-send (with_actions own log) (local_bi side) piece (x.stays ∙ o) (λ b rest q. blind-actions (λ g. stop_of (events_of g) (local_bi side)) (λ a g. refl) own log ∙ none-there (stop_of (events_of log) (local_bi side)) n)
       (OfRequest w.reserved w.head w.call (ap handshake_state (calls-with own log) ∙ w.state) refl x.counted (e ∙ ap (λ n. take n left) (sym x.credit) ∙ ap (covered (with_actions own log) (local_bi side)) (sym x.left_is))))
 
   with-appended : (as_ bs : List Action) (log : Log) → with_actions (as_ ++ bs) log ≡ with_actions bs (with_actions as_ log)
@@ -400,8 +414,8 @@ module _ (side : Side) (turn : Turn) where
       either (is_some (stop_of (events_of log) (local_bi side))) _ _ (λ b. let y : is_refused log (local_bi side) left ≡ true = rw (b, c) refl in
       failed log own 0 _ (Plain (Stops w.reserved w.head (ap handshake_state (calls-with own log) ∙ w.state) (ap (is_refused (with_actions own log) (local_bi side)) x.left_is ∙ blind-actions (λ g. is_refused g (local_bi side) left) (λ a g. refl) own log ∙ y)) refl) x.stays (going log w) x.causes refl (ByRefusal w.reserved w.head w.state (rw x.left_at y) refl)) (λ b.
       either (is_covered log (local_bi side) left) _ _
-      (λ z. caused-await log (own ++ send_of (local_bi side) left) (sends-request log own left left w x (not-false _ o) (sym (covered-whole log (local_bi side) left z))) (stays-open log left left own x.stays) w (still-counted log own left x.counted) (all-out log own left w.head x.left_is))
-      (λ z. leaf log (own ++ send_of (local_bi side) (covered log (local_bi side) left)) Polled replies.Pending (sends-request log own left (covered log (local_bi side) left) w x (not-false _ o) refl) tt refl (not-false _ o, HeadUnsent (local_bi side) w.head (OfTheRequest w.reserved w.call w.state refl) (rw x.left_at z) (none-there _ b))))))
+      (λ z. caused-await log (own ++ send_of (local_bi side) left) (sends-request log own left left w x (not-false _ o) b (sym (covered-whole log (local_bi side) left z))) (stays-open log left left own x.stays) w (still-counted log own left x.counted) (all-out log own left w.head x.left_is))
+      (λ z. leaf log (own ++ send_of (local_bi side) (covered log (local_bi side) left)) Polled replies.Pending (sends-request log own left (covered log (local_bi side) left) w x (not-false _ o) b refl) tt refl (not-false _ o, HeadUnsent (local_bi side) w.head (OfTheRequest w.reserved w.call w.state refl) (rw x.left_at z) (none-there _ b))))))
 
   -- the request's stream is opened
   opens-first : (log : Log) (w : Onward log) (b : Bool) → local_count (actions_of log) (local_bi side) ≡ 0 → may_open side log (local_bi side) ≡ b → is_open log ≡ true → b ≡ true → Opens log (opening side log (local_bi side)) (head_left log (local_bi side) w.head) w.head

@@ -43,12 +43,12 @@ once-more x (c ∷ cs) h o =
 pub of-classified : (c : Causes) (P : List Classified → Type 0) → ((t : StreamTable) (k : ℕ) (v : Verdict) (e : Consequence) → c.classified t k v e → verdict_of k t.classified ≡ None
     → P t.classified → P (t.classified ++ record { id = k; verdict = v; surplus = e.surplus } ∷ [])) → IsKept c (λ t. P t.classified)
 of-classified c P f = record {
-  by_ending = λ t e p. p;
+  by_ending = λ t e x p. p;
   by_moment = λ t p. p;
-  by_settings = λ t b p. p;
+  by_settings = λ t b x p. p;
   by_datagram = λ t n p. p;
   by_dequeued = λ t k p. p;
-  by_classified = λ t k v e x n p. f t k v e x n p;
+  by_classified = λ t k v e x n still p. f t k v e x n p;
 }
 
 pub once : (side : Side) (log : Log) → IsOnce (stream_table side log).classified

@@ -30,12 +30,12 @@ use Rattle.wt_turn.specs.declared.turn.Turn.TheVariants as turns
 
 dequeued-kept : (c : Causes) (n : ℕ) → IsKept c (λ t. n ≤ t.progress.datagrams)
 dequeued-kept c n = record {
-  by_ending = λ t e p. p;
+  by_ending = λ t e x p. p;
   by_moment = λ t p. p;
-  by_settings = λ t b p. p;
+  by_settings = λ t b x p. p;
   by_datagram = λ t x p. omega arith;
   by_dequeued = λ t k p. p;
-  by_classified = λ t k v e x q p. p;
+  by_classified = λ t k v e x q still p. p;
 }
 
 dequeued-stay : (side : Side) (n : ℕ) (e : Entry) (log : Log) → n ≤ (stream_table side log).progress.datagrams → n ≤ (stream_table side (e ∷ log)).progress.datagrams

@@ -1,7 +1,7 @@
 -- What goes out on a stream that this end opens, up to its being given: its header.
 use Rattle.std.specs.Prelude.{[], ◌%◌, ◌&&◌, ◌*◌, ◌++◌, ◌+◌, ◌/◌, ◌<◌, ◌==◌, ◌||◌, ◌∷◌, ◌≡◌, ◌≢◌, ◌≤◌, Bool, List, Some, drop, false, if◌then◌else◌, is_some, length, not, suc, take, true, zero, ℕ}
 use Rattle.std.proofs.Common.{◌∙◌, ap, arith, length-take, refl, subst, sym}
-use Rattle.std.proofs.lemmas.Bool.{and_parts, eq-eqb, eqb-true, ltb-true, not-true, or_right}
+use Rattle.std.proofs.lemmas.Bool.{and_parts, eq-eqb, eqb-true, ltb-true, not-true, or_parts, or_right}
 use Rattle.std.proofs.lemmas.List.{append-nil, append_assoc}
 use Rattle.std.specs.List.{list_any}
 use Rattle.wt_seam_spec.specs.Outgoing.{covered, credit_left, next_id}
@@ -42,6 +42,7 @@ pub record Heads (side : Side) (log : Log) : Type 0 where
   pub in_session : (k : ℕ) → list_any (starts_opening k) (calls_of log) ≡ true → is_some (established (calls_of log)) ≡ true
   pub fresh : (k : ℕ) → is_local side k ≡ true → k ≢ local_uni side → local_count (actions_of log) (k % 4) ≤ k / 4 → sent_on (actions_of log) k ≡ []
   pub begun : (k s at : ℕ) → is_opening log k ≡ true → established (calls_of log) ≡ Some (s, at) → (n : ℕ) × (sent_on (actions_of log) k ≡ take n (stream_header k s))
+  pub ungiven : (k s at : ℕ) → list_any (starts_opening k) (calls_of log) ≡ true → is_accepted log k ≡ false → established (calls_of log) ≡ Some (s, at) → (n : ℕ) × (sent_on (actions_of log) k ≡ take n (stream_header k s))
   pub whole : (k s at : ℕ) → is_local side k ≡ true → is_accepted log k ≡ true → established (calls_of log) ≡ Some (s, at) → (rest : List ℕ) × (sent_on (actions_of log) k ≡ stream_header k s ++ rest)
 
 -- ---- an action of a call's own
@@ -90,6 +91,15 @@ local-opening side log k h o = h.given.facts_hold.openings k (and_parts (list_an
 not-accepted : (log : Log) (k : ℕ) → is_opening log k ≡ true → is_accepted log k ≡ true → ⊥
 not-accepted log k o a = absurd (let x = accepted-ends k (calls_of log) a in let y = not-true (list_any (ends_opening k) (calls_of log)) (and_parts (list_any (starts_opening k) (calls_of log)) _ o).1 in cc)
 
+-- what a poll sends of a header goes on with it
+header-more : (log : Log) (k s : ℕ) (piece : List ℕ) → piece ≡ covered log k (head_left log k (stream_header k s)) → (n : ℕ) × (sent_on (actions_of log) k ≡ take n (stream_header k s))
+    → (n : ℕ) × (sent_on (actions_of log) k ++ piece ≡ take n (stream_header k s))
+header-more log k s piece y p = (
+  length (sent_on (actions_of log) k) + credit_left log k,
+  ap (λ ys. sent_on (actions_of log) k ++ ys) y
+      ∙ subst (λ xs. xs ++ take (credit_left log k) (drop (length xs) (stream_header k s)) ≡ take (length xs + credit_left log k) (stream_header k s)) (sym p.1) (further (credit_left log k) p.0 (stream_header k s)),
+)
+
 begun-piece : (side : Side) (turn : Turn) (log : Log) (k s t : ℕ) (a : Action) → Heads side log → is_opening log k ≡ true → established (calls_of log) ≡ Some (s, t) → ActionCause side turn log a
     → (n : ℕ) × (sent_on (actions_of log) k ++ piece_on k a ≡ take n (stream_header k s))
 begun-piece side turn log k s t (actions.Send id piece) h o d c = at (id == k) refl c.1
@@ -103,14 +113,29 @@ begun-piece side turn log k s t (actions.Send id piece) h o d c = at (id == k) r
     at true e (OfHeader session u z i j q) =
         let same : session ≡ s = ap session_id (sym i ∙ d) in
         let x = subst (λ (m : ℕ). piece ≡ covered log m (head_left log m (stream_header m session))) (eqb-true id k e) q in
-        let y = subst (λ (m : ℕ). piece ≡ covered log k (head_left log k (stream_header k m))) same x in (
-          length (sent_on (actions_of log) k) + credit_left log k,
-          ap (λ ys. sent_on (actions_of log) k ++ ys) y
-              ∙ subst (λ xs. xs ++ take (credit_left log k) (drop (length xs) (stream_header k s)) ≡ take (length xs + credit_left log k) (stream_header k s)) (sym p.1) (further (credit_left log k) p.0 (stream_header k s)),
-        )
+        let y = subst (λ (m : ℕ). piece ≡ covered log k (head_left log k (stream_header k m))) same x in header-more log k s piece y p
     at true e (OfResponse accepts head f i q) = absurd (no-request side log k h (local-opening side log k h o) (from-request turn (calls_of log) accepts head f) (sym i ∙ eqb-true id k e))
     at true e (OfRequest reserved head c i j z q) = absurd (let x = h.given.handshakes.none_yet (ap is_under_way i) in cc)
 begun-piece side turn log k s t _ h o d c = ((h.begun k s t o d).0, append-nil (sent_on (actions_of log) k) ∙ (h.begun k s t o d).1)
+
+-- the same of a stream that isn't given yet, or never is
+ungiven-piece : (side : Side) (turn : Turn) (log : Log) (k s t : ℕ) (a : Action) → Heads side log → list_any (starts_opening k) (calls_of log) ≡ true → is_accepted log k ≡ false → established (calls_of log) ≡ Some (s, t) → ActionCause side turn log a
+    → (n : ℕ) × (sent_on (actions_of log) k ++ piece_on k a ≡ take n (stream_header k s))
+ungiven-piece side turn log k s t (actions.Send id piece) h o g d c = at (id == k) refl c.1
+  where
+    p : (n : ℕ) × (sent_on (actions_of log) k ≡ take n (stream_header k s))
+    p = h.ungiven k s t o g d
+
+    at : (b : Bool) → (id == k) ≡ b → SendCause side turn log id piece → (n : ℕ) × (sent_on (actions_of log) k ++ (if b then piece else []) ≡ take n (stream_header k s))
+    at false e x = (p.0, append-nil (sent_on (actions_of log) k) ∙ p.1)
+    at true e (OfWrite bytes b w m q) = absurd (let y = subst (λ (j : ℕ). is_accepted log j ≡ true) (eqb-true id k e) (and_parts (is_accepted log id) _ w).0 in cc)
+    at true e (OfHeader session u z i j q) =
+        let same : session ≡ s = ap session_id (sym i ∙ d) in
+        let x = subst (λ (m : ℕ). piece ≡ covered log m (head_left log m (stream_header m session))) (eqb-true id k e) q in
+        let y = subst (λ (m : ℕ). piece ≡ covered log k (head_left log k (stream_header k m))) same x in header-more log k s piece y p
+    at true e (OfResponse accepts head f i q) = absurd (no-request side log k h (h.given.facts_hold.openings k o) (from-request turn (calls_of log) accepts head f) (sym i ∙ eqb-true id k e))
+    at true e (OfRequest reserved head c i j z q) = absurd (let x = h.given.handshakes.none_yet (ap is_under_way i) in cc)
+ungiven-piece side turn log k s t _ h o g d c = ((h.ungiven k s t o g d).0, append-nil (sent_on (actions_of log) k) ∙ (h.ungiven k s t o g d).1)
 
 pub heads-action : (side : Side) (turn : Turn) (log : Log) (a : Action) → ActionCause side turn log a → Heads side log → Heads side (Sent a ∷ log)
 heads-action side turn log a c h = record {
@@ -124,6 +149,7 @@ heads-action side turn log a c h = record {
       let v : local_count (actions_of log) (k % 4) ≤ k / 4 = omega arith in
       with-piece k a (sent_on (actions_of log) k) ∙ ap (λ xs. xs ++ piece_on k a) (h.fresh k l n v) ∙ fresh-piece side turn log k a h l v c;
   begun = λ k s t o d. let p = begun-piece side turn log k s t a h o d c in (p.0, with-piece k a (sent_on (actions_of log) k) ∙ p.1);
+  ungiven = λ k s t o g d. let p = ungiven-piece side turn log k s t a h o g d c in (p.0, with-piece k a (sent_on (actions_of log) k) ∙ p.1);
   whole = λ k s t l g d.
       let p = h.whole k s t l g d in
       (p.0 ++ piece_on k a, with-piece k a (sent_on (actions_of log) k) ∙ ap (λ xs. xs ++ piece_on k a) p.1 ∙ append_assoc (stream_header k s) p.0 (piece_on k a));
@@ -151,6 +177,7 @@ heads-other side turn log a n h = record {
   in_session = h.in_session;
   fresh = λ k l c u. let m = more-or-same (opens (k % 4) a) (local_count (actions_of log) (k % 4)) in same k c ∙ h.fresh k l c (omega arith);
   begun = λ k s t o d. let p = h.begun k s t o d in (p.0, same k (not-local-uni side log k h (and_parts (list_any (starts_opening k) (calls_of log)) _ o).0) ∙ p.1);
+  ungiven = λ k s t o g d. let p = h.ungiven k s t o g d in (p.0, same k (not-local-uni side log k h o) ∙ p.1);
   whole = λ k s t l g d. let p = h.whole k s t l g d in (p.0, same k (not-local-uni side log k h (h.local_accepted k l g)) ∙ p.1);
 }
   where
@@ -249,6 +276,17 @@ module _ (side : Side) (turn : Turn) (log : Log) (own : List Action) where
   new-begun (OpeningFailed id) p b h c k s t o d = h.begun k s t (still (list_any (starts_opening k) (calls_of then_)) (id == k) (list_any (ends_opening k) (calls_of then_)) o) d
   new-begun _ p b h c k s t o d = h.begun k s t o d
 
+  new-ungiven : (r : CallRecord) → ControlOut side log → Heads side log → Heads side then_ → CallCause side turn log own r → (k s t : ℕ) → list_any (starts_opening k) (r ∷ calls_of then_) ≡ true → is_accepted (Called r ∷ then_) k ≡ false → established (r ∷ calls_of then_) ≡ Some (s, t)
+      → (n : ℕ) × (sent_on (actions_of then_) k ≡ take n (stream_header k s))
+  new-ungiven (OpeningStarted id i) p b h c k s t o g d = at (id == k) refl o
+    where
+      at : (x : Bool) → (id == k) ≡ x → (x || list_any (starts_opening k) (calls_of then_)) ≡ true → (n : ℕ) × (sent_on (actions_of then_) k ≡ take n (stream_header k s))
+      at true e o = (0, subst (λ (j : ℕ). sent_on (actions_of then_) j ≡ []) (eqb-true id k e) (none-sent side log own id i p b c))
+      at false e o = h.ungiven k s t o g d
+  new-ungiven (SessionEstablished id i) p b h c k s t o g d = absurd (no-new-session side then_ c.own c.before c.is c.under_way h.given.handshakes (h.in_session k o))
+  new-ungiven (StreamAccepted id) p b h c k s t o g d = h.ungiven k s t o (or_parts (id == k) (is_accepted then_ k) g).1 d
+  new-ungiven _ p b h c k s t o g d = h.ungiven k s t o g d
+
   pub all-of-it : (n : ℕ) (xs sent : List ℕ) → sent ≡ take n xs → drop (length sent) xs ≡ [] → sent ≡ xs
   all-of-it n xs sent e d = e ∙ whole-covered n xs (ap is_empty (ap (λ ys. drop (length ys) xs) (sym e) ∙ d))
 
@@ -293,6 +331,7 @@ module _ (side : Side) (turn : Turn) (log : Log) (own : List Action) where
         in_session = λ k o. still-some (establishes r) (established (calls_of then_)) (from-or (starts_opening k r) _ (new-session r x k) (h.in_session k) o);
         fresh = h.fresh;
         begun = new-begun r p b h c;
+        ungiven = new-ungiven r p b h c;
         whole = new-whole r h x;
       }
 
@@ -303,13 +342,13 @@ pub record Both (side : Side) (log : Log) : Type 0 where
   pub heads : Heads side log
 
 pub heads-event : (side : Side) (turn : Turn) (e : Event) (log : Log) → is_open log ≡ true → Brings side turn log e → Heads side log → Heads side (Reported e ∷ log)
-heads-event side turn e log o b h = record { given = (given-entries side turn).event log e o b h.given; no_control = h.no_control; counted = h.counted; local_accepted = h.local_accepted; in_session = h.in_session; fresh = h.fresh; begun = h.begun; whole = h.whole }
+heads-event side turn e log o b h = record { given = (given-entries side turn).event log e o b h.given; no_control = h.no_control; counted = h.counted; local_accepted = h.local_accepted; in_session = h.in_session; fresh = h.fresh; begun = h.begun; ungiven = h.ungiven; whole = h.whole }
 
 pub heads-late : (side : Side) (turn : Turn) (e : Event) (log : Log) → is_open log ≡ false → Brings side turn log e → Heads side log → Heads side (ReportedLate e ∷ log)
-heads-late side turn e log o b h = record { given = (given-entries side turn).late log e o b h.given; no_control = h.no_control; counted = h.counted; local_accepted = h.local_accepted; in_session = h.in_session; fresh = h.fresh; begun = h.begun; whole = h.whole }
+heads-late side turn e log o b h = record { given = (given-entries side turn).late log e o b h.given; no_control = h.no_control; counted = h.counted; local_accepted = h.local_accepted; in_session = h.in_session; fresh = h.fresh; begun = h.begun; ungiven = h.ungiven; whole = h.whole }
 
 pub heads-byte : (side : Side) (turn : Turn) (id b : ℕ) (log : Log) → is_open log ≡ true → is_running (end_of (all_events_of log) id) ≡ true → Heads side log → Heads side (Received id b ∷ log)
-heads-byte side turn id b log o r h = record { given = (given-entries side turn).byte log id b o r h.given; no_control = h.no_control; counted = h.counted; local_accepted = h.local_accepted; in_session = h.in_session; fresh = h.fresh; begun = h.begun; whole = h.whole }
+heads-byte side turn id b log o r h = record { given = (given-entries side turn).byte log id b o r h.given; no_control = h.no_control; counted = h.counted; local_accepted = h.local_accepted; in_session = h.in_session; fresh = h.fresh; begun = h.begun; ungiven = h.ungiven; whole = h.whole }
 
 pub keeps-both : (side : Side) (turn : Turn) → Keeps side turn (Both side)
 keeps-both side turn = record {
@@ -333,6 +372,7 @@ first-heads side = record {
     in_session = λ k o. absurd (cc);
     fresh = λ k l n u. refl;
     begun = λ k s t o d. absurd (cc);
+    ungiven = λ k s t o g d. absurd (cc);
     whole = λ k s t l a d. absurd (cc);
   };
 }
@@ -341,4 +381,4 @@ pub heads-hold : (side : Side) (log : Log) → IsReachable side log → Heads si
 heads-hold side log r = (reached (Both side) (first-heads side) (keeps-both side) log r).heads
 
 pub headers-out : (side : Side) (log : Log) → IsReachable side log → HeadersOut side log
-headers-out side log r = let h = heads-hold side log r in record { begun = h.begun; whole = h.whole }
+headers-out side log r = let h = heads-hold side log r in record { unopened = h.fresh; ungiven = h.ungiven; begun = h.begun; whole = h.whole }

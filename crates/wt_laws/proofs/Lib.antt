@@ -8,6 +8,7 @@ pub mod Reached
 pub mod Facts
 pub mod During
 pub mod StreamLaws
+pub mod RequestLaws
 pub mod SessionLaws
 pub mod ReadLaws
 pub mod DatagramLaws
@@ -34,3 +35,9 @@ pub mod Theorems
 pub mod Recorded
 pub mod TurnCauses
 pub mod GivenOnce
+pub mod RequestTold
+pub mod FaultLaws
+pub mod FaultlessLaws
+pub mod NoFault
+pub mod OnceLaws
+pub mod DatagramOrEnds

@@ -1,44 +1,50 @@
 -- What each moment keeps of the driver's table: a property that every way of writing the table keeps.
-use Rattle.std.specs.Prelude.{[], ◌%◌, ◌&&◌, ◌*◌, ◌+◌, ◌/◌, ◌<◌, ◌==◌, ◌||◌, ◌∷◌, ◌≡◌, Bool, Err, List, None, Ok, Option, Result, Some, drop, false, if◌then◌else◌, is_some, nat_lt, slice_get, suc, true, zero, ℕ}
+use Rattle.std.specs.Prelude.{[], ◌%◌, ◌&&◌, ◌*◌, ◌+◌, ◌/◌, ◌<◌, ◌==◌, ◌||◌, ◌∷◌, ◌≡◌, Bool, Err, List, None, Ok, Option, Result, Some, drop, false, if◌then◌else◌, is_some, nat_lt, not, slice_get, suc, true, zero, ℕ}
 use Rattle.std.proofs.Common.{arith, refl, subst}
-use Rattle.std.proofs.lemmas.Bool.{eq-eqb, lt-ltb, ltb-true}
+use Rattle.std.proofs.lemmas.Bool.{eq-eqb, lt-ltb, ltb-true, not-true}
 use Rattle.wt_proto.specs.Bi.{bi_verdict_of}
 use Rattle.wt_message.specs.Datagram.{datagram_of}
-use Rattle.wt_proto.specs.SessionWalk.{session_walk_of}
+use Rattle.wt_proto.specs.ControlWalk.{control_walk_of}
+use Rattle.wt_proto.specs.SessionWalk.{is_over, session_walk_of}
 use Rattle.wt_proto.specs.Uni.{is_final, uni_verdict_of}
 use Rattle.wt_proto.specs.declared.session_walk.SessionWalk.{SessionWalk}
 use Rattle.wt_proto.specs.declared.verdict.Verdict.{Verdict}
-use Rattle.wt_seam_spec.specs.Reports.{datagrams_of, end_of}
+use Rattle.wt_seam_spec.specs.Reports.{datagrams_of, end_of, is_running}
 use Rattle.wt_seam_spec.specs.Streams.{contents, peer_bi, peer_count, peer_uni}
 use Rattle.wt_turn.specs.Log.{Entry, Log, events_of, is_open}
 use Rattle.wt_wire.specs.declared.error.ErrorCode.{ErrorCode}
 use Rattle.wt_wire.specs.declared.side.Side.{Side}
 use Rattle.wt_wire.specs.declared.side.Side.TheVariants.{Client, Server}
+use Rattle.wt_laws.specs.Faults.{ControlFault, ControlStopped, DecoderEnded, EncoderEnded, EndingCause, NoDatagram, SessionClosed, SessionFault, SettingsRead}
 use Rattle.wt_laws.specs.Reachable.{is_among}
 use Rattle.wt_spec.specs.Driver.{apply_if, call_view, is_moment, stream_table, transport_view}
 use Rattle.wt_spec.specs.Scan.{Scan, SlotRule, bi_ids, bi_rule, check_control, check_datagram, check_qpack, check_session, checks, classify, critical_if, dequeue, dequeued_datagram, ended_by, has, in_order, parsed_datagram, scan, scan_bis, scan_order, scan_unis, session_ends, stream_ids, uni_ids, uni_rule, unless_ended, visit, with_classified, with_fault, without_stops}
-use Rattle.wt_spec.specs.StreamTable.{ByFault, BySession, CallView, Consequence, Dispatched, Ending, Progress, StreamTable, TransportView, bi_consequence, dispatched, uni_consequence, verdict_of}
+use Rattle.wt_spec.specs.StreamTable.{ByFault, BySession, CallView, Classified, Consequence, Dispatched, Ending, Progress, StreamTable, TransportView, bi_consequence, dispatched, uni_consequence, verdict_of}
+use Rattle.wt_wire.specs.declared.side.StreamEnd.TheVariants as ends
 use Rattle.wt_wire.specs.declared.error.ErrorCode.TheVariants as h3
 use Rattle.wt_proto.specs.declared.session_walk.SessionWalk.TheVariants as walks
 
 -- ---- the ways in which a moment writes the table
 
--- why a stream is classified, at the table so far, and why one more datagram is dequeued
+-- why a stream is classified, at the table so far, why one more datagram is dequeued, and, with these streams classified, why the
+-- connection ends and why SETTINGS came
 pub record Causes : Type 1 where
   pub classified : StreamTable → ℕ → Verdict → Consequence → Type 0
   pub datagram : ℕ → Type 0
+  pub ending : List Classified → Ending → Type 0
+  pub settings : List Classified → Type 0
 
 abbrev pub with_progress : StreamTable → Progress → StreamTable
 with_progress t p = record t { progress = p }
 
 -- a property that each way keeps
 pub record IsKept (c : Causes) (P : StreamTable → Type 0) : Type 0 where
-  pub by_ending : (t : StreamTable) (e : Ending) → P t → P (with_progress t (ended_by e t.progress))
+  pub by_ending : (t : StreamTable) (e : Ending) → c.ending t.classified e → P t → P (with_progress t (ended_by e t.progress))
   pub by_moment : (t : StreamTable) → P t → P (without_stops t)
-  pub by_settings : (t : StreamTable) (b : Bool) → P t → P (with_progress t (record t.progress { settings = t.progress.settings || b }))
+  pub by_settings : (t : StreamTable) (b : Bool) → (b ≡ true → c.settings t.classified) → P t → P (with_progress t (record t.progress { settings = t.progress.settings || b }))
   pub by_datagram : (t : StreamTable) → c.datagram t.progress.datagrams → P t → P (with_progress t (record t.progress { datagrams = suc t.progress.datagrams }))
   pub by_dequeued : (t : StreamTable) (k : ℕ) → P t → P (record t { dequeued = k ∷ t.dequeued })
-  pub by_classified : (t : StreamTable) (k : ℕ) (v : Verdict) (e : Consequence) → c.classified t k v e → verdict_of k t.classified ≡ None → P t → P (with_classified k v e t)
+  pub by_classified : (t : StreamTable) (k : ℕ) (v : Verdict) (e : Consequence) → c.classified t k v e → verdict_of k t.classified ≡ None → t.progress.ending ≡ None → P t → P (with_classified k v e t)
 
 abbrev pub KeepsTable : (StreamTable → Type 0) → (StreamTable → StreamTable) → Type 0
 KeepsTable P f = (t : StreamTable) → P t → P (f t)
@@ -55,74 +61,79 @@ AllCaused c calls rule [] = Unit {0}
 AllCaused c calls rule (k ∷ ks) = CausedBy c calls rule k × AllCaused c calls rule ks
 
 module _ {c : Causes} (P : StreamTable → Type 0) (i : IsKept c P) (calls : CallView) (rule : SlotRule) where
-  kept-classify : (b : Bool) (k : ℕ) (s : Scan) → is_final (rule.verdict k) ≡ b → CausedBy c calls rule k → verdict_of k s.table.classified ≡ None → P s.table → P (classify b calls rule k s).table
-  kept-classify false k s f q e p = p
-  kept-classify true k s f q e p = i.by_classified s.table k (rule.verdict k) _ (q f s.table) e p
+  kept-classify : (b : Bool) (k : ℕ) (s : Scan) → is_final (rule.verdict k) ≡ b → CausedBy c calls rule k → verdict_of k s.table.classified ≡ None → s.table.progress.ending ≡ None → P s.table → P (classify b calls rule k s).table
+  kept-classify false k s f q e n p = p
+  kept-classify true k s f q e n p = i.by_classified s.table k (rule.verdict k) _ (q f s.table) e n p
 
   kept-dequeued : (b : Bool) (k : ℕ) (t : StreamTable) → P t → P (record t { dequeued = if b then t.dequeued else k ∷ t.dequeued })
   kept-dequeued true k t p = p
   kept-dequeued false k t p = i.by_dequeued t k p
 
-  kept-dequeue : (b : Bool) (k : ℕ) (s : Scan) → CausedBy c calls rule k → verdict_of k s.table.classified ≡ None → P s.table → P (dequeue b calls rule k s).table
-  kept-dequeue false k s q e p = p
-  kept-dequeue true k s q e p = kept-classify (is_final (rule.verdict k)) k _ refl q e (kept-dequeued (has k s.table.dequeued) k s.table p)
+  kept-dequeue : (b : Bool) (k : ℕ) (s : Scan) → CausedBy c calls rule k → verdict_of k s.table.classified ≡ None → s.table.progress.ending ≡ None → P s.table → P (dequeue b calls rule k s).table
+  kept-dequeue false k s q e n p = p
+  kept-dequeue true k s q e n p = kept-classify (is_final (rule.verdict k)) k _ refl q e n (kept-dequeued (has k s.table.dequeued) k s.table p)
 
-  kept-visit : (ready : Bool) (k : ℕ) (o : Option Verdict) (s : Scan) → CausedBy c calls rule k → verdict_of k s.table.classified ≡ o → P s.table → P (visit ready calls rule k o s).table
-  kept-visit ready k (Some v) s q e p = p
-  kept-visit ready k None s q e p = kept-dequeue (has k s.table.dequeued || (ready && nat_lt s.occupied rule.slots)) k s q e p
+  kept-visit : (ready : Bool) (k : ℕ) (o : Option Verdict) (s : Scan) → CausedBy c calls rule k → verdict_of k s.table.classified ≡ o → s.table.progress.ending ≡ None → P s.table → P (visit ready calls rule k o s).table
+  kept-visit ready k (Some v) s q e n p = p
+  kept-visit ready k None s q e n p = kept-dequeue (has k s.table.dequeued || (ready && nat_lt s.occupied rule.slots)) k s q e n p
 
-  kept-unless : (f : Scan → Scan) → ((s : Scan) → P s.table → P (f s).table) → (o : Option Ending) (s : Scan) → P s.table → P (unless_ended o f s).table
-  kept-unless f g None s p = g s p
-  kept-unless f g (Some e) s p = p
+  kept-unless : (f : Scan → Scan) → ((s : Scan) → s.table.progress.ending ≡ None → P s.table → P (f s).table) → (o : Option Ending) (s : Scan) → s.table.progress.ending ≡ o → P s.table → P (unless_ended o f s).table
+  kept-unless f g None s e p = g s e p
+  kept-unless f g (Some x) s e p = p
 
-  kept-scan : (ready : Bool) (ks : List ℕ) (s : Scan) → AllCaused c calls rule ks → P s.table → P (scan ready calls rule ks s).table
+  pub kept-scan : (ready : Bool) (ks : List ℕ) (s : Scan) → AllCaused c calls rule ks → P s.table → P (scan ready calls rule ks s).table
   kept-scan ready [] s a p = p
   kept-scan ready (k ∷ ks) s a p =
       kept-unless (λ u. scan ready calls rule ks (visit ready calls rule k (verdict_of k u.table.classified) u))
-      (λ u q. kept-scan ready ks _ a.1 (kept-visit ready k (verdict_of k u.table.classified) u a.0 refl q)) s.table.progress.ending s p
+      (λ u n q. kept-scan ready ks _ a.1 (kept-visit ready k (verdict_of k u.table.classified) u a.0 refl n q)) s.table.progress.ending s refl p
 
 -- ---- the checks
+
+-- what the checks behind the scan find is a cause
+pub record CheckCauses (c : Causes) (cs : List Classified) (t : TransportView) (session : Option (ℕ × ℕ)) (d : Dispatched) : Type 0 where
+  pub datagram : (n : ℕ) → is_some (t.datagram n) ≡ true → c.datagram n
+  pub no_datagram : (n : ℕ) (piece : List ℕ) (code : ErrorCode) → t.datagram n ≡ Some piece → datagram_of piece ≡ Err code → c.ending cs (ByFault code)
+  pub session_fault : (s : ℕ × ℕ) (code : ErrorCode) → session ≡ Some s → session_walk_of (drop s.1 (t.contents s.0)) (t.end s.0) ≡ walks.Fault code → c.ending cs (ByFault code)
+  pub session_closed : (s : ℕ × ℕ) (code : ℕ) (reason : List ℕ) → session ≡ Some s → session_walk_of (drop s.1 (t.contents s.0)) (t.end s.0) ≡ walks.Closed code reason
+      → c.ending cs (BySession code reason (is_over (session_walk_of (drop s.1 (t.contents s.0)) ends.Running)))
+  pub stopped : t.control_stopped ≡ true → c.ending cs (ByFault h3.ClosedCriticalStream)
+  pub control_fault : (x : ℕ × ℕ) (code : ErrorCode) → d.control ≡ Some x → (control_walk_of (drop x.1 (t.contents x.0)) (t.end x.0)).fault ≡ Some code → c.ending cs (ByFault code)
+  pub settings : (x : ℕ × ℕ) → d.control ≡ Some x → is_some (control_walk_of (drop x.1 (t.contents x.0)) (t.end x.0)).settings ≡ true → c.settings cs
+  pub encoder : (x : ℕ × ℕ) → d.encoder ≡ Some x → not (is_running (t.end x.0)) ≡ true → c.ending cs (ByFault h3.ClosedCriticalStream)
+  pub decoder : (x : ℕ × ℕ) → d.decoder ≡ Some x → not (is_running (t.end x.0)) ≡ true → c.ending cs (ByFault h3.ClosedCriticalStream)
 
 module _ {c : Causes} (P : StreamTable → Type 0) (i : IsKept c P) (table : StreamTable) where
   abbrev At : Progress → Type 0
   At p = P (with_progress table p)
 
-  kept-critical : (b : Bool) (p : Progress) → At p → At (critical_if b p)
-  kept-critical true p h = i.by_ending (with_progress table p) (ByFault h3.ClosedCriticalStream) h
-  kept-critical false p h = h
+  -- an ending by this fault has a cause
+  abbrev Faults : ErrorCode → Type 0
+  Faults code = c.ending table.classified (ByFault code)
 
-  kept-parsed : (r : Result (ℕ × List ℕ) ErrorCode) (p : Progress) → At p → At (parsed_datagram r p)
-  kept-parsed (Ok d) p h = h
-  kept-parsed (Err code) p h = i.by_ending (with_progress table p) (ByFault code) h
+  kept-critical : (b : Bool) (p : Progress) → (b ≡ true → Faults h3.ClosedCriticalStream) → At p → At (critical_if b p)
+  kept-critical true p f h = i.by_ending (with_progress table p) (ByFault h3.ClosedCriticalStream) (f refl) h
+  kept-critical false p f h = h
 
-  kept-datagram : (o : Option (List ℕ)) (p : Progress) → (is_some o ≡ true → c.datagram p.datagrams) → At p → At (dequeued_datagram o p)
-  kept-datagram None p q h = h
-  kept-datagram (Some piece) p q h = kept-parsed (datagram_of piece) (record p { datagrams = suc p.datagrams }) (i.by_datagram (with_progress table p) (q refl) h)
+  kept-parsed : (r : Result (ℕ × List ℕ) ErrorCode) (p : Progress) → ((code : ErrorCode) → r ≡ Err code → Faults code) → At p → At (parsed_datagram r p)
+  kept-parsed (Ok d) p f h = h
+  kept-parsed (Err code) p f h = i.by_ending (with_progress table p) (ByFault code) (f code refl) h
 
-  kept-check-datagram : (b : Bool) (t : TransportView) (p : Progress) → ((n : ℕ) → is_some (t.datagram n) ≡ true → c.datagram n) → At p → At (check_datagram b t p)
-  kept-check-datagram true t p q h = kept-datagram (t.datagram p.datagrams) p (q p.datagrams) h
-  kept-check-datagram false t p q h = h
+  kept-datagram : (o : Option (List ℕ)) (p : Progress) → (is_some o ≡ true → c.datagram p.datagrams) → ((piece : List ℕ) (code : ErrorCode) → o ≡ Some piece → datagram_of piece ≡ Err code → Faults code) → At p → At (dequeued_datagram o p)
+  kept-datagram None p q f h = h
+  kept-datagram (Some piece) p q f h = kept-parsed (datagram_of piece) (record p { datagrams = suc p.datagrams }) (λ code e. f piece code refl e) (i.by_datagram (with_progress table p) (q refl) h)
 
-  kept-session-ends : (w : SessionWalk) (b : Bool) (p : Progress) → At p → At (session_ends w b p)
-  kept-session-ends walks.Running b p h = h
-  kept-session-ends (walks.Closed code reason) b p h = i.by_ending (with_progress table p) (BySession code reason b) h
-  kept-session-ends (walks.Fault code) b p h = i.by_ending (with_progress table p) (ByFault code) h
+  kept-session-ends : (w : SessionWalk) (b : Bool) (p : Progress) → ((code : ErrorCode) → w ≡ walks.Fault code → Faults code) → ((code : ℕ) (reason : List ℕ) → w ≡ walks.Closed code reason → c.ending table.classified (BySession code reason b)) → At p → At (session_ends w b p)
+  kept-session-ends walks.Running b p f g h = h
+  kept-session-ends (walks.Closed code reason) b p f g h = i.by_ending (with_progress table p) (BySession code reason b) (g code reason refl) h
+  kept-session-ends (walks.Fault code) b p f g h = i.by_ending (with_progress table p) (ByFault code) (f code refl) h
 
-  kept-session : (t : TransportView) (o : Option (ℕ × ℕ)) (p : Progress) → At p → At (check_session t o p)
-  kept-session t None p h = h
-  kept-session t (Some s) p h = kept-session-ends (session_walk_of (drop s.1 (t.contents s.0)) (t.end s.0)) _ p h
+  kept-with-fault : (o : Option ErrorCode) (p : Progress) → ((code : ErrorCode) → o ≡ Some code → Faults code) → At p → At (with_fault o p)
+  kept-with-fault None p f h = h
+  kept-with-fault (Some code) p f h = i.by_ending (with_progress table p) (ByFault code) (f code refl) h
 
-  kept-with-fault : (o : Option ErrorCode) (p : Progress) → At p → At (with_fault o p)
-  kept-with-fault None p h = h
-  kept-with-fault (Some code) p h = i.by_ending (with_progress table p) (ByFault code) h
-
-  kept-control : (t : TransportView) (o : Option (ℕ × ℕ)) (p : Progress) → At p → At (check_control t o p)
-  kept-control t None p h = h
-  kept-control t (Some x) p h = kept-with-fault _ _ (i.by_settings (with_progress table p) _ h)
-
-  kept-qpack : (t : TransportView) (o : Option (ℕ × ℕ)) (p : Progress) → At p → At (check_qpack t o p)
-  kept-qpack t None p h = h
-  kept-qpack t (Some x) p h = kept-critical _ p h
+  kept-qpack : (t : TransportView) (o : Option (ℕ × ℕ)) (p : Progress) → ((x : ℕ × ℕ) → o ≡ Some x → not (is_running (t.end x.0)) ≡ true → Faults h3.ClosedCriticalStream) → At p → At (check_qpack t o p)
+  kept-qpack t None p f h = h
+  kept-qpack t (Some x) p f h = kept-critical _ p (f x refl) h
 
   abbrev AllKeep : List (Progress → Progress) → Type 0
   AllKeep [] = Unit {0}
@@ -136,23 +147,36 @@ module _ {c : Causes} (P : StreamTable → Type 0) (i : IsKept c P) (table : Str
   kept-in-order [] a p h = h
   kept-in-order (f ∷ fs) a p h = kept-in-order fs a.1 _ (kept-check f a.0 p.ending p h)
 
-  kept-checks : (t : TransportView) (calls : CallView) (d : Dispatched) (p : Progress) → ((n : ℕ) → is_some (t.datagram n) ≡ true → c.datagram n) → At p → At (in_order (checks t calls d) p)
-  kept-checks t calls d p q h = kept-in-order (checks t calls d) (
-    (λ u g. kept-check-datagram (t.ready && calls.datagrams == u.datagrams) t u q g),
-    (
-      (λ u g. kept-session t calls.session u g),
+  module _ (t : TransportView) (calls : CallView) (d : Dispatched) (q : CheckCauses c table.classified t calls.session d) where
+    kept-check-datagram : (b : Bool) (p : Progress) → At p → At (check_datagram b t p)
+    kept-check-datagram true p h = kept-datagram (t.datagram p.datagrams) p (q.datagram p.datagrams) (λ piece code. q.no_datagram p.datagrams piece code) h
+    kept-check-datagram false p h = h
+
+    kept-session : (o : Option (ℕ × ℕ)) → calls.session ≡ o → (p : Progress) → At p → At (check_session t o p)
+    kept-session None e p h = h
+    kept-session (Some s) e p h = kept-session-ends (session_walk_of (drop s.1 (t.contents s.0)) (t.end s.0)) _ p (λ code. q.session_fault s code e) (λ code reason. q.session_closed s code reason e) h
+
+    kept-control : (o : Option (ℕ × ℕ)) → d.control ≡ o → (p : Progress) → At p → At (check_control t o p)
+    kept-control None e p h = h
+    kept-control (Some x) e p h = kept-with-fault _ _ (λ code. q.control_fault x code e) (i.by_settings (with_progress table p) _ (q.settings x e) h)
+
+    kept-checks : (p : Progress) → At p → At (in_order (checks t calls d) p)
+    kept-checks p h = kept-in-order (checks t calls d) (
+      (λ u g. kept-check-datagram (t.ready && calls.datagrams == u.datagrams) u g),
       (
-        (λ u g. kept-critical t.control_stopped u g),
+        (λ u g. kept-session calls.session refl u g),
         (
-          (λ u g. kept-control t d.control u g),
+          (λ u g. kept-critical t.control_stopped u q.stopped g),
           (
-            (λ u g. kept-qpack t d.encoder u g),
-            ((λ u g. kept-qpack t d.decoder u g), tt),
+            (λ u g. kept-control d.control refl u g),
+            (
+              (λ u g. kept-qpack t d.encoder u q.encoder g),
+              ((λ u g. kept-qpack t d.decoder u q.decoder g), tt),
+            ),
           ),
         ),
       ),
-    ),
-  ) p h
+    ) p h
 
 -- ---- a moment
 
@@ -164,7 +188,26 @@ pub data ClassifiedAs (side : Side) (log : Log) (t : StreamTable) (k : ℕ) (v :
       → e ≡ bi_consequence (dispatched (call_view log) t.classified) k v → ClassifiedAs side log t k v e
 
 abbrev pub causes : Side → Log → Causes
-causes side log = record { classified = ClassifiedAs side log; datagram = λ n. is_some (slice_get (datagrams_of (events_of log)) n) ≡ true }
+causes side log = record {
+  classified = ClassifiedAs side log;
+  datagram = λ n. is_some (slice_get (datagrams_of (events_of log)) n) ≡ true;
+  ending = EndingCause side log;
+  settings = SettingsRead side log;
+}
+
+-- what the checks find at this log is a cause
+check-causes : (side : Side) (log : Log) (cs : List Classified) → CheckCauses (causes side log) cs (transport_view side log) (call_view log).session (dispatched (call_view log) cs)
+check-causes side log cs = record {
+  datagram = λ n e. e;
+  no_datagram = NoDatagram;
+  session_fault = SessionFault;
+  session_closed = SessionClosed;
+  stopped = ControlStopped;
+  control_fault = ControlFault;
+  settings = λ x e r. record { control = x; first = e; read = r };
+  encoder = λ x e r. EncoderEnded x e (not-true _ r);
+  decoder = λ x e r. DecoderEnded x e (not-true _ r);
+}
 
 is-among : (kind n count : ℕ) → nat_lt kind 4 ≡ true → is_among kind (n + suc count) (4 * n + kind) ≡ true
 is-among kind n count e =
@@ -196,7 +239,7 @@ kept-moment P side log i t p =
     let bis = kept-scan P i calls (bi_rule v) v.ready (bi_ids v) (record { occupied = 0; table = scan_unis v calls (without_stops t) })
     (caused-ids (causes side log) calls (bi_rule v) (peer_bi side) 0 v.bis v.bis (small-bi side) (omega arith) (λ k o f u. AsBi o refl f refl)) unis in
     let table = scan_bis v calls (scan_unis v calls (without_stops t)) in
-    kept-checks P i table v calls (dispatched calls table.classified) table.progress (λ n e. e) bis
+    kept-checks P i table v calls (dispatched calls table.classified) (check-causes side log table.classified) table.progress bis
 
 kept-if : (P : StreamTable → Type 0) (f : StreamTable → StreamTable) → KeepsTable P f → (b : Bool) → KeepsTable P (apply_if b f)
 kept-if P f k true t p = k t p

@@ -34,13 +34,15 @@ use Rattle.wt_wire.specs.declared.side.StreamEnd.{StreamEnd}
 use Rattle.wt_laws.proofs.During.{actions-extend, extend, flush-extends}
 use Rattle.wt_laws.proofs.Looks.{at-first, events-logged, left_to_release, next-within, pass-drops}
 use Rattle.wt_laws.proofs.Steps.{calls-logged}
+use Rattle.wt_laws.proofs.StreamLaws.{none-left}
 use Rattle.wt_laws.specs.Causes.{FoundDatagram, FoundStream, accepted_kind, is_accept, is_receive}
 use Rattle.wt_laws.specs.Left.{PassesDatagram, PassesNone, PassesStream, PassesTo, PendingExactly, awaits_response, connect_waits, datagram_reply, handshake_waits, has_no_stream, has_nothing_left, is_none_queued, is_pending, is_waiting, lacks_credit, may_dial, of_session, passing_reply, rejection_waits, request_waits, response_waits, session_reply, stream_reply}
-use Rattle.wt_laws.specs.Laws.{GoesOnFrom}
+use Rattle.wt_laws.specs.Laws.{GoesOnFrom, is_left_for}
+use Rattle.wt_laws.specs.Told.{given_stream}
 use Rattle.wt_spec.specs.Answers.{answer_to, call_effect, in_session, is_client, is_first, is_lawful, may_call, on_session, turn_effect}
 use Rattle.wt_spec.specs.Connect.{address_of, connect_to, outcome_error, port_of, unless_stopped, with_address}
 use Rattle.wt_spec.specs.Connection.{accept_due, accept_first, accept_stream, datagram_allowed, datagram_within, give_or_pass, is_for_session, is_opening, next_datagram, next_due, open_stream, pass_stream, poll_opening, receive_datagram, receive_first, receive_next, receive_or_pass, send_datagram, stream_header}
-use Rattle.wt_spec.specs.Driver.{established, session_id, settings_came, settled_datagrams}
+use Rattle.wt_spec.specs.Driver.{established, session_id, settings_came, settled_datagrams, stream_table}
 use Rattle.wt_spec.specs.Effect.{Effect, head_left, is_covered, is_empty, log_call, pending_or_failed, poll_only}
 use Rattle.wt_spec.specs.Halves.{all_written_reply, at_stream_end, exact_at_end, has_receiving_half, has_sending_half, is_done, on_half, read, read_exact, read_reply, reset, stopped_reply, unread, write_by, write_error, written_reply}
 use Rattle.wt_spec.specs.Handshake.{Connecting, HandshakeState, Responding, accept_response, continue_by, continue_connect, deliver, handshake_state, has_success, is_continuable, is_refused, open_request, queued_requests, read_response, reject_response, requested, respond, response_head, send_request, unless_reserved}
@@ -558,12 +560,32 @@ decides-passing side log (turns.Call calls.ReceiveDatagram) p =
 decides-passing side log (turns.Call _) p = absurd (cc)
 decides-passing side log _ p = absurd (cc)
 
+-- where an accept gives no stream, none is due
+module _ (side : Side) (log : Log) (reply : Reply) (s at_ : ℕ) (d : established (calls_of log) ≡ Some (s, at_)) (n : given_stream reply ≡ None) where
+  none-due : (give : ℕ → Reply) (kind : ℕ) → ((j : ℕ) → given_stream (give j) ≡ Some j) → reply ≡ session_reply (λ (j : ℕ). stream_reply side log give (next_due side log kind j)) (established (calls_of log)) → next_due side log kind s ≡ None
+  none-due give kind f e = at (next_due side log kind s) refl
+    where
+      at : (o : Option Classified) → next_due side log kind s ≡ o → o ≡ None
+      at None q = refl
+      at (Some c) q =
+          let x : reply ≡ give c.id = e ∙ ap (session_reply (λ (j : ℕ). stream_reply side log give (next_due side log kind j))) d ∙ ap (stream_reply side log give) q in
+          let y = f c.id in let z = ap given_stream x in absurd (cc)
+
+  accept-none : (turn : Turn) → is_accept turn ≡ true → ((r : Reply) → passing_reply side turn log ≡ Some r → reply ≡ r) → next_due side log (accepted_kind side turn) s ≡ None
+  accept-none (turns.Call calls.AcceptUni) a g = none-due replies.Uni (peer_uni side) (λ j. refl) (g _ refl)
+  accept-none (turns.Call calls.AcceptBi) a g = none-due replies.Bi (peer_bi side) (λ j. refl) (g _ refl)
+  accept-none _ a g = absurd (cc)
+
+left-so : (side : Side) (turn : Turn) (log : Log) (reply : Reply) → ((r : Reply) → passing_reply side turn log ≡ Some r → reply ≡ r) → (s at_ : ℕ) → is_accept turn ≡ true → given_stream reply ≡ None → established (calls_of log) ≡ Some (s, at_)
+    → list_any (is_left_for log (accepted_kind side turn) s) (stream_table side log).classified ≡ false
+left-so side turn log reply g s at_ a n d = none-left side log (accepted_kind side turn) s (accept-none side log reply s at_ d n turn a g)
+
 pub pending-exactly : (side : Side) (log : Log) (turn : Turn) → is_lawful side log turn ≡ true → PendingExactly side log turn
 pending-exactly side log turn l = at (is_accept turn || is_receive turn) refl
   where
     at : (b : Bool) → (is_accept turn || is_receive turn) ≡ b → PendingExactly side log turn
-    at true p = let d = decides-passing side log turn p in record { decided = d.decided; passes = d.passes; no_stream = d.no_stream; no_datagram = d.no_datagram; exactly = d.exactly; gives = d.gives }
-    at false p = let d = at-once side turn log (turn_effect side log turn) p (waits-turn side log turn l p) in record { decided = d.decided; passes = d.passes; no_stream = d.no_stream; no_datagram = d.no_datagram; exactly = d.exactly; gives = d.gives }
+    at true p = let d = decides-passing side log turn p in record { decided = d.decided; passes = d.passes; no_stream = d.no_stream; no_datagram = d.no_datagram; exactly = d.exactly; gives = d.gives; none_left = left-so side turn d.decided _ d.gives }
+    at false p = let d = at-once side turn log (turn_effect side log turn) p (waits-turn side log turn l p) in record { decided = d.decided; passes = d.passes; no_stream = d.no_stream; no_datagram = d.no_datagram; exactly = d.exactly; gives = d.gives; none_left = left-so side turn d.decided _ d.gives }
 
 -- ---- a connection that has ended
 

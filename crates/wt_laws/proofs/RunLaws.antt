@@ -92,12 +92,12 @@ has-more k j xs e = or_right (j == k) _ e
 
 dequeued-stays : (side : Side) (k : ℕ) (e : Entry) (log : Log) → has k (stream_table side log).dequeued ≡ true → has k (stream_table side (e ∷ log)).dequeued ≡ true
 dequeued-stays side k e log p = kept (λ t. has k t.dequeued ≡ true) side e log (record {
-  by_ending = λ t e p. p;
+  by_ending = λ t e x p. p;
   by_moment = λ t p. p;
-  by_settings = λ t b p. p;
+  by_settings = λ t b x p. p;
   by_datagram = λ t n p. p;
   by_dequeued = λ t j p. has-more k j t.dequeued p;
-  by_classified = λ t j v e x n p. p;
+  by_classified = λ t j v e x n still p. p;
 }) p
 
 abbrev Behind : List Classified → List Classified → Type 0

@@ -1,32 +1,38 @@
 -- Sessions: established once, and only after SETTINGS and a request or a response with success.
 use Rattle.std.specs.Prelude.{[], ◌==◌, ◌∷◌, ◌≡◌, Bool, List, None, Option, Some, codes, false, if◌then◌else◌, not, true, ℕ}
 use Rattle.std.proofs.Common.{◌∙◌, ap, refl, subst, sym}
-use Rattle.std.proofs.lemmas.Bool.{and_parts, eq-eqb, eqb-true, or_left}
+use Rattle.std.proofs.lemmas.Bool.{and_parts, eq-eqb, eqb-true, not-true, or_left}
 use Rattle.std.specs.List.{list_any}
+use Rattle.wt_proto.specs.Bi.{bi_verdict_of}
 use Rattle.wt_proto.specs.declared.verdict.Verdict.{Verdict}
 use Rattle.wt_seam_spec.specs.Joined.{send_of}
-use Rattle.wt_turn.specs.Log.{BytesRead, CallRecord, Called, ConnectStarted, DatagramReceived, Entry, HandshakeOver, Log, Received, Reported, ReportedLate, RequestDelivered, ResponseStarted, Sent, SessionEstablished, StreamAccepted, calls_of, with_actions}
+use Rattle.wt_seam_spec.specs.Reports.{end_of}
+use Rattle.wt_seam_spec.specs.Streams.{contents, peer_bi, peer_count}
+use Rattle.wt_turn.specs.Log.{BytesRead, CallRecord, Called, ConnectStarted, DatagramReceived, Entry, HandshakeOver, Log, Received, Reported, ReportedLate, RequestDelivered, ResponseStarted, Sent, SessionEstablished, StreamAccepted, calls_of, events_of, with_actions}
 use Rattle.wt_turn.specs.declared.action.Action.{Action}
 use Rattle.wt_turn.specs.declared.reply.Reply.{Reply}
 use Rattle.wt_turn.specs.declared.turn.Turn.{Turn}
 use Rattle.wt_wire.specs.HeaderList.{Fields}
 use Rattle.wt_wire.specs.declared.side.Side.{Side}
 use Rattle.wt_laws.proofs.Calls.{caused}
+use Rattle.wt_laws.proofs.Caused.{head-out}
 use Rattle.wt_laws.proofs.Classified.{classified-stays, first-picked, once}
+use Rattle.wt_laws.proofs.Facts.{Facts, facts-entries, facts-first}
 use Rattle.wt_laws.proofs.Looks.{from-or}
 use Rattle.wt_laws.proofs.Moments.{Causes, IsKept, kept}
 use Rattle.wt_laws.proofs.Reached.{keeps-turn, reached}
+use Rattle.wt_laws.proofs.RequestLaws.{Carries, carries}
 use Rattle.wt_laws.proofs.Steps.{Keeps, KeepsEntries, blind-actions, by-entries, calls-with}
 use Rattle.wt_laws.specs.Causes.{ByAcceptance, ByAnswer, ByRejection, ByResponse, DeliverCause, EstablishCause, EstablishedBy, FromBefore, RecordCause, ResponseFrom, is_under_way}
 use Rattle.wt_laws.specs.Laws.{AfterRequest, AfterResponse, EstablishedHow, EstablishedRightly, GoesOnFrom, OneSession, SessionTold, SessionsRightly, WasDelivered}
-use Rattle.wt_laws.specs.Reachable.{IsReachable}
+use Rattle.wt_laws.specs.Reachable.{IsReachable, is_among}
 use Rattle.wt_laws.specs.Told.{Logged, NoRecord, OneRecord, Tells, ThenPolled, datagram_told, given_stream, is_quiet, read_piece, request_told, session_told}
-use Rattle.wt_spec.specs.Answers.{is_lawful, log_after}
+use Rattle.wt_spec.specs.Answers.{is_client, is_lawful, log_after}
 use Rattle.wt_spec.specs.Connection.{first_of}
 use Rattle.wt_spec.specs.Driver.{call_view, delivers, established, session_id, settings_came, stream_table}
 use Rattle.wt_spec.specs.Effect.{head_left, is_covered}
-use Rattle.wt_spec.specs.Handshake.{HandshakeState, Requested, Responding, handshake_state, request_end, requested, response_head}
-use Rattle.wt_spec.specs.StreamTable.{StreamTable, awaits_delivery, dispatched, is_request, verdict_of}
+use Rattle.wt_spec.specs.Handshake.{Connecting, HandshakeState, Requested, Responding, handshake_state, queued_requests, request_end, request_fields_of, requested, response_head}
+use Rattle.wt_spec.specs.StreamTable.{Classified, StreamTable, awaits_delivery, dispatched, is_request, verdict_of}
 use Rattle.wt_turn.specs.declared.reply.Reply.TheVariants as replies
 use Rattle.wt_proto.specs.declared.verdict.Verdict.TheVariants as verdicts
 
@@ -34,12 +40,12 @@ use Rattle.wt_proto.specs.declared.verdict.Verdict.TheVariants as verdicts
 
 settings-kept : (c : Causes) → IsKept c (λ t. t.progress.settings ≡ true)
 settings-kept c = record {
-  by_ending = λ t e p. p;
+  by_ending = λ t e x p. p;
   by_moment = λ t p. p;
-  by_settings = λ t b p. or_left t.progress.settings b p;
+  by_settings = λ t b x p. or_left t.progress.settings b p;
   by_datagram = λ t n p. p;
   by_dequeued = λ t k p. p;
-  by_classified = λ t k v e x n p. p;
+  by_classified = λ t k v e x n still p. p;
 }
 
 pub settings-stay : (side : Side) (e : Entry) (log : Log) → settings_came side log ≡ true → settings_came side (e ∷ log) ≡ true
@@ -71,6 +77,8 @@ pub record Handshakes (side : Side) (log : Log) : Type 0 where
   pub acceptance : (head : List ℕ) → handshake_state (calls_of log) ≡ Responding true head → IsAcceptance head
   pub delivered : (k : ℕ) → list_any (delivers k) (calls_of log) ≡ true → HadRequest side log k
   pub has_one : has_request (handshake_state (calls_of log)) ≡ true → list_any (delivers (requested (calls_of log))) (calls_of log) ≡ true
+  pub by_server : has_request (handshake_state (calls_of log)) ≡ true → is_client side ≡ false
+  pub by_client : (reserved : Option (List ℕ)) (head : List ℕ) → handshake_state (calls_of log) ≡ Connecting reserved head → is_client side ≡ true
 
 pub handshakes-same : (side : Side) (e : Entry) (log : Log) → calls_of (e ∷ log) ≡ calls_of log → Handshakes side log → Handshakes side (e ∷ log)
 handshakes-same side e log c f = record {
@@ -78,6 +86,8 @@ handshakes-same side e log c f = record {
   acceptance = rw c f.acceptance;
   delivered = λ k x. delivered-stays side e log k (f.delivered k (ap (list_any (delivers k)) (sym c) ∙ x));
   has_one = rw c f.has_one;
+  by_server = rw c f.by_server;
+  by_client = rw c f.by_client;
 }
 
 -- where a response comes from, a request was delivered
@@ -113,17 +123,26 @@ request-verdict : (v : Verdict) → is_request v ≡ true → (headers : Fields)
 request-verdict (verdicts.Request headers at) e = (headers, at, refl)
 request-verdict _ e = absurd (cc)
 
-pub was-delivered : (side : Side) (log : Log) (k : ℕ) → DeliverCause side log k → HadRequest side log k
-was-delivered side log k c = at (settings_came side log) refl c.first
+-- the first request that is queued waits for its delivery
+pub record FirstQueued (side : Side) (log : Log) (c : Classified) : Type 0 where
+  pub request : HadRequest side log c.id
+  pub same : request_fields_of c.verdict ≡ request.headers
+  pub fresh : list_any (delivers c.id) (calls_of log) ≡ false
+
+pub first-queued : (side : Side) (log : Log) (c : Classified) (later : List Classified) → queued_requests side log ≡ c ∷ later → FirstQueued side log c
+first-queued side log c later q = at (settings_came side log) refl q
   where
-    at : (b : Bool) → settings_came side log ≡ b → (if b then (dispatched (call_view log) (stream_table side log).classified).requests else []) ≡ c.queued ∷ c.later → HadRequest side log k
+    at : (b : Bool) → settings_came side log ≡ b → (if b then (dispatched (call_view log) (stream_table side log).classified).requests else []) ≡ c ∷ later → FirstQueued side log c
     at true s e =
         let keep = awaits_delivery (call_view log).delivered in
-        let p = first-picked keep (λ x. true) (stream_table side log).classified c.queued (once side log) (ap (first_of (λ x. true)) e) in
-        let a = and_parts (not (list_any (delivers c.queued.id) (calls_of log))) _ p.kept_for in
-        let v = request-verdict c.queued.verdict (and_parts (is_request c.queued.verdict) _ a.1).0 in
-        record { settings = s; headers = v.0; at = v.1; verdict = subst (λ j. verdict_of j (stream_table side log).classified ≡ Some c.queued.verdict) c.same p.among ∙ ap Some v.2 }
+        let p = first-picked keep (λ x. true) (stream_table side log).classified c (once side log) (ap (first_of (λ x. true)) e) in
+        let a = and_parts (not (list_any (delivers c.id) (calls_of log))) _ p.kept_for in
+        let v = request-verdict c.verdict (and_parts (is_request c.verdict) _ a.1).0 in
+        record { request = record { settings = s; headers = v.0; at = v.1; verdict = p.among ∙ ap Some v.2 }; same = ap request_fields_of v.2; fresh = not-true _ a.0 }
     at false s e = absurd (cc)
+
+pub was-delivered : (side : Side) (log : Log) (k : ℕ) → DeliverCause side log k → HadRequest side log k
+was-delivered side log k c = subst (λ (n : ℕ). HadRequest side log n) c.same (first-queued side log c.queued c.later c.first).request
 
 new-delivered : (side : Side) (turn : Turn) (log : Log) (k : ℕ) (r : CallRecord) → RecordCause side turn log r → delivers k r ≡ true → HadRequest side log k
 new-delivered side turn log k (RequestDelivered id) c e = subst (λ (n : ℕ). HadRequest side log n) (eqb-true id k e) (was-delivered side log id c)
@@ -137,12 +156,30 @@ new-has-one side turn log HandshakeOver f c e = absurd (cc)
 new-has-one side turn log (ConnectStarted reserved head) f c e = absurd (cc)
 new-has-one side turn log _ f c e = f.has_one e
 
+new-server : (side : Side) (turn : Turn) (log : Log) (r : CallRecord) → Handshakes side log → RecordCause side turn log r → has_request (handshake_state (r ∷ calls_of log)) ≡ true → is_client side ≡ false
+new-server side turn log (RequestDelivered k) f c e = c.by_server
+new-server side turn log (ResponseStarted accepts head) f c e = f.by_server (from-request turn (calls_of log) accepts head c.0)
+new-server side turn log (SessionEstablished id at) f c e = absurd (cc)
+new-server side turn log HandshakeOver f c e = absurd (cc)
+new-server side turn log (ConnectStarted reserved head) f c e = absurd (cc)
+new-server side turn log _ f c e = f.by_server e
+
+new-client : (side : Side) (turn : Turn) (log : Log) (r : CallRecord) (reserved : Option (List ℕ)) (head : List ℕ) → Handshakes side log → RecordCause side turn log r → handshake_state (r ∷ calls_of log) ≡ Connecting reserved head → is_client side ≡ true
+new-client side turn log (ConnectStarted o h) reserved head f c e = c.1
+new-client side turn log (RequestDelivered k) reserved head f c e = absurd (cc)
+new-client side turn log (ResponseStarted accepts h) reserved head f c e = absurd (cc)
+new-client side turn log (SessionEstablished id at) reserved head f c e = absurd (cc)
+new-client side turn log HandshakeOver reserved head f c e = absurd (cc)
+new-client side turn log _ reserved head f c e = f.by_client reserved head e
+
 pub handshakes-record : (side : Side) (turn : Turn) (log : Log) (r : CallRecord) → RecordCause side turn log r → Handshakes side log → Handshakes side (Called r ∷ log)
 handshakes-record side turn log r c f = record {
   none_yet = new-none side turn log r f c;
   acceptance = λ head e. new-acceptance side turn log r head f c e;
   delivered = λ k x. delivered-stays side (Called r) log k (from-or (delivers k r) _ (new-delivered side turn log k r c) (f.delivered k) x);
   has_one = new-has-one side turn log r f c;
+  by_server = new-server side turn log r f c;
+  by_client = λ reserved head e. new-client side turn log r reserved head f c e;
 }
 
 pub handshakes-entries : (side : Side) (turn : Turn) → KeepsEntries side turn (Handshakes side)
@@ -158,7 +195,7 @@ pub keeps-handshakes : (side : Side) (turn : Turn) → Keeps side turn (Handshak
 keeps-handshakes side turn = by-entries (handshakes-entries side turn)
 
 pub handshakes-first : (side : Side) → Handshakes side []
-handshakes-first side = record { none_yet = λ e. refl; acceptance = λ head e. absurd (cc); delivered = λ k e. absurd (cc); has_one = λ e. absurd (cc) }
+handshakes-first side = record { none_yet = λ e. refl; acceptance = λ head e. absurd (cc); delivered = λ k e. absurd (cc); has_one = λ e. absurd (cc); by_server = λ e. absurd (cc); by_client = λ reserved head e. absurd (cc) }
 
 pub handshakes-hold : (side : Side) (log : Log) → IsReachable side log → Handshakes side log
 handshakes-hold side log r = reached (Handshakes side) (handshakes-first side) (keeps-handshakes side) log r
@@ -176,32 +213,47 @@ handshakes-before side own log f =
       delivered = λ k x. let y = f.delivered k (ap (list_any (delivers k)) c ∙ x) in
           record { settings = ap (λ (z : StreamTable). z.progress.settings) (sym t) ∙ y.settings; headers = y.headers; at = y.at; verdict = ap (λ (z : StreamTable). verdict_of k z.classified) (sym t) ∙ y.verdict };
       has_one = λ e. ap (λ cs. list_any (delivers (requested cs)) cs) (sym c) ∙ f.has_one (ap (λ cs. has_request (handshake_state cs)) c ∙ e);
+      by_server = λ e. f.by_server (ap (λ cs. has_request (handshake_state cs)) c ∙ e);
+      by_client = λ reserved head e. f.by_client reserved head (ap handshake_state c ∙ e);
     }
 
 -- ---- the law
 
-one-delivered : (side : Side) (turn : Turn) (log : Log) (head : List ℕ) (s : ℕ) → Handshakes side log → ResponseFrom turn (calls_of log) true head → s ≡ requested (calls_of log) → WasDelivered side log s
-one-delivered side turn log head s f x i =
+-- the bytes of a request's stream carry it, also before a call's own actions
+carried-before : (side : Side) (own : List Action) (log : Log) (k : ℕ) (y : HadRequest side log k) → Facts side (with_actions own log) → Carries side log k y.headers y.at
+unfolding stream_table
+carried-before side own log k y f =
+    let t = blind-actions (stream_table side) (λ a g. refl) own log in
+    let c = carries side (with_actions own log) k y.headers y.at (f.verdicts k _ (ap (λ (z : StreamTable). verdict_of k z.classified) t ∙ y.verdict)) in
+    record {
+      opened = sym (blind-actions (λ g. is_among (peer_bi side) (peer_count side (events_of g) (peer_bi side)) k) (λ a g. refl) own log) ∙ c.opened;
+      bytes = sym (blind-actions (λ g. bi_verdict_of (contents g k) (end_of (events_of g) k)) (λ a g. refl) own log) ∙ c.bytes;
+    }
+
+one-delivered : (side : Side) (turn : Turn) (log : Log) (own : List Action) (head : List ℕ) (s : ℕ) → Handshakes side log → Facts side (with_actions own log) → ResponseFrom turn (calls_of log) true head → s ≡ requested (calls_of log) → WasDelivered side log s
+one-delivered side turn log own head s f g x i =
     let d : list_any (delivers s) (calls_of log) ≡ true = subst (λ (n : ℕ). list_any (delivers n) (calls_of log) ≡ true) (sym i) (f.has_one (from-request turn (calls_of log) true head x)) in
     let y = f.delivered s d in
-    record { delivered = d; settings = y.settings; headers = y.headers; at = y.at; verdict = y.verdict }
+    let c = carried-before side own log s y g in
+    record { delivered = d; settings = y.settings; headers = y.headers; at = y.at; opened = c.opened; bytes = c.bytes; verdict = y.verdict }
 
-established-how : (side : Side) (turn : Turn) (log : Log) (own : List Action) (s at : ℕ) → Handshakes side log → EstablishCause side turn log own s at → EstablishedHow side log own s at
-established-how side turn log own s at f (ByAnswer head x i c o a) =
+established-how : (side : Side) (turn : Turn) (log : Log) (own : List Action) (s at : ℕ) → Handshakes side log → Facts side (with_actions own log) → EstablishCause side turn log own s at → EstablishedHow side log own s at
+established-how side turn log own s at f g (ByAnswer head x i c o a) =
     let h = accepted-head side turn log head f x in
-    let d = one-delivered side turn log head s f x i in
-    AfterRequest h.0 d (a ∙ ap request_end d.verdict)
+    let d = one-delivered side turn log own head s f g x i in
+    AfterRequest h.0 d (f.by_server (from-request turn (calls_of log) true head x)) (a ∙ ap request_end d.verdict)
     (subst (λ z. is_covered log s (head_left log s z) ≡ true) h.1 c) (subst (λ z. own ≡ send_of s (head_left log s z)) h.1 o)
-established-how side turn log own s at f (ByResponse reserved head fields z w r c i n l) = AfterResponse reserved head fields i z l w r c
+    (subst (λ z. head_left (with_actions own log) s z ≡ []) h.1 (subst (λ as_. head_left (with_actions as_ log) s head ≡ []) (sym o) (head-out log s head)))
+established-how side turn log own s at f g (ByResponse reserved head fields z w r c i n l) = AfterResponse reserved head fields (f.by_client reserved head z) i n z l w r c
 
 settings-of : (side : Side) (log : Log) (own : List Action) (s at : ℕ) → EstablishedHow side log own s at → settings_came side log ≡ true
-settings-of side log own s at (AfterRequest headers w e c o) = w.settings
-settings-of side log own s at (AfterResponse reserved head fields i z l w r c) = w
+settings-of side log own s at (AfterRequest headers w b e c o h) = w.settings
+settings-of side log own s at (AfterResponse reserved head fields b i n z l w r c) = w
 
-pub established-rightly : (side : Side) (turn : Turn) (log later : Log) (s at : ℕ) → GoesOnFrom (Called (SessionEstablished s at) ∷ log) later → Handshakes side log → EstablishedBy side turn log s at → EstablishedRightly side later s at
-established-rightly side turn log later s at g f c =
+pub established-rightly : (side : Side) (turn : Turn) (log later : Log) (s at : ℕ) → GoesOnFrom (Called (SessionEstablished s at) ∷ log) later → Handshakes side log → Facts side log → EstablishedBy side turn log s at → EstablishedRightly side later s at
+established-rightly side turn log later s at g f v c =
     let h = handshakes-before side c.own c.before (subst (Handshakes side) c.is f) in
-    let how = established-how side turn c.before c.own s at h c.how in
+    let how = established-how side turn c.before c.own s at h (subst (Facts side) c.is v) c.how in
     record {
       before = c.before;
       own = c.own;
@@ -216,6 +268,7 @@ rightly-later : (side : Side) (e : Entry) (log : Log) (s at : ℕ) → Establish
 rightly-later side e log s at x = record { before = x.before; own = x.own; follows = (e ∷ x.follows.0, ap (λ z. e ∷ z) x.follows.1); was_open = x.was_open; settings = x.settings; none_before = x.none_before; how = x.how }
 
 record Sessions (side : Side) (log : Log) : Type 0 where
+  pub facts_hold : Facts side log
   pub handshakes : Handshakes side log
   pub rightly : SessionsRightly side log
 
@@ -228,21 +281,21 @@ unfolding begins_at
 new-session side turn log (SessionEstablished i a) c f s at e =
     let x : i ≡ s = ap session_id e in let y : a ≡ at = ap begins_at e in
     subst (λ (n : ℕ). EstablishedRightly side (Called (SessionEstablished i a) ∷ log) n at) x (subst (λ (m : ℕ). EstablishedRightly side (Called (SessionEstablished i a) ∷ log) i m) y
-    (established-rightly side turn log (Called (SessionEstablished i a) ∷ log) i a ([], refl) f.handshakes c))
+    (established-rightly side turn log (Called (SessionEstablished i a) ∷ log) i a ([], refl) f.handshakes f.facts_hold c))
 new-session side turn log _ c f s at e = rightly-later side _ log s at (f.rightly s at e)
 
 sessions-entries : (side : Side) (turn : Turn) → KeepsEntries side turn (Sessions side)
 sessions-entries side turn = record {
-  action = λ log a f. record { handshakes = handshakes-same side (Sent a) log refl f.handshakes; rightly = λ s at e. rightly-later side (Sent a) log s at (f.rightly s at e) };
-  event = λ log v o b f. record { handshakes = handshakes-same side (Reported v) log refl f.handshakes; rightly = λ s at e. rightly-later side (Reported v) log s at (f.rightly s at e) };
-  late = λ log v o b f. record { handshakes = handshakes-same side (ReportedLate v) log refl f.handshakes; rightly = λ s at e. rightly-later side (ReportedLate v) log s at (f.rightly s at e) };
-  byte = λ log id b o r f. record { handshakes = handshakes-same side (Received id b) log refl f.handshakes; rightly = λ s at e. rightly-later side (Received id b) log s at (f.rightly s at e) };
-  record_ = λ log r c f. record { handshakes = handshakes-record side turn log r c f.handshakes; rightly = new-session side turn log r c f };
+  action = λ log a f. record { facts_hold = (facts-entries side turn).action log a f.facts_hold; handshakes = handshakes-same side (Sent a) log refl f.handshakes; rightly = λ s at e. rightly-later side (Sent a) log s at (f.rightly s at e) };
+  event = λ log v o b f. record { facts_hold = (facts-entries side turn).event log v o b f.facts_hold; handshakes = handshakes-same side (Reported v) log refl f.handshakes; rightly = λ s at e. rightly-later side (Reported v) log s at (f.rightly s at e) };
+  late = λ log v o b f. record { facts_hold = (facts-entries side turn).late log v o b f.facts_hold; handshakes = handshakes-same side (ReportedLate v) log refl f.handshakes; rightly = λ s at e. rightly-later side (ReportedLate v) log s at (f.rightly s at e) };
+  byte = λ log id b o r f. record { facts_hold = (facts-entries side turn).byte log id b o r f.facts_hold; handshakes = handshakes-same side (Received id b) log refl f.handshakes; rightly = λ s at e. rightly-later side (Received id b) log s at (f.rightly s at e) };
+  record_ = λ log r c f. record { facts_hold = (facts-entries side turn).record_ log r c f.facts_hold; handshakes = handshakes-record side turn log r c f.handshakes; rightly = new-session side turn log r c f };
 }
 
 pub sessions-rightly : (side : Side) (log : Log) → IsReachable side log → SessionsRightly side log
 sessions-rightly side log r =
-    (reached (Sessions side) (record { handshakes = handshakes-first side; rightly = λ s at e. absurd (cc) }) (λ turn. by-entries (sessions-entries side turn)) log r).rightly
+    (reached (Sessions side) (record { facts_hold = facts-first side; handshakes = handshakes-first side; rightly = λ s at e. absurd (cc) }) (λ turn. by-entries (sessions-entries side turn)) log r).rightly
 
 -- ---- at most one
 

@@ -726,4 +726,5 @@ session-stream-out side all a =
       whole = h.whole;
       rejected = h.finished;
       never_given = λ k i. not-true-so (is_accepted log k) (not-given side (session_frame (exchanges side all)) log k h i);
+      untouched = λ k l n d. (h.untouched k l n d).0;
     }

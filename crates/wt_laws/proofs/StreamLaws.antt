@@ -1,5 +1,5 @@
 -- Streams that accepts give.
-use Rattle.std.specs.Prelude.{[], ◌%◌, ◌&&◌, ◌++◌, ◌==◌, ◌||◌, ◌∷◌, ◌≡◌, Bool, List, Some, false, if◌then◌else◌, not, true, ℕ}
+use Rattle.std.specs.Prelude.{[], ◌%◌, ◌&&◌, ◌++◌, ◌==◌, ◌||◌, ◌∷◌, ◌≡◌, Bool, List, None, Some, false, if◌then◌else◌, not, true, ℕ}
 use Rattle.std.proofs.Common.{◌∙◌, ap, arith, refl, subst, sym}
 use Rattle.std.proofs.lemmas.Bool.{and_from, and_parts, eqb-true, or_right}
 use Rattle.std.specs.List.{list_any}
@@ -80,6 +80,31 @@ left-is-due log kind session x e =
     let a = and_parts (x.id % 4 == kind) _ e in
     let b = and_parts (is_for_session session x.verdict) _ a.1 in
     (and_from (not (list_any (releases x.id) (calls_of log))) (is_webtransport x.verdict) b.1 (of-a-session session x.verdict b.0), and_from (x.id % 4 == kind) _ a.0 (or_right (is_open log) _ b.0))
+
+-- where none of those that are kept passes the test, the narrower one holds of none
+none-narrow : (keep test narrow : Classified → Bool) → ((x : Classified) → narrow x ≡ true → (keep x ≡ true) × (test x ≡ true)) → (cs : List Classified) → first_of test (only keep cs) ≡ None → list_any narrow cs ≡ false
+none-narrow keep test narrow m [] e = refl
+none-narrow keep test narrow m (x ∷ cs) e = at (narrow x) refl (none-narrow keep test narrow m cs (behind (keep x) e))
+  where
+    tested : (b : Bool) → (if b then Some x else first_of test (only keep cs)) ≡ None → first_of test (only keep cs) ≡ None
+    tested true e = absurd (cc)
+    tested false e = e
+
+    behind : (a : Bool) → first_of test (kept_if a x ++ only keep cs) ≡ None → first_of test (only keep cs) ≡ None
+    behind true e = tested (test x) e
+    behind false e = e
+
+    at : (b : Bool) → narrow x ≡ b → list_any narrow cs ≡ false → (b || list_any narrow cs) ≡ false
+    at true n r =
+        let y = m x n in
+        let f : first_of test (kept_if true x ++ only keep cs) ≡ None = ap (λ a. first_of test (kept_if a x ++ only keep cs)) (sym y.0) ∙ e in
+        let g : Some x ≡ None = ap (λ (b : Bool). if b then Some x else first_of test (only keep cs)) (sym y.1) ∙ f in absurd (cc)
+    at false n r = r
+
+-- where no stream is due, none is left
+pub none-left : (side : Side) (log : Log) (kind session : ℕ) → next_due side log kind session ≡ None → list_any (is_left_for log kind session) (stream_table side log).classified ≡ false
+none-left side log kind session n =
+    none-narrow (awaits_accept (call_view log).released) (is_due (is_open log) kind session) (is_left_for log kind session) (left-is-due log kind session) (stream_table side log).classified n
 
 first-left : (side : Side) (log : Log) (kind session k : ℕ) (found : Classified) → found.id ≡ k → is_for_session session found.verdict ≡ true → next_due side log kind session ≡ Some found → IsFirstLeft side log kind session k
 first-left side log kind session k found i f n =

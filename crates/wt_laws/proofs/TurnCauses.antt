@@ -17,30 +17,34 @@ use Rattle.wt_laws.specs.TurnCauses.{ActionsWentOut, AfterAction, AtOnce, AtTurn
 use Rattle.wt_spec.specs.Answers.{is_lawful, log_after}
 use Rattle.wt_spec.specs.Driver.{apply_if, flush, is_moment, log_and_flush, pending_actions}
 
+goes-on : {side : Side} {turn : Turn} {start log : Log} → CausedIn side turn start log → GoesOnFrom start log
+goes-on AtTurn = ([], refl)
+goes-on (WithEntry e c p) = let x = goes-on p in (e ∷ x.0, ap (λ z. e ∷ z) x.1)
+
 module _ (side : Side) (turn : Turn) (start : Log) where
   own-caused : (own : List Action) (log : Log) → OwnCauses side turn log own → CausedIn side turn start log → CausedIn side turn start (with_actions own log)
   own-caused [] log c p = p
   own-caused (a ∷ own) log c p = own-caused own (Sent a ∷ log) c.1 (WithEntry (Sent a) (ByCall c.0) p)
 
-  driver-caused : (e : Entry) (earlier : Log) → is_moment e ≡ true → is_open (e ∷ earlier) ≡ true → (as_ : List Action) (log : Log) → SinceMoment (e ∷ earlier) log → DriverCauses side (e ∷ earlier) as_ → CausedIn side turn start log
+  driver-caused : (e : Entry) (earlier : Log) → GoesOnFrom start earlier → is_moment e ≡ true → is_open (e ∷ earlier) ≡ true → (as_ : List Action) (log : Log) → SinceMoment (e ∷ earlier) log → DriverCauses side (e ∷ earlier) as_ → CausedIn side turn start log
       → CausedIn side turn start (with_actions as_ log)
-  driver-caused e earlier m o [] log x c p = p
-  driver-caused e earlier m o (a ∷ as_) log x c p = driver-caused e earlier m o as_ (Sent a ∷ log) (AfterAction a x) c.1 (WithEntry (Sent a) (ByDriver e earlier m o x c.0) p)
+  driver-caused e earlier g m o [] log x c p = p
+  driver-caused e earlier g m o (a ∷ as_) log x c p = driver-caused e earlier g m o as_ (Sent a ∷ log) (AfterAction a x) c.1 (WithEntry (Sent a) (ByDriver e earlier g m o x c.0) p)
 
-  flush-caused : (e : Entry) (log : Log) → is_moment e ≡ true → CausedIn side turn start (e ∷ log) → CausedIn side turn start (log_and_flush side log e)
+  flush-caused : (e : Entry) (log : Log) → GoesOnFrom start log → is_moment e ≡ true → CausedIn side turn start (e ∷ log) → CausedIn side turn start (log_and_flush side log e)
   unfolding flush
-  flush-caused e log m p = at (is_open (e ∷ log)) refl
+  flush-caused e log g m p = at (is_open (e ∷ log)) refl
     where
       at : (b : Bool) → is_open (e ∷ log) ≡ b → CausedIn side turn start (apply_if (is_moment e && is_open (e ∷ log)) (with_actions (pending_actions side (e ∷ log))) (e ∷ log))
-      at true o = rw (m, o) (driver-caused e log m o (pending_actions side (e ∷ log)) (e ∷ log) AtOnce (driver-causes side e log m o) p)
+      at true o = rw (m, o) (driver-caused e log g m o (pending_actions side (e ∷ log)) (e ∷ log) AtOnce (driver-causes side e log m o) p)
       at false o = rw (m, o) p
 
   keeps-caused : Keeps side turn (CausedIn side turn start)
   keeps-caused = record {
-    event = λ log e o b p. flush-caused (Reported e) log refl (WithEntry (Reported e) tt p);
+    event = λ log e o b p. flush-caused (Reported e) log (goes-on p) refl (WithEntry (Reported e) tt p);
     late = λ log e o b p. WithEntry (ReportedLate e) tt p;
-    byte = λ log id b o r p. flush-caused (Received id b) log refl (WithEntry (Received id b) tt p);
-    call = λ log own r c d p. flush-caused (Called r) (with_actions own log) refl (WithEntry (Called r) (of-record side turn log own r d) (own-caused own log c p));
+    byte = λ log id b o r p. flush-caused (Received id b) log (goes-on p) refl (WithEntry (Received id b) tt p);
+    call = λ log own r c d p. let q = own-caused own log c p in flush-caused (Called r) (with_actions own log) (goes-on q) refl (WithEntry (Called r) (of-record side turn log own r d) q);
   }
 
 pub entries-have-causes : (side : Side) (log : Log) (turn : Turn) → is_lawful side log turn ≡ true → EntriesHaveCauses side log turn
@@ -48,12 +52,8 @@ entries-have-causes side log turn l = keeps-turn (keeps-caused side turn log) lo
 
 -- ---- every action of a run
 
-goes-on : {side : Side} {turn : Turn} {start log : Log} → CausedIn side turn start log → GoesOnFrom start log
-goes-on AtTurn = ([], refl)
-goes-on (WithEntry e c p) = let x = goes-on p in (e ∷ x.0, ap (λ z. e ∷ z) x.1)
-
 -- the newest entry of a turn's part is this action
-newest-found : (side : Side) (turn : Turn) (start last log : Log) (e : Entry) → IsReachable side start → is_lawful side start turn ≡ true → last ≡ log_after side start turn → GoesOnFrom (e ∷ log) last → EntryCause side turn log e → GoesOnFrom start (e ∷ log)
+newest-found : (side : Side) (turn : Turn) (start last log : Log) (e : Entry) → IsReachable side start → is_lawful side start turn ≡ true → last ≡ log_after side start turn → GoesOnFrom (e ∷ log) last → EntryCause side turn start log e → GoesOnFrom start (e ∷ log)
     → (a : Action) (earlier : Log) → e ≡ Sent a → log ≡ earlier → WentOut side earlier a
 newest-found side turn start last log e r l d w c f a earlier same rest = record {
   start = start;
@@ -61,7 +61,7 @@ newest-found side turn start last log e r l d w c f a earlier same rest = record
   reachable = r;
   lawful = l;
   during = record { from_start = subst (λ z. GoesOnFrom start z) (ap (λ x. x ∷ log) same ∙ ap (λ z. Sent a ∷ z) rest) f; to_end = subst (λ z. GoesOnFrom (Sent a ∷ earlier) z) d (subst (λ z. GoesOnFrom z last) (ap (λ x. x ∷ log) same ∙ ap (λ z. Sent a ∷ z) rest) w) };
-  cause = subst (λ z. SentIn side turn z a) rest (subst (λ f. EntryCause side turn log f) same c);
+  cause = subst (λ z. SentIn side turn start z a) rest (subst (λ f. EntryCause side turn start log f) same c);
 }
 
 -- an action of the turn's part, or one before it

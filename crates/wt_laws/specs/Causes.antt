@@ -229,7 +229,7 @@ pub data OpenCause (side : Side) (turn : Turn) (log : Log) (kind : ℕ) : Type 0
   OfCall : opened_kind side turn ≡ Some kind → OpenCause side turn log kind
   OfRequest : (reserved : Option (List ℕ)) (head : List ℕ) → turn ≡ turns.Call calls.Handshake → handshake_state (calls_of log) ≡ Connecting reserved head → settings_came side log ≡ true → kind ≡ local_bi side → local_count (actions_of log) (local_bi side) ≡ 0 → OpenCause side turn log kind
 
--- what a call sends on a stream
+-- what a call sends on a stream, which the peer didn't stop (see ActionCause)
 pub data SendCause (side : Side) (turn : Turn) (log : Log) (k : ℕ) (piece : List ℕ) : Type 0 where
   OfWrite : (bytes : List ℕ) → bytes_for k turn ≡ Some bytes → has_sending_half side log k ≡ true → write_error log k ≡ None → piece ≡ covered log k bytes → SendCause side turn log k piece
   OfHeader : (session at : ℕ) → polls_opening k turn ≡ true → established (calls_of log) ≡ Some (session, at) → is_opening log k ≡ true → piece ≡ covered log k (head_left log k (stream_header k session)) → SendCause side turn log k piece
@@ -300,7 +300,7 @@ pub record DialCause (turn : Turn) (address : Addr) (name : List ℕ) : Type 0 w
 abbrev pub ActionCause : Side → Turn → Log → Action → Type 0
 ActionCause side turn log (actions.Dial address name) = (log ≡ []) × (is_client side ≡ true) × DialCause turn address name
 ActionCause side turn log (actions.Opened id) = (is_open log ≡ true) × (kind : ℕ) × (may_open side log kind ≡ true) × (id ≡ next_id side log kind) × ((kind == local_uni side || kind == local_bi side) ≡ true) × OpenCause side turn log kind
-ActionCause side turn log (actions.Send id piece) = (is_open log ≡ true) × SendCause side turn log id piece
+ActionCause side turn log (actions.Send id piece) = (is_open log ≡ true) × SendCause side turn log id piece × (stop_of (events_of log) id ≡ None)
 ActionCause side turn log (actions.Finish id) = (is_open log ≡ true) × FinishCause side turn log id
 ActionCause side turn log (actions.ResetOut id code) = (is_open log ≡ true) × (turn ≡ turns.Call (calls.ResetSend id code)) × (has_sending_half side log id ≡ true) × (is_done log id ≡ false)
 ActionCause side turn log (actions.StopOut id code) = (is_open log ≡ true) × StopCause side turn log id code

@@ -23,7 +23,7 @@ use Rattle.wt_laws.specs.Reachable.{Exchange, is_among}
 use Rattle.wt_laws.specs.ReplyCauses.{ReplyCause}
 use Rattle.wt_laws.specs.Told.{datagram_told, read_piece}
 use Rattle.wt_spec.specs.Answers.{answer_to, is_client, log_after, run_from}
-use Rattle.wt_spec.specs.Connection.{is_for_session, is_opening, stream_header, well_formed}
+use Rattle.wt_spec.specs.Connection.{is_for_session, is_opening, starts_opening, stream_header, well_formed}
 use Rattle.wt_spec.specs.Driver.{call_view, delivers, established, is_moment, pending_actions, releases, session_id, settings_came, stream_table}
 use Rattle.wt_spec.specs.Effect.{driver_error, head_left, is_covered, transport_error}
 use Rattle.wt_spec.specs.Halves.{body_offset, is_accepted}
@@ -83,22 +83,26 @@ pub record StreamsAcceptedRightly (side : Side) (log : Log) (turn : Turn) : Type
 
 -- ---- sessions
 
--- a request that was delivered
+-- A request that was delivered, after the peer's SETTINGS: the peer opened its stream, which is bidirectional, and the walk over
+-- all bytes of the stream gives these fields, and where the session's part begins.
 pub record WasDelivered (side : Side) (log : Log) (k : ℕ) : Type 0 where
   pub delivered : list_any (delivers k) (calls_of log) ≡ true
   pub settings : settings_came side log ≡ true
   pub headers : Fields
   pub at : ℕ
+  pub opened : is_among (peer_bi side) (peer_count side (events_of log) (peer_bi side)) k ≡ true
+  pub bytes : bi_verdict_of (contents log k) (end_of (events_of log) k) ≡ verdicts.Request headers at
   pub verdict : verdict_of k (stream_table side log).classified ≡ Some (verdicts.Request headers at)
 
 -- How session s comes to be established, by these actions of a call: a server's request was delivered, and the rest of an
--- acceptance with status 200 goes out; or a client's whole request is out, and a response with a status code from 200 to
--- 299 was read. The session's part of the stream begins at this offset.
+-- acceptance with status 200 goes out, so that all of it is out; or a client's whole request is out on the stream that its
+-- connect opened, and a response with a status code from 200 to 299 was read. The session's part of the stream begins at this
+-- offset.
 pub data EstablishedHow (side : Side) (log : Log) (own : List Action) (s at : ℕ) : Type 0 where
-  AfterRequest : (headers : Fields) (request : WasDelivered side log s) → at ≡ request.at → is_covered log s (head_left log s (response_head (codes "200") headers)) ≡ true
-      → own ≡ send_of s (head_left log s (response_head (codes "200") headers)) → EstablishedHow side log own s at
-  AfterResponse : (reserved : Option (List ℕ)) (head : List ℕ) (fields : Fields) → s ≡ local_bi side → handshake_state (calls_of log) ≡ Connecting reserved head → head_left (with_actions own log) s head ≡ [] → settings_came side log ≡ true → response_walk_of (contents log s) (end_of (events_of log) s) ≡ responses.Response fields at → has_success fields ≡ true
-      → EstablishedHow side log own s at
+  AfterRequest : (headers : Fields) (request : WasDelivered side log s) → is_client side ≡ false → at ≡ request.at → is_covered log s (head_left log s (response_head (codes "200") headers)) ≡ true
+      → own ≡ send_of s (head_left log s (response_head (codes "200") headers)) → head_left (with_actions own log) s (response_head (codes "200") headers) ≡ [] → EstablishedHow side log own s at
+  AfterResponse : (reserved : Option (List ℕ)) (head : List ℕ) (fields : Fields) → is_client side ≡ true → s ≡ local_bi side → local_count (actions_of (with_actions own log)) s ≢ 0 → handshake_state (calls_of log) ≡ Connecting reserved head → head_left (with_actions own log) s head ≡ [] → settings_came side log ≡ true
+      → response_walk_of (contents log s) (end_of (events_of log) s) ≡ responses.Response fields at → has_success fields ≡ true → EstablishedHow side log own s at
 
 -- right before the session's record, and the call's own actions, the peer's SETTINGS had come, the connection was open, and
 -- no session was established
@@ -118,6 +122,16 @@ SessionsRightly side log = (s at : ℕ) → established (calls_of log) ≡ Some 
 -- a reply that tells of a session tells of the one that is established from then on
 abbrev pub SessionTold : Side → Log → Turn → Type 0
 SessionTold side log turn = (s : ℕ) → (answer_to side log turn).reply ≡ replies.Session s → (at : ℕ) × (established (calls_of (log_after side log turn)) ≡ Some (s, at))
+
+-- no call delivered the request before the turn, it is delivered from then on, and its bytes give these fields
+pub record RequestGiven (side : Side) (log : Log) (turn : Turn) (k : ℕ) (headers : Fields) : Type 0 where
+  pub fresh : list_any (delivers k) (calls_of log) ≡ false
+  pub given : WasDelivered side (log_after side log turn) k
+  pub fields : given.headers ≡ headers
+
+-- a reply that gives a request gives it so
+abbrev pub RequestTold : Side → Log → Turn → Type 0
+RequestTold side log turn = (k : ℕ) (headers : Fields) → (answer_to side log turn).reply ≡ replies.Request k headers → RequestGiven side log turn k headers
 
 -- at most one session is ever established
 abbrev pub OneSession : Side → Log → Turn → Type 0
@@ -226,11 +240,17 @@ pub data StoppedFor (side : Side) (log : Log) (classified : List Classified) (st
   IsSurplus : (headers : Fields) (at : ℕ) (queued : Classified) (later : List Classified) → is_among (peer_bi side) (peer_count side (events_of log) (peer_bi side)) stop.id ≡ true → bi_verdict_of (contents log stop.id) (end_of (events_of log) stop.id) ≡ verdicts.Request headers at
       → (dispatched (call_view log) classified).requests ≡ queued ∷ later → (queued.id == stop.id) ≡ false → stop.code ≡ h3.RequestRejected → StoppedFor side log classified stop
 
--- the action that the driver sends at a moment: of its control stream, a stop of a stream that was classified, or for the end
+-- the log before its newest entry
+abbrev pub before_newest : Log → Log
+before_newest [] = []
+before_newest (e ∷ log) = log
+
+-- the action that the driver sends at a moment: of its control stream, a stop of a stream that was classified at this moment and
+-- not before, or for the end
 pub data DriverCause (side : Side) (log : Log) : Action → Type 0 where
   OpensControl : unis_allowed (events_of log) ≢ 0 → local_count (actions_of log) (local_uni side) ≡ 0 → DriverCause side log (actions.Opened (local_uni side))
   SendsControl : (piece : List ℕ) → piece ≡ drop (length (sent_on (actions_of log) (local_uni side))) (take (credit (events_of log) (local_uni side)) local_control_bytes) → DriverCause side log (actions.Send (local_uni side) piece)
-  StopsStream : (stop : Stopped) → StoppedFor side log (stream_table side log).classified stop → DriverCause side log (actions.StopOut stop.id (code_of stop.code))
+  StopsStream : (stop : Stopped) → verdict_of stop.id (stream_table side (before_newest log)).classified ≡ None → StoppedFor side log (stream_table side log).classified stop → DriverCause side log (actions.StopOut stop.id (code_of stop.code))
   ResetsSession : (code : ℕ) (reason : List ℕ) → (stream_table side log).progress.ending ≡ Some (BySession code reason true) → DriverCause side log (actions.ResetOut (session_id (established (calls_of log))) (code_of h3.NoError))
   ClosesFault : (code : ErrorCode) → (stream_table side log).progress.ending ≡ Some (ByFault code) → DriverCause side log (actions.Close (code_of code) [])
   ClosesSession : (code : ℕ) (reason : List ℕ) (b : Bool) → (stream_table side log).progress.ending ≡ Some (BySession code reason b) → DriverCause side log (actions.Close (code_of h3.NoError) [])
@@ -275,12 +295,14 @@ abbrev pub is_session_stream : Side → List CallRecord → ℕ → Bool
 is_session_stream side calls k = if is_client side then k == local_bi side else list_any (delivers k) calls
 
 -- What is out on it is at every time a prefix of that frame. It is all of the frame once the session is established, or once
--- the response of a rejection is finished. The stream is never given, so nothing else goes out on it.
+-- the response of a rejection is finished. The stream is never given, so nothing else goes out on it. Nothing goes out on a
+-- stream of the peer's that wasn't given and whose request wasn't delivered.
 pub record SessionStreamOut (side : Side) (before : List Exchange) (log : Log) : Type 0 where
   pub prefix : (k : ℕ) → is_session_stream side (calls_of log) k ≡ true → (n : ℕ) × (sent_on (actions_of log) k ≡ take n (unwrap_or (session_frame before) []))
   pub whole : (s at : ℕ) → established (calls_of log) ≡ Some (s, at) → (is_session_stream side (calls_of log) s ≡ true) × (session_frame before ≡ Some (sent_on (actions_of log) s))
   pub rejected : (k : ℕ) → is_session_stream side (calls_of log) k ≡ true → is_finished (actions_of log) k ≡ true → session_frame before ≡ Some (sent_on (actions_of log) k)
   pub never_given : (k : ℕ) → is_session_stream side (calls_of log) k ≡ true → is_accepted log k ≡ false
+  pub untouched : (k : ℕ) → is_of_this_end side k ≡ false → is_accepted log k ≡ false → list_any (delivers k) (calls_of log) ≡ false → sent_on (actions_of log) k ≡ []
 
 -- ---- sending
 
@@ -352,7 +374,10 @@ pub record TakenGoesOut (side : Side) (log : Log) : Type 0 where
 
 -- ---- headers of streams that this end opens
 
--- Until such a stream is given, a prefix of its header went out on it; from then on, its header and what follows.
+-- Nothing goes out on such a stream before it is opened. Until it is given, a prefix of its header went out on it, also where its
+-- opening failed and it never is; from then on, its header and what follows.
 pub record HeadersOut (side : Side) (log : Log) : Type 0 where
+  pub unopened : (k : ℕ) → is_of_this_end side k ≡ true → k ≢ local_uni side → local_count (actions_of log) (k % 4) ≤ k / 4 → sent_on (actions_of log) k ≡ []
+  pub ungiven : (k s at : ℕ) → list_any (starts_opening k) (calls_of log) ≡ true → is_accepted log k ≡ false → established (calls_of log) ≡ Some (s, at) → (n : ℕ) × (sent_on (actions_of log) k ≡ take n (stream_header k s))
   pub begun : (k s at : ℕ) → is_opening log k ≡ true → established (calls_of log) ≡ Some (s, at) → (n : ℕ) × (sent_on (actions_of log) k ≡ take n (stream_header k s))
   pub whole : (k s at : ℕ) → is_of_this_end side k ≡ true → is_accepted log k ≡ true → established (calls_of log) ≡ Some (s, at) → (rest : List ℕ) × (sent_on (actions_of log) k ≡ stream_header k s ++ rest)

@@ -1,5 +1,6 @@
 -- What each call can still give: with nothing left, and the connection open, it is answered Pending.
 use Rattle.std.specs.Prelude.{◌&&◌, ◌==◌, ◌||◌, ◌∷◌, ◌≡◌, Bool, Err, List, None, Ok, Option, Result, Some, [], bytes_eq, codes, false, is_ok, is_some, length, nat_lt, not, true, ℕ}
+use Rattle.std.specs.List.{list_any}
 use Rattle.url.specs.Parser.{parse_url}
 use Rattle.url.specs.Parts.{Parts, host_or_empty}
 use Rattle.url.specs.declared.error.ParseError.{ParseError}
@@ -16,11 +17,13 @@ use Rattle.wt_turn.specs.declared.turn.Turn.{Turn}
 use Rattle.wt_wire.specs.declared.lookup.ConnectOutcome.{ConnectOutcome}
 use Rattle.wt_wire.specs.declared.lookup.Lookup.{Lookup}
 use Rattle.wt_wire.specs.declared.side.Side.{Side}
-use Rattle.wt_laws.specs.Causes.{FoundDatagram, FoundStream}
+use Rattle.wt_laws.specs.Causes.{FoundDatagram, FoundStream, accepted_kind, is_accept}
+use Rattle.wt_laws.specs.Laws.{is_left_for}
+use Rattle.wt_laws.specs.Told.{given_stream}
 use Rattle.wt_spec.specs.Answers.{answer_to}
 use Rattle.wt_spec.specs.Connect.{address_of, outcome_error, port_of}
 use Rattle.wt_spec.specs.Connection.{is_opening, next_datagram, next_due, pass_stream, stream_header}
-use Rattle.wt_spec.specs.Driver.{established, settings_came}
+use Rattle.wt_spec.specs.Driver.{established, settings_came, stream_table}
 use Rattle.wt_spec.specs.Effect.{head_left, is_covered, is_empty, log_call, pending_or_failed}
 use Rattle.wt_spec.specs.Halves.{has_receiving_half, has_sending_half, is_done, unread, write_error}
 use Rattle.wt_spec.specs.Handshake.{Connecting, HandshakeState, Responding, handshake_state, is_refused, queued_requests, requested, response_head}
@@ -173,7 +176,8 @@ passing_reply side (turns.Call calls.ReceiveDatagram) log = Some (session_reply 
 passing_reply side _ log = None
 
 -- Behind what it passes, at the log at which it decides, a call is answered Pending exactly where nothing is left for it
--- and the connection is open. Only accepts and receives pass anything; where they decide they give what is next.
+-- and the connection is open. Only accepts and receives pass anything; where they decide they give what is next. Where an accept
+-- gives no stream, no classified one of its kind and of the session is left: an accept gave each, or passed it.
 pub record PendingExactly (side : Side) (log : Log) (turn : Turn) : Type 0 where
   pub decided : Log
   pub passes : PassesTo side turn decided log
@@ -181,3 +185,5 @@ pub record PendingExactly (side : Side) (log : Log) (turn : Turn) : Type 0 where
   pub no_datagram : FoundDatagram side turn decided false → ⊥
   pub exactly : is_pending (answer_to side log turn).reply ≡ (is_open decided && has_nothing_left side turn decided)
   pub gives : (r : Reply) → passing_reply side turn decided ≡ Some r → (answer_to side log turn).reply ≡ r
+  pub none_left : (session at : ℕ) → is_accept turn ≡ true → given_stream (answer_to side log turn).reply ≡ None → established (calls_of decided) ≡ Some (session, at)
+      → list_any (is_left_for decided (accepted_kind side turn) session) (stream_table side decided).classified ≡ false

@@ -8,3 +8,4 @@ pub mod Exactly
 pub mod Laws
 pub mod TurnCauses
 pub mod GivenOnce
+pub mod Faults

@@ -17,21 +17,22 @@ pub data SinceMoment (moment : Log) : Log → Type 0 where
   AtOnce : SinceMoment moment moment
   AfterAction : {log : Log} (a : Action) → SinceMoment moment log → SinceMoment moment (Sent a ∷ log)
 
--- why an action goes out in a turn, after this log: it is the call's own, or the driver's at the newest moment
-pub data SentIn (side : Side) (turn : Turn) (log : Log) (a : Action) : Type 0 where
-  ByCall : ActionCause side turn log a → SentIn side turn log a
-  ByDriver : (e : Entry) (earlier : Log) → is_moment e ≡ true → is_open (e ∷ earlier) ≡ true → SinceMoment (e ∷ earlier) log → DriverCause side (e ∷ earlier) a → SentIn side turn log a
+-- why an action goes out in a turn, after this log: it is the call's own, or the driver's at the newest moment, which is one of
+-- the turn's
+pub data SentIn (side : Side) (turn : Turn) (start log : Log) (a : Action) : Type 0 where
+  ByCall : ActionCause side turn log a → SentIn side turn start log a
+  ByDriver : (e : Entry) (earlier : Log) → GoesOnFrom start earlier → is_moment e ≡ true → is_open (e ∷ earlier) ≡ true → SinceMoment (e ∷ earlier) log → DriverCause side (e ∷ earlier) a → SentIn side turn start log a
 
 -- why an entry comes in a turn, after this log: an action and a call's record have their causes
-abbrev pub EntryCause : Side → Turn → Log → Entry → Type 0
-EntryCause side turn log (Sent a) = SentIn side turn log a
-EntryCause side turn log (Called r) = RecordCause side turn log r
-EntryCause side turn log _ = Unit {0}
+abbrev pub EntryCause : Side → Turn → Log → Log → Entry → Type 0
+EntryCause side turn start log (Sent a) = SentIn side turn start log a
+EntryCause side turn start log (Called r) = RecordCause side turn log r
+EntryCause side turn start log _ = Unit {0}
 
 -- from a log on, each entry that a turn adds has its cause
 pub data CausedIn (side : Side) (turn : Turn) (start : Log) : Log → Type 0 where
   AtTurn : CausedIn side turn start start
-  WithEntry : {log : Log} (e : Entry) → EntryCause side turn log e → CausedIn side turn start log → CausedIn side turn start (e ∷ log)
+  WithEntry : {log : Log} (e : Entry) → EntryCause side turn start log e → CausedIn side turn start log → CausedIn side turn start (e ∷ log)
 
 -- each entry that the turn adds has its cause in it
 abbrev pub EntriesHaveCauses : Side → Log → Turn → Type 0
@@ -44,7 +45,7 @@ pub record WentOut (side : Side) (earlier : Log) (a : Action) : Type 0 where
   pub reachable : IsReachable side start
   pub lawful : is_lawful side start turn ≡ true
   pub during : IsDuring side start turn (Sent a ∷ earlier)
-  pub cause : SentIn side turn earlier a
+  pub cause : SentIn side turn start earlier a
 
 -- each action in the log went out so
 abbrev pub ActionsWentOut : Side → Log → Type 0

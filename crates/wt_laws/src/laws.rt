@@ -1,7 +1,7 @@
 //! The laws, each a function with an empty body whose contract is the law.
 ghost use Rattle.std.specs.Prelude.{◌≡◌, ◌++◌, ℕ, List, [], Option, Some, true, false};
 ghost use Rattle.wt_laws.specs.Exactly.{AsksFirst, ConnectGoesOn, ConnectsAnswer, HeadsGoOut, MaySend, ReceivingCallsAnswer, RequestGoesOn, RequestsAnswer, ResponsesAnswer, SendingCallsAnswer, SessionCallsAnswer};
-ghost use Rattle.wt_laws.specs.Laws.{ActionsHaveCauses, CutsWell, DatagramsInOrder, FaultCloses, HeadersOut, NothingAfterEnd, OneSession, OpenExactly, ReadsFromStart, ReadsInOrder, ReplyHasCause, ResultStays, SendsAll, SendsEnd, SendsInOrder, SessionStreamOut, SessionTold, SessionsRightly, SettingsOut, StreamsAcceptedRightly, TakenGoesOut, WithinCredit};
+ghost use Rattle.wt_laws.specs.Laws.{ActionsHaveCauses, CutsWell, DatagramsInOrder, FaultCloses, HeadersOut, NothingAfterEnd, OneSession, OpenExactly, ReadsFromStart, ReadsInOrder, ReplyHasCause, RequestTold, ResultStays, SendsAll, SendsEnd, SendsInOrder, SessionStreamOut, SessionTold, SessionsRightly, SettingsOut, StreamsAcceptedRightly, TakenGoesOut, WithinCredit};
 ghost use Rattle.wt_laws.specs.Left.{PendingExactly, is_pending};
 ghost use Rattle.wt_laws.specs.Reachable.{AllLawful, IsReachable, exchanges};
 ghost use Rattle.wt_laws.specs.ReplyCauses.{is_call};
@@ -27,12 +27,14 @@ pub fn lawful_turns_are_reachable()
 {}
 
 /// A session is established only after the peer's SETTINGS and a request or a response with
-/// success, on an open connection; there is at most one, and the reply tells of it.
+/// success, on an open connection; there is at most one, and the reply tells of it. A request that
+/// is given is in the bytes of its stream.
 #[tactic(auto, using(crate::proofs::Theorems::sessions_theorem, crate::proofs::Theorems::one_session_theorem, crate::proofs::Theorems::session_told_theorem))]
 pub fn sessions_are_established_rightly()
     ensures rightly { (side : Side) (log : Log) → IsReachable side log → SessionsRightly side log }
     ensures one { (side : Side) (log : Log) (turn : Turn) → IsReachable side log → is_lawful side log turn ≡ true → OneSession side log turn }
     ensures told { (side : Side) (log : Log) (turn : Turn) → is_lawful side log turn ≡ true → SessionTold side log turn }
+    ensures request { (side : Side) (log : Log) (turn : Turn) → IsReachable side log → is_lawful side log turn ≡ true → RequestTold side log turn }
 {}
 
 /// A stream that an accept gives is the peer's, of the session, and given once; the first in the

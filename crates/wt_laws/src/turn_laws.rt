@@ -1,11 +1,12 @@
 //! What each turn adds, with its cause in that turn: further laws, each a function with an empty body
 //! whose contract is the law.
 ghost use Rattle.std.specs.Prelude.{◌≡◌, List, [], true};
+ghost use Rattle.wt_laws.specs.Faults.{ClassifiedRightly, DatagramOrEnds, EndsForCause, FaultlessOrEnds, OnceEach, SettingsComeRead, StreamsFaultless};
 ghost use Rattle.wt_laws.specs.GivenOnce.{GivenOnce};
 ghost use Rattle.wt_laws.specs.Reachable.{AllLawful, IsReachable, exchanges};
 ghost use Rattle.wt_laws.specs.TurnCauses.{ActionsWentOut, EntriesHaveCauses, ReplyIsRecorded};
 ghost use Rattle.wt_spec.specs.Answers.{is_lawful};
-ghost use Rattle.wt_turn.specs.Log.{Log};
+ghost use Rattle.wt_turn.specs.Log.{Entry, Log};
 ghost use Rattle.wt_turn.specs.declared.turn.Turn.{Turn};
 ghost use Rattle.wt_wire.specs.declared.side.Side.{Side};
 
@@ -22,4 +23,19 @@ pub fn turns_have_causes()
 #[tactic(auto, using(crate::proofs::GivenOnce::given_once_theorem))]
 pub fn streams_are_given_once()
     ensures once { (side : Side) (all : List Turn) → AllLawful side [] all → GivenOnce (exchanges side all) }
+{}
+
+/// What the driver's state says of the peer is in what came from it: a classified stream has its
+/// verdict over all bytes, SETTINGS came where the first control stream has them, and a connection
+/// that the driver ends has a fault, or its session ended; where it ends none, no classified
+/// stream has a fault, those that come once came once, and there is no fault behind them.
+#[tactic(auto)]
+pub fn the_drivers_state_is_read()
+    ensures classified { (side : Side) (log : Log) → IsReachable side log → ClassifiedRightly side log }
+    ensures settings { (side : Side) (e : Entry) (log : Log) → SettingsComeRead side e log }
+    ensures ending { (side : Side) (e : Entry) (log : Log) → EndsForCause side e log }
+    ensures faultless { (side : Side) (e : Entry) (log : Log) → FaultlessOrEnds side e log }
+    ensures streams { (side : Side) (log : Log) → StreamsFaultless side log }
+    ensures once { (side : Side) (log : Log) → OnceEach side log }
+    ensures datagram { (side : Side) (e : Entry) (log : Log) → DatagramOrEnds side e log }
 {}

@@ -22,7 +22,8 @@ use Rattle.wt_turn.specs.declared.action.Action.{Action}
 use Rattle.wt_wire.specs.HeaderList.{Fields}
 use Rattle.wt_wire.specs.declared.side.Side.{Side}
 use Rattle.wt_plan.specs.DriverAnswers.{answers_now, error_now}
-use Rattle.wt_plan.specs.Tells.{AnswersLog, KeepsRequestEnd, driver_facts, is_answering}
+use Rattle.wt_plan.specs.Tells.{AnswersLog, KeepsRequestEnd, driver_facts}
+use Rattle.wt_session_spec.specs.SessionState.{is_answering}
 use Rattle.wt_proto.specs.declared.verdict.Verdict.TheVariants as verdicts
 
 -- what a log says of itself

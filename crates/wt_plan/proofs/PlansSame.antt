@@ -32,7 +32,8 @@ use Rattle.wt_wire.specs.declared.side.Side.{Side}
 use Rattle.wt_plan.proofs.FactsSame.{facts-same}
 use Rattle.wt_plan.specs.FactsNow.{DriverFacts, facts_now}
 use Rattle.wt_plan.specs.Table.{KeepsCalls, TableValue}
-use Rattle.wt_plan.specs.Tells.{TellsFacts, is_answering, session_now}
+use Rattle.wt_plan.specs.Tells.{TellsFacts, session_now}
+use Rattle.wt_session_spec.specs.SessionState.{is_answering}
 use Rattle.wt_turn.specs.declared.action.Action.TheVariants as actions
 use Rattle.wt_turn.specs.declared.call.Call.TheVariants as calls
 use Rattle.wt_proto.specs.declared.response_walk.ResponseWalk.TheVariants as responses

@@ -1,4 +1,3 @@
-pub mod Records
 pub mod Planned
 pub mod FactsNow
 pub mod Heads

@@ -1,5 +1,5 @@
 -- How a plan of the code stands for one of the definitions.
-use Rattle.wt_plan.specs.Records.{record_of}
+use Rattle.wt_turn.specs.Records.{record_of}
 use Rattle.wt_plan.specs.declared.plan.Plan.{Plan}
 use Rattle.wt_plan.specs.declared.plan.Plan.TheVariants as plans
 use Rattle.wt_session_spec.specs.Plan as session

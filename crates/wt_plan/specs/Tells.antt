@@ -7,12 +7,12 @@ use Rattle.wt_seam.specs.State.{Refines, TransportState}
 use Rattle.wt_seam_spec.specs.Reports.{datagram_fact, end_of, is_connected}
 use Rattle.wt_seam_spec.specs.Streams.{can_receive, can_send, contents, local_bi}
 use Rattle.wt_seam_spec.specs.Unread.{AtOffset, ReadPosition}
-use Rattle.wt_session_spec.specs.SessionState.{SessionState}
+use Rattle.wt_session_spec.specs.SessionState.{SessionState, is_answering}
 use Rattle.wt_spec.specs.Answers.{is_first}
 use Rattle.wt_spec.specs.Driver.{established, settings_came, stream_table}
 use Rattle.wt_spec.specs.Effect.{driver_error}
 use Rattle.wt_spec.specs.Halves.{body_offset, has_receiving_half, has_sending_half, total_read}
-use Rattle.wt_spec.specs.Handshake.{Connecting, HandshakeState, Requested, Responding, handshake_state, queued_requests, request_end, requested}
+use Rattle.wt_spec.specs.Handshake.{Connecting, handshake_state, queued_requests, request_end, requested}
 use Rattle.wt_spec.specs.StreamTable.{verdict_of}
 use Rattle.wt_turn.specs.Log.{Log, calls_of, events_of}
 use Rattle.wt_turn.specs.declared.action.Action.{Action}
@@ -29,12 +29,6 @@ driver_facts side log = record {
   response = response_walk_of (contents log (local_bi side)) (end_of (events_of log) (local_bi side));
   session = established (calls_of log);
 }
-
--- a request was delivered, and its answer isn't through
-abbrev pub is_answering : HandshakeState → Bool
-is_answering (Requested id) = true
-is_answering (Responding accepts head) = true
-is_answering _ = false
 
 -- while the request is answered this is where it ends
 abbrev pub KeepsRequestEnd : Side → Log → ℕ → Type 0

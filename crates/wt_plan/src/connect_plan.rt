@@ -5,11 +5,11 @@ ghost use Rattle.wt_session_spec.specs.ConnectPlans.{connect_plan, dialling};
 ghost use Rattle.wt_spec.specs.Connect as connects;
 
 use crate::plan::{Plan, one};
-use crate::record::Record;
 use std::alloc::Global;
 use wt_connect::connect_request::{request_head, reserved_name};
 use wt_connect::connect_target::{ConnectTarget, connect_target};
 use wt_turn::action::Action;
+use wt_turn::record::Record;
 use wt_turn::reply::Reply;
 use wt_wire::error::OutOfMemory;
 use wt_wire::header_list::HeaderList;

@@ -13,13 +13,13 @@ ghost use Rattle.wt_spec.specs.Connection.{opened_reply, payload_limit, stream_h
 use crate::ends::transport_error;
 use crate::heads::{HeadProgress, head_progress, left_of, with_head};
 use crate::plan::{Plan, one};
-use crate::record::Record;
 use std::alloc::Global;
 use wt_proto::datagram::H3Datagram;
 use wt_seam::Transport;
 use wt_turn::action::Action;
 use wt_turn::datagram_fact::DatagramFact;
 use wt_turn::piece::Piece;
+use wt_turn::record::Record;
 use wt_turn::reply::Reply;
 use wt_turn::stream_error::{SendDatagramError, StreamOpeningError};
 use wt_wire::error::OutOfMemory;

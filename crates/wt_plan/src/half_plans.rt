@@ -10,12 +10,12 @@ ghost use Rattle.wt_streams.specs.HalfRules.{write_refusal};
 ghost use Rattle.wt_turn.specs.declared.action.Action.{Action};
 
 use crate::plan::{Plan, one, with_send};
-use crate::record::Record;
 use std::alloc::Global;
 use wt_seam::{ClosedStream, StreamWriteError, Transport, WriteAll};
 use wt_turn::action::Action;
 use wt_turn::piece::Piece;
 use wt_turn::poll::Poll;
+use wt_turn::record::Record;
 use wt_turn::reply::Reply;
 use wt_wire::error::OutOfMemory;
 use wt_wire::ids::StreamId;

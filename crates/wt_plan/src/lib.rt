@@ -10,6 +10,5 @@ pub mod handshake_plans;
 pub mod heads;
 pub mod plan;
 pub mod read_plans;
-pub mod record;
 pub mod session_table;
 pub mod tells;

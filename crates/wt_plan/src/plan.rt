@@ -4,13 +4,13 @@ ghost use Rattle.wt_seam_spec.specs.Joined.{send_of};
 ghost use Rattle.wt_turn.specs.Log.{HandshakeOver, Polled};
 ghost use Rattle.wt_turn.specs.declared.action.Action.TheVariants as actions;
 ghost use Rattle.wt_plan.specs.Planned.{planned};
-ghost use Rattle.wt_plan.specs.Records.{record_of};
+ghost use Rattle.wt_turn.specs.Records.{record_of};
 ghost use Rattle.wt_session_spec.specs.Plan as session;
 
-use crate::record::Record;
 use std::alloc::Global;
 use wt_turn::action::Action;
 use wt_turn::piece::Piece;
+use wt_turn::record::Record;
 use wt_turn::reply::Reply;
 use wt_wire::error::OutOfMemory;
 use wt_wire::ids::{SessionId, StreamId};

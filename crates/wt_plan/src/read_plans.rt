@@ -2,18 +2,18 @@
 ghost use Rattle.std.specs.Prelude.{◌≡◌, ◌≤◌, IfOk, IsTrue, Ok, Some, ℕ, take, length};
 ghost use Rattle.wt_plan.specs.FactsNow.{DriverFacts, facts_now};
 ghost use Rattle.wt_plan.specs.Planned.{planned};
-ghost use Rattle.wt_plan.specs.Records.{record_of};
+ghost use Rattle.wt_turn.specs.Records.{record_of};
 ghost use Rattle.wt_seam.specs.Step.{end_now, unread_now};
 ghost use Rattle.wt_session_spec.specs.HalfPlans.{exact_plan, read_exact_plan, read_plan, read_record, read_reply};
 ghost use Rattle.wt_streams.specs.HalfRules.{too_few};
 ghost use Rattle.wt_turn.specs.declared.poll.Poll.TheVariants.{Ready};
 
 use crate::plan::Plan;
-use crate::record::Record;
 use std::alloc::Global;
 use wt_seam::{StreamReadError, StreamReadExactError, Transport};
 use wt_turn::piece::Piece;
 use wt_turn::poll::Poll;
+use wt_turn::record::Record;
 use wt_turn::reply::Reply;
 use wt_wire::error::OutOfMemory;
 use wt_wire::ids::StreamId;

@@ -1,14 +1,14 @@
 //! What a session keeps: how far the handshake is, and what the application has of each stream.
 ghost use Rattle.std.specs.Prelude.{◌≡◌, ◌<◌, ◌+◌, ◌∷◌, [], List, OnOk, length, true, ℕ};
 ghost use Rattle.wt_plan.specs.Table.{HasNoted, HasSet, IsSet, KeepsCalls, handshake_as, untouched, use_as, use_in, use_now};
-ghost use Rattle.wt_plan.specs.Records.{record_of};
+ghost use Rattle.wt_turn.specs.Records.{record_of};
 ghost use Rattle.wt_turn.specs.Log.{CallRecord, OpeningFailed, OpeningStarted, StreamAccepted, StreamGivenUp};
 ghost use Rattle.wt_session_spec.specs.SessionState.{begun, failed, is_in_opening, was_given};
 
-use crate::record::Record;
 use std::alloc::Global;
 use std::marker::Model;
 use wt_turn::piece::Piece;
+use wt_turn::record::Record;
 use wt_wire::error::OutOfMemory;
 use wt_wire::ids::StreamId;
 use wt_wire::text::Text;
@@ -233,6 +233,13 @@ impl SessionTable {
         ensures { result ≡ (self.now.requested, self.now.request_end) }
     {
         (self.requested, self.request_end)
+    }
+
+    /// Keeps where the request ends that was delivered.
+    pub fn set_request_end(&mut self, end: usize)
+        ensures { self.new ≡ record self.old { request_end = end } }
+    {
+        self.request_end = end;
     }
 
     /// What the application has of a stream.

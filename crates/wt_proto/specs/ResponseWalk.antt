@@ -1,5 +1,5 @@
 -- The walk over a client's session stream from its first byte, over all bytes and the end (RFC 9114, sections 4.1 and 4.3.2; RFC 9220, section 3).
-use Rattle.std.specs.Prelude.{ℕ, ◌+◌, List, Bool, true, false, Result, Ok, Err}
+use Rattle.std.specs.Prelude.{ℕ, ◌+◌, List, Bool, true, false, None, Option, Result, Ok, Err, Some}
 use Rattle.wt_wire.specs.declared.error.ErrorCode.{ErrorCode}
 use Rattle.wt_wire.specs.declared.error.ErrorCode.TheVariants.{FrameUnexpected, ExcessiveLoad, Message}
 use Rattle.wt_proto.specs.declared.response_walk.ResponseWalk.{ResponseWalk}
@@ -62,3 +62,8 @@ is_response_final Waiting = false
 is_response_final (Response response at) = true
 is_response_final Ended = false
 is_response_final (Fault fault) = true
+
+-- the offset after a response
+abbrev pub response_offset : ResponseWalk → Option ℕ
+response_offset (Response response at) = Some at
+response_offset _ = None

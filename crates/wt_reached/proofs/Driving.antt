@@ -25,9 +25,11 @@ pub driver-facts : (side : Side) (log : Log) → IsReachable side log → Driver
 driver-facts side log r =
     let h = reached-holds side log r in
     record {
-      unfinished = control-unfinished side log h;
-      unreset = control-unreset side log h;
-      session_sends = established-sends side log h;
+      sends = record {
+        unfinished = control-unfinished side log h;
+        unreset = control-unreset side log h;
+        session = established-sends side log h;
+      };
       session_receives = λ s e. session-receives side h.frame log h.out s.0 (s, e, refl);
     }
 
@@ -55,9 +57,11 @@ session-apart side log h s =
 later-facts : (side : Side) (as_ : List Action) (log : Log) → Mild (calls_of log) as_ → DriverFacts side log → DriverFacts side (with_actions as_ log)
 later-facts side [] log m h = h
 later-facts side (a ∷ as_) log m h = later-facts side as_ (Sent a ∷ log) m.1 (record {
-  unfinished = ap (λ b. b || is_finished (actions_of log) (local_uni side)) (m.0.0 (local_uni side)) ∙ h.unfinished;
-  unreset = not-true-so (is_reset (Sent a ∷ log) (local_uni side)) (λ f. from-or (resets (local_uni side) (Sent a)) (is_reset log (local_uni side)) (λ x. session-apart side log h (m.0.1 (local_uni side) x)) (λ x. absurd (let y = h.unreset in cc)) f);
-  session_sends = λ s e. half-later side a log s.0 (peer_uni side) (h.session_sends s e);
+  sends = record {
+    unfinished = ap (λ b. b || is_finished (actions_of log) (local_uni side)) (m.0.0 (local_uni side)) ∙ h.sends.unfinished;
+    unreset = not-true-so (is_reset (Sent a ∷ log) (local_uni side)) (λ f. from-or (resets (local_uni side) (Sent a)) (is_reset log (local_uni side)) (λ x. session-apart side log h (m.0.1 (local_uni side) x)) (λ x. absurd (let y = h.sends.unreset in cc)) f);
+    session = λ s e. half-later side a log s.0 (peer_uni side) (h.sends.session s e);
+  };
   session_receives = λ s e. half-later side a log s.0 (local_uni side) (h.session_receives s e);
 })
 
@@ -124,9 +128,11 @@ facts-before side [] log o h = h
 facts-before side (a ∷ as_) log o h =
     let g = facts-before side as_ (Sent a ∷ log) o.1 h in
     record {
-      unfinished = (or_parts (finishes (local_uni side) a) _ g.unfinished).1;
-      unreset = (or_parts (resets (local_uni side) (Sent a)) _ g.unreset).1;
-      session_sends = λ s e. half-before side a log s.0 (peer_uni side) (unopened g s e) (g.session_sends s e);
+      sends = record {
+        unfinished = (or_parts (finishes (local_uni side) a) _ g.sends.unfinished).1;
+        unreset = (or_parts (resets (local_uni side) (Sent a)) _ g.sends.unreset).1;
+        session = λ s e. half-before side a log s.0 (peer_uni side) (unopened g s e) (g.sends.session s e);
+      };
       session_receives = λ s e. half-before side a log s.0 (local_uni side) (unopened g s e) (g.session_receives s e);
     }
   where

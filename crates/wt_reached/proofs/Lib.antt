@@ -6,4 +6,7 @@ pub mod Rejecting
 pub mod Driving
 pub mod Halves
 pub mod Plain
+pub mod Recording
+pub mod Performing
+pub mod Used
 pub mod Theorems

@@ -58,30 +58,38 @@ half-told side e log k kind c =
 
 pub facts-stay : (side : Side) (e : Entry) (log : Log) → leaves_driver side e ≡ true → DriverFacts side log → DriverFacts side (e ∷ log)
 facts-stay side (Sent a) log p h = record {
-  unfinished = ap (λ b. b || is_finished (actions_of log) (local_uni side)) (not-finishing side a p) ∙ h.unfinished;
-  unreset = ap (λ b. b || is_reset log (local_uni side)) (action-leaves side a p) ∙ h.unreset;
-  session_sends = λ s e. half-later side a log s.0 (peer_uni side) (h.session_sends s e);
+  sends = record {
+    unfinished = ap (λ b. b || is_finished (actions_of log) (local_uni side)) (not-finishing side a p) ∙ h.sends.unfinished;
+    unreset = ap (λ b. b || is_reset log (local_uni side)) (action-leaves side a p) ∙ h.sends.unreset;
+    session = λ s e. half-later side a log s.0 (peer_uni side) (h.sends.session s e);
+  };
   session_receives = λ s e. half-later side a log s.0 (local_uni side) (h.session_receives s e);
 }
 facts-stay side (Called r) log p h = record {
-  unfinished = h.unfinished;
-  unreset = ap (λ b. b || is_reset log (local_uni side)) (record-leaves side r p) ∙ h.unreset;
-  session_sends = λ s e. h.session_sends s (sym (same-established side r (calls_of log) p) ∙ e);
+  sends = record {
+    unfinished = h.sends.unfinished;
+    unreset = ap (λ b. b || is_reset log (local_uni side)) (record-leaves side r p) ∙ h.sends.unreset;
+    session = λ s e. h.sends.session s (sym (same-established side r (calls_of log) p) ∙ e);
+  };
   session_receives = λ s e. h.session_receives s (sym (same-established side r (calls_of log) p) ∙ e);
 }
 facts-stay side (Reported e) log p h = record {
-  unfinished = h.unfinished;
-  unreset = h.unreset;
-  session_sends = λ s q. half-told side e log s.0 (peer_uni side) (h.session_sends s q);
+  sends = record {
+    unfinished = h.sends.unfinished;
+    unreset = h.sends.unreset;
+    session = λ s q. half-told side e log s.0 (peer_uni side) (h.sends.session s q);
+  };
   session_receives = λ s q. half-told side e log s.0 (local_uni side) (h.session_receives s q);
 }
 facts-stay side (ReportedLate e) log p h = record {
-  unfinished = h.unfinished;
-  unreset = h.unreset;
-  session_sends = λ s q. half-told side e log s.0 (peer_uni side) (h.session_sends s q);
+  sends = record {
+    unfinished = h.sends.unfinished;
+    unreset = h.sends.unreset;
+    session = λ s q. half-told side e log s.0 (peer_uni side) (h.sends.session s q);
+  };
   session_receives = λ s q. half-told side e log s.0 (local_uni side) (h.session_receives s q);
 }
-facts-stay side (Received id b) log p h = record { unfinished = h.unfinished; unreset = h.unreset; session_sends = h.session_sends; session_receives = h.session_receives }
+facts-stay side (Received id b) log p h = record { sends = record { unfinished = h.sends.unfinished; unreset = h.sends.unreset; session = h.sends.session }; session_receives = h.session_receives }
 
 -- ---- a call's moment
 
@@ -95,4 +103,4 @@ module _ (side : Side) (log : Log) (call : Call) (r : IsReachable side log) (l :
   pub establish-facts : (own : List Action) (id at : ℕ) → plan_of (facts_of side log) (session_state log) call ≡ Establish own id at → DriverFacts side (Called (SessionEstablished id at) ∷ with_actions own log)
   establish-facts own id at e =
       let h = facts-unflushed side (Called Polled ∷ log_call side log own (SessionEstablished id at)) (performed (Establish own id at) e) in
-      facts-unflushed side (Called (SessionEstablished id at) ∷ with_actions own log) (record { unfinished = h.unfinished; unreset = h.unreset; session_sends = h.session_sends; session_receives = h.session_receives })
+      facts-unflushed side (Called (SessionEstablished id at) ∷ with_actions own log) (record { sends = record { unfinished = h.sends.unfinished; unreset = h.sends.unreset; session = h.sends.session }; session_receives = h.session_receives })

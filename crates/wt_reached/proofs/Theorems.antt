@@ -1,20 +1,28 @@
 -- The laws, as the functions' contracts say them.
 use Rattle.std.specs.Prelude.{[], ◌∷◌, ◌≡◌, List, Some, false, true, ℕ}
-use Rattle.std.proofs.Common.{◌∙◌, sym}
+use Rattle.std.proofs.Common.{◌∙◌, refl, sym}
+use Rattle.wt_driver_spec.specs.Uses.{Uses}
 use Rattle.wt_laws.specs.Reachable.{IsReachable}
 use Rattle.wt_reached.proofs.Driving.{driver-facts, facts-flushed, facts-unflushed}
 use Rattle.wt_reached.proofs.Halves.{half-facts, read-origin}
 use Rattle.wt_reached.proofs.Handshaking.{reached-holds}
+use Rattle.wt_reached.proofs.Performing.{performs}
 use Rattle.wt_reached.proofs.Plain.{establish-facts, facts-stay, step-facts}
+use Rattle.wt_reached.proofs.Recording.{record-facts}
 use Rattle.wt_reached.proofs.Rejecting.{rejects-whole}
+use Rattle.wt_reached.proofs.Used.{uses-hold}
 use Rattle.wt_reached.proofs.There.{given-receives, given-sends}
 use Rattle.wt_reached.specs.Driving.{DriverFacts, leaves_driver}
 use Rattle.wt_reached.specs.Reading.{Origin}
 use Rattle.wt_seam_spec.specs.Sent.{is_finished, is_reset}
 use Rattle.wt_seam_spec.specs.Streams.{can_receive, can_send, local_uni}
 use Rattle.wt_session_acts.proofs.OwnActions.{plan_may}
-use Rattle.wt_session_acts.specs.Acting.{MayActAll}
+use Rattle.wt_session_acts.proofs.OwnRecords.{plan-made}
+use Rattle.wt_session_acts.proofs.OwnSpares.{plan-spares}
+use Rattle.wt_seam_spec.specs.Acting.{MayActAll}
 use Rattle.wt_session_acts.specs.OwnActions.{HalfFacts, own_of}
+use Rattle.wt_session_acts.specs.Performing.{MayPerform, RecordMayBeMade}
+use Rattle.wt_session_acts.specs.RecordFacts.{RecordFacts}
 use Rattle.wt_session_spec.proofs.Theorems.{may_call_theorem}
 use Rattle.wt_session_spec.specs.CallFacts.{facts_of}
 use Rattle.wt_session_spec.specs.Plan.{Establish, Step}
@@ -35,8 +43,22 @@ use Rattle.wt_wire.specs.declared.side.Side.{Side}
 pub half_facts_theorem : (side : Side) (log : Log) → IsReachable side log → HalfFacts side log
 half_facts_theorem side log r = half-facts side log r
 
+pub record_facts_theorem : (side : Side) (log : Log) → IsReachable side log → RecordFacts side log
+record_facts_theorem side log r = record-facts side log r
+
 pub actions_theorem : (side : Side) (log : Log) (call : Call) → IsReachable side log → is_lawful side log (turns.Call call) ≡ true → MayActAll side log (own_of (plan_of (facts_of side log) (session_state log) call))
 actions_theorem side log call r l = plan_may side log (half-facts side log r) call (sym (may_call_theorem side log call) ∙ l)
+
+made-now : (side : Side) (log : Log) (call : Call) → IsReachable side log → is_lawful side log (turns.Call call) ≡ true → RecordMayBeMade side log (plan_of (facts_of side log) (session_state log) call)
+made-now side log call r l = plan-made side log (record-facts side log r) (half-facts side log r) call (sym (may_call_theorem side log call) ∙ l)
+
+pub performs_theorem : (side : Side) (log : Log) (call : Call) → IsReachable side log → is_lawful side log (turns.Call call) ≡ true → MayPerform side log (plan_of (facts_of side log) (session_state log) call)
+performs_theorem side log call r l =
+    let m = sym (may_call_theorem side log call) ∙ l in
+    performs side log call r l (plan_of (facts_of side log) (session_state log) call) refl (actions_theorem side log call r l) (plan-spares side log (record-facts side log r) call m) (made-now side log call r l)
+
+pub uses_theorem : (side : Side) (log : Log) → IsReachable side log → Uses side log
+uses_theorem side log r = uses-hold side (made-now side) log r
 
 pub sends_theorem : (side : Side) (log : Log) (k : ℕ) → IsReachable side log → has_sending_half side log k ≡ true → can_send side log k ≡ true
 sends_theorem side log k r g = given-sends side log (reached-holds side log r).out.heads k g
@@ -51,13 +73,13 @@ pub rejected_theorem : (side : Side) (log : Log) (head : List ℕ) → IsReachab
 rejected_theorem side log head r e l = rejects-whole side log r head e l
 
 pub unfinished_theorem : (side : Side) (log : Log) → IsReachable side log → is_finished (actions_of log) (local_uni side) ≡ false
-unfinished_theorem side log r = (driver-facts side log r).unfinished
+unfinished_theorem side log r = (driver-facts side log r).sends.unfinished
 
 pub unreset_theorem : (side : Side) (log : Log) → IsReachable side log → is_reset log (local_uni side) ≡ false
-unreset_theorem side log r = (driver-facts side log r).unreset
+unreset_theorem side log r = (driver-facts side log r).sends.unreset
 
 pub session_sends_theorem : (side : Side) (log : Log) (s : ℕ × ℕ) → IsReachable side log → established (calls_of log) ≡ Some s → can_send side log s.0 ≡ true
-session_sends_theorem side log s r e = (driver-facts side log r).session_sends s e
+session_sends_theorem side log s r e = (driver-facts side log r).sends.session s e
 
 pub session_receives_theorem : (side : Side) (log : Log) (s : ℕ × ℕ) → IsReachable side log → established (calls_of log) ≡ Some s → can_receive side log s.0 ≡ true
 session_receives_theorem side log s r e = (driver-facts side log r).session_receives s e

@@ -1,12 +1,15 @@
-//! What lets calls and the driver send, of every log that lawful turns lead to.
+//! What lets calls send and record, and the driver send, of every log that lawful turns lead to.
 ghost use Rattle.std.specs.Prelude.{◌≡◌, ◌∷◌, Some, true, false, ℕ, List, []};
 ghost use Rattle.wt_laws.specs.Reachable.{IsReachable};
+ghost use Rattle.wt_driver_spec.specs.Uses.{Uses};
 ghost use Rattle.wt_reached.specs.Driving.{DriverFacts, leaves_driver};
 ghost use Rattle.wt_reached.specs.Reading.{Origin};
 ghost use Rattle.wt_seam_spec.specs.Sent.{is_finished, is_reset};
 ghost use Rattle.wt_seam_spec.specs.Streams.{can_receive, can_send, local_uni};
-ghost use Rattle.wt_session_acts.specs.Acting.{MayActAll};
+ghost use Rattle.wt_seam_spec.specs.Acting.{MayActAll};
 ghost use Rattle.wt_session_acts.specs.OwnActions.{HalfFacts, own_of};
+ghost use Rattle.wt_session_acts.specs.Performing.{MayPerform};
+ghost use Rattle.wt_session_acts.specs.RecordFacts.{RecordFacts};
 ghost use Rattle.wt_session_spec.specs.CallFacts.{facts_of};
 ghost use Rattle.wt_session_spec.specs.Plan.{Establish, Step};
 ghost use Rattle.wt_session_spec.specs.Plans.{plan_of};
@@ -30,10 +33,34 @@ pub fn calls_may_send()
     ensures { (side : Side) (log : Log) → IsReachable side log → HalfFacts side log }
 {}
 
+/// What lets a session's calls record what they do holds after all lawful turns: no stream is
+/// classified twice, a request that is answered still stands as it was queued, a connect goes on
+/// before its session, the application has the peer's streams of sessions and those that it opened,
+/// and this end's control stream is the first of its kind.
+#[tactic(auto, using(crate::proofs::Theorems::record_facts_theorem))]
+pub fn calls_may_record()
+    ensures { (side : Side) (log : Log) → IsReachable side log → RecordFacts side log }
+{}
+
 /// So each action of a lawful call's plan may go out, behind those before it.
 #[tactic(auto, using(crate::proofs::Theorems::actions_theorem))]
 pub fn own_actions_go_out()
     ensures { (side : Side) (log : Log) (call : Call) → IsReachable side log → is_lawful side log (turns.Call call) ≡ true → MayActAll side log (own_of (plan_of (facts_of side log) (session_state log) call)) }
+{}
+
+/// So a lawful call's plan may be performed: what it sends may go out and leaves this end's control
+/// stream alone, and what it records may be recorded behind that, with the driver still able to send.
+#[tactic(auto, using(crate::proofs::Theorems::performs_theorem))]
+pub fn calls_may_be_performed()
+    ensures { (side : Side) (log : Log) (call : Call) → IsReachable side log → is_lawful side log (turns.Call call) ≡ true → MayPerform side log (plan_of (facts_of side log) (session_state log) call) }
+{}
+
+/// Each entry of a log that lawful turns lead to does with streams what it may: a client connects
+/// first, a server answers a request that was queued, streams of sessions are given or passed, and
+/// what is read of a stream came.
+#[tactic(auto, using(crate::proofs::Theorems::uses_theorem))]
+pub fn streams_are_used_as_allowed()
+    ensures { (side : Side) (log : Log) → IsReachable side log → Uses side log }
 {}
 
 /// A stream whose half the application has is there, with that half; it is the peer's and was

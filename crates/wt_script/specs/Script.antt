@@ -1,10 +1,8 @@
 -- The turn that a line spells, and the side and the turns that a script spells (this repository's own grammar).
 use Rattle.std.specs.Prelude.{ℕ, ◌+◌, ◌==◌, Bool, true, false, List, [], ◌∷◌, ◌++◌, codes, Option, Some, None, Result, Ok, Err, if◌then◌else◌}
-use Rattle.std.specs.Option.{option_map, option_or, option_and_then}
+use Rattle.std.specs.Option.{option_map, option_or}
 use Rattle.wt_wire.specs.declared.side.Side.{Side}
 use Rattle.wt_wire.specs.declared.side.Side.TheVariants.{Client, Server}
-use Rattle.wt_turn.specs.declared.call.Call.{Call}
-use Rattle.wt_turn.specs.declared.call.Call.TheVariants as calls
 use Rattle.wt_turn.specs.declared.turn.Turn.{Turn}
 use Rattle.wt_turn.specs.declared.turn.Turn.TheVariants as turns
 use Rattle.wt_script.specs.declared.script.Script.{Script}
@@ -27,34 +25,6 @@ turn_of line = turn_of_words (words line)
 abbrev pub side_of : List ℕ → Option Side
 side_of line = if is_word line (codes "server") then Some Server else (if is_word line (codes "client") then Some Client else None)
 
--- ---- what a script may hold so far
-
--- the calls that a script may hold
-abbrev pub is_offered_call : Call → Bool
-is_offered_call calls.Incoming = true
-is_offered_call (calls.Accept []) = true
-is_offered_call calls.AcceptUni = true
-is_offered_call (calls.Read id size) = true
-is_offered_call _ = false
-
--- the turns that a script may hold; the line of each other one refuses it
-abbrev pub is_offered : Turn → Bool
-is_offered (turns.Connected uni bi credit datagrams) = true
-is_offered turns.PeerUni = true
-is_offered turns.PeerBi = true
-is_offered (turns.Bytes id piece) = true
-is_offered (turns.Call call) = is_offered_call call
-is_offered _ = false
-
--- the sides that a script may tell
-abbrev pub is_offered_side : Side → Bool
-is_offered_side Server = true
-is_offered_side Client = false
-
--- what passes a test
-abbrev pub only : {T : Type 0} → (T → Bool) → T → Option T
-only test t = if test t then Some t else None
-
 -- ---- scripts
 
 -- an empty line and a line that begins with '#' are left out
@@ -72,8 +42,8 @@ with_turn before turn = record { side = before.side; turns = before.turns ++ tur
 
 -- the first line that isn't left out tells the side, each further one is a turn
 abbrev pub with_words : Lines → Option Side → List ℕ → Option Lines
-with_words before None line = option_map (with_side before) (option_and_then (only is_offered_side) (side_of line))
-with_words before (Some side) line = option_map (with_turn before) (option_and_then (only is_offered) (turn_of line))
+with_words before None line = option_map (with_side before) (side_of line)
+with_words before (Some side) line = option_map (with_turn before) (turn_of line)
 
 -- what one more line says; None where it is none of a script's
 abbrev pub with_line : Lines → List ℕ → Option Lines

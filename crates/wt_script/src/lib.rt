@@ -2,7 +2,8 @@
 //!
 //! [`script::read_script`] reads the side and the turns that a script spells,
 //! [`script::lines::read_turn`] the turn of one line, and [`print::print_answer`] gives the line of
-//! an answer. A script holds only the turns that are built; the line of each other one refuses it.
+//! an answer. Every event and every call has its line, and a line that is none of these refuses its
+//! script.
 #![tactic(auto)]
 
 pub mod print;

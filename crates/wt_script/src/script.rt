@@ -1,8 +1,8 @@
 //! Scripts: a side and its turns, a line each.
 ghost use Rattle.std.specs.Prelude.{◌≡◌, ◌+◌, ◌<◌, ◌^◌, [], IfOk, Some, None, Ok, if◌then◌else◌};
-ghost use Rattle.std.specs.Option.{option_and_then, option_map};
+ghost use Rattle.std.specs.Option.{option_map};
 ghost use Rattle.wt_script.specs.Words.{lines_from};
-ghost use Rattle.wt_script.specs.Script.{is_offered, is_offered_call, is_offered_side, no_lines, only, read_lines, script_at_end, script_of, side_of, turn_of, with_line, with_side, with_turn};
+ghost use Rattle.wt_script.specs.Script.{no_lines, read_lines, script_at_end, script_of, side_of, turn_of, with_line, with_side, with_turn};
 
 mod addresses;
 mod calls;
@@ -16,8 +16,7 @@ mod words;
 use crate::script::lines::{read_side, read_turn};
 use std::alloc::Global;
 use std::marker::Model;
-use wt_turn::call::Call;
-use wt_turn::turn::{Turn, Turns};
+use wt_turn::turn::Turns;
 use wt_wire::error::OutOfMemory;
 use wt_wire::side::Side;
 
@@ -35,37 +34,6 @@ pub struct Script {
 #[derive(Clone, Copy, PartialEq, Eq, Debug)]
 pub struct ScriptRefused {
     pub line: u64,
-}
-
-fn is_offered_call(call: &Call) -> bool
-    ensures { result ≡ is_offered_call call.now }
-{
-    match call {
-        Call::Incoming | Call::AcceptUni | Call::Read { .. } => true,
-        Call::Accept { headers } => headers.is_empty(),
-        _ => false,
-    }
-}
-
-/// Whether a script may hold the turn: it is built.
-fn is_offered(turn: &Turn) -> bool
-    ensures { result ≡ is_offered turn.now }
-{
-    match turn {
-        Turn::Connected { .. } | Turn::PeerUni | Turn::PeerBi | Turn::Bytes { .. } => true,
-        Turn::Call(call) => is_offered_call(call),
-        _ => false,
-    }
-}
-
-/// Whether a script may tell the side: it is built.
-fn is_offered_side(side: Side) -> bool
-    ensures { result ≡ is_offered_side side }
-{
-    match side {
-        Side::Server => true,
-        Side::Client => false,
-    }
 }
 
 /// What the lines so far say.
@@ -108,25 +76,22 @@ impl Draft {
     }
 
     fn take_side(&mut self, line: &[u8]) -> bool
-        ensures { option_map (with_side self.old) (option_and_then (only is_offered_side) (side_of line.now)) ≡ (if result then Some self.new else None) }
+        ensures { option_map (with_side self.old) (side_of line.now) ≡ (if result then Some self.new else None) }
     {
         match read_side(line) {
-            Some(side) if is_offered_side(side) => {
+            Some(side) => {
                 self.side = Some(side);
                 true
             }
-            _ => false,
+            None => false,
         }
     }
 
     fn take_turn(&mut self, alloc: Global, line: &[u8]) -> Result<bool, OutOfMemory>
-        ensures { IfOk result (λ taken. option_map (with_turn self.old) (option_and_then (only is_offered) (turn_of line.now)) ≡ (if taken then Some self.new else None)) }
+        ensures { IfOk result (λ taken. option_map (with_turn self.old) (turn_of line.now) ≡ (if taken then Some self.new else None)) }
     {
         match read_turn(alloc, line)? {
             Some(turn) => {
-                if !is_offered(&turn) {
-                    return Ok(false);
-                }
                 self.turns.push(turn)?;
                 Ok(true)
             }
@@ -171,7 +136,7 @@ fn end_script(
 
 /// Reads a script: lines that end with a line feed, which the last may lack. An empty line and one
 /// that begins with `#` are left out, and counted. The first other line tells the side, each further
-/// one is a turn. The line of a side or a turn that isn't built is refused.
+/// one is a turn.
 pub fn read_script(
     alloc: Global,
     script: &[u8],

@@ -6,3 +6,4 @@ pub mod Joined
 pub mod Outgoing
 pub mod Unread
 pub mod Rows
+pub mod Acting

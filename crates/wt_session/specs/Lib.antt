@@ -2,3 +2,8 @@ pub mod ConnectOptions
 pub mod Datagrams
 pub mod Halves
 pub mod Lending
+pub mod Kept
+pub mod MayPlan
+pub mod Keeping
+pub mod Given
+pub mod Walking

@@ -1,5 +1,5 @@
 -- The own actions of every plan may go out.
-use Rattle.std.proofs.Common.{arith, ◌≡◌, ◌<◌, ◌+◌, ◌*◌, ◌/◌, ◌%◌, ℕ, zero, suc, Bool, true, false, List, [], ◌∷◌, ◌++◌, length, drop, refl, sym, ap, subst, ◌∙◌}
+use Rattle.std.proofs.Common.{arith, ◌≡◌, ◌<◌, ◌+◌, ◌*◌, ◌/◌, ◌%◌, ℕ, zero, suc, Bool, true, false, List, [], ◌∷◌, ◌++◌, length, refl, ap, ◌∙◌}
 use Rattle.std.specs.Prelude.{Err, None, Ok, Option, Result, Some, is_some, nat_lt, not, ◌==◌, ◌&&◌, ◌||◌, if◌then◌else◌}
 use Rattle.std.proofs.lemmas.Bool.{and_parts, eq-eqb, lt-ltb}
 use Rattle.std.specs.Prelude.{bytes_eq, codes, ℤ}
@@ -39,24 +39,24 @@ use Rattle.wt_proto.specs.declared.response_walk.ResponseWalk.{ResponseWalk}
 use Rattle.wt_proto.specs.declared.response_walk.ResponseWalk.TheVariants as responses
 use Rattle.wt_seam.specs.Rules.{sending_half}
 use Rattle.wt_seam_spec.specs.Joined.{send_of}
-use Rattle.wt_seam_spec.specs.Outgoing.{may_open, may_send, next_id, opened_id}
+use Rattle.wt_seam_spec.specs.Outgoing.{may_open, next_id, opened_id}
 use Rattle.wt_seam_spec.specs.Reports.{stop_of}
 use Rattle.wt_seam_spec.specs.Sent.{is_finished, is_reset}
-use Rattle.wt_seam_spec.specs.Streams.{can_receive, can_send, local_bi, local_count, local_uni, one_more_if, peer_count, peer_uni, stream_count}
+use Rattle.wt_seam_spec.specs.Streams.{can_send, local_bi, local_count, local_uni, one_more_if, peer_count, peer_uni, stream_count}
 use Rattle.wt_session_acts.proofs.SendsMay.{all-out, finish-may, half-may, head-may, head-open, may-both, may-if, sends-may, write-may}
-use Rattle.wt_session_acts.specs.Acting.{MayAct, MayActAll, local_kind}
-use Rattle.wt_session_acts.specs.OwnActions.{HalfFacts, IsSendable, RespondsWell, left_out, own_of}
-use Rattle.wt_session_spec.specs.CallFacts.{CallFacts, facts_of}
+use Rattle.wt_seam_spec.specs.Acting.{MayAct, MayActAll, local_kind}
+use Rattle.wt_session_acts.specs.OwnActions.{HalfFacts, RespondsWell, left_out, own_of}
+use Rattle.wt_session_spec.specs.CallFacts.{facts_of}
 use Rattle.wt_session_spec.specs.ConnectionPlans.{header_sent, opening_plan, poll_plan}
 use Rattle.wt_session_spec.specs.HalfPlans.{reset_plan}
 use Rattle.wt_session_spec.specs.HandshakePlans.{AllOut, Ended, HeadProgress, Refused, Short, acceptance, actions_of_head, head_actions, progress_of, rejection, rejection_out, response_left}
-use Rattle.wt_session_spec.specs.ConnectPlans.{connect_plan, dialled_at, dialled_to, dialled_unless}
+use Rattle.wt_session_spec.specs.ConnectPlans.{dialled_at, dialled_to, dialled_unless}
 use Rattle.wt_session_spec.specs.ConnectionPlans.{datagram_by, datagram_if, datagram_plan}
-use Rattle.wt_session_spec.specs.HandshakePlans.{abandoned, failed_connect, lost_connect, awaited, continued_by, continued_connect, delivery, handshake_plan, left_of, request_left, request_plan, request_sent, request_unless, response_plan, response_read, start_plan}
+use Rattle.wt_session_spec.specs.HandshakePlans.{abandoned, failed_connect, lost_connect, awaited, continued_by, continued_connect, delivery, handshake_plan, left_of, request_left, request_plan, request_sent, request_unless, response_read, start_plan}
 use Rattle.wt_session_spec.specs.HalfPlans.{read_exact_plan, exact_plan}
 use Rattle.wt_session_spec.specs.Plans.{in_session_now, may_call_now, plan_of, with_half}
 use Rattle.wt_session_spec.specs.SessionState.{has_receiving_now, has_sending_now, is_opening_now}
-use Rattle.wt_session_spec.specs.Plan.{Establish, Plan, Step, closing_with, fail_with, only_reply, send_and_reply, while_open}
+use Rattle.wt_session_spec.specs.Plan.{Establish, Plan, Step, closing_with, fail_with, only_reply, send_and_reply}
 use Rattle.wt_session_spec.specs.SessionState.{session_state}
 use Rattle.wt_spec.specs.Handshake.{Connecting, HandshakeState, Responding, awaits_answer, handshake_state, has_success, requested, response_head}
 use Rattle.wt_turn.specs.declared.connecting_error.ConnectingError.TheVariants as connects
@@ -67,7 +67,6 @@ use Rattle.wt_turn.specs.Log.{CallRecord, Log, Polled, ResetUnsent, Sent, action
 use Rattle.wt_turn.specs.declared.action.Action.{Action}
 use Rattle.wt_turn.specs.declared.action.Action.TheVariants as actions
 use Rattle.wt_turn.specs.declared.connection_error.ConnectionError.{ConnectionError}
-use Rattle.wt_wire.specs.Ids.{is_bidirectional}
 use Rattle.wt_wire.specs.declared.side.Side.{Side}
 use Rattle.wt_wire.specs.declared.side.Side.TheVariants.{Client, Server}
 

@@ -1,15 +1,15 @@
 -- What goes out on one half, and what closes a connection, may go out.
-use Rattle.std.proofs.Common.{arith, ◌≡◌, ◌<◌, ◌≤◌, ◌+◌, ◌-◌, ◌*◌, ◌/◌, ◌%◌, ℕ, zero, suc, Bool, true, false, List, [], ◌∷◌, ◌++◌, length, take, drop, refl, sym, ap, subst, ◌∙◌, add-zero}
-use Rattle.std.specs.Prelude.{Option, Some, None, is_some, nat_lt, not, ◌==◌, ◌&&◌, ◌||◌, if◌then◌else◌, option_map}
-use Rattle.std.proofs.lemmas.Bool.{and_parts, lt-ltb, ltb-true, ltb-false}
+use Rattle.std.proofs.Common.{arith, ◌≡◌, ◌≤◌, ℕ, zero, suc, Bool, true, false, List, [], ◌∷◌, ◌++◌, length, take, refl, ap}
+use Rattle.std.specs.Prelude.{Option, Some, None, is_some, nat_lt, not, ◌&&◌, ◌||◌, if◌then◌else◌, option_map}
+use Rattle.std.proofs.lemmas.Bool.{ltb-false}
 use Rattle.std.proofs.lemmas.List.{take_all, length-take}
-use Rattle.wt_session_acts.specs.Acting.{MayAct, MayActAll, local_kind}
+use Rattle.wt_seam_spec.specs.Acting.{MayAct, MayActAll}
 use Rattle.wt_seam.specs.Rules.{sending_half}
 use Rattle.wt_seam_spec.specs.Joined.{send_of}
-use Rattle.wt_seam_spec.specs.Outgoing.{credit_left, may_open, may_send, next_id, opened_id, sending}
-use Rattle.wt_seam_spec.specs.Reports.{credit, stop_of}
-use Rattle.wt_seam_spec.specs.Sent.{is_finished, is_reset, sent_on}
-use Rattle.wt_seam_spec.specs.Streams.{can_receive, can_send, exists, local_bi, local_count, local_uni, peer_uni, stream_count}
+use Rattle.wt_seam_spec.specs.Outgoing.{credit_left, may_send}
+use Rattle.wt_seam_spec.specs.Reports.{stop_of}
+use Rattle.wt_seam_spec.specs.Sent.{is_finished, is_reset}
+use Rattle.wt_seam_spec.specs.Streams.{can_send}
 use Rattle.wt_session_acts.specs.OwnActions.{IsSendable}
 use Rattle.wt_session_spec.specs.HalfPlans.{bytes_out, finish_actions}
 use Rattle.wt_session_spec.specs.HandshakePlans.{AllOut, Ended, HeadProgress, Refused, Short, head_actions, head_progress}

@@ -1,2 +1,3 @@
-pub mod Acting
 pub mod OwnActions
+pub mod RecordFacts
+pub mod Performing

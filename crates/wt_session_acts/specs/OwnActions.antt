@@ -1,8 +1,8 @@
 -- What a call's plan sends, and what lets it: the halves that the application and the handshake have are there.
-use Rattle.std.specs.Prelude.{◌==◌, ◌≡◌, [], Bool, List, drop, false, length, not, true, ℕ, Option}
+use Rattle.std.specs.Prelude.{◌≡◌, [], Bool, List, drop, false, length, true, ℕ, Option}
 use Rattle.wt_seam_spec.specs.Sent.{is_finished, is_reset, sent_on}
 use Rattle.wt_seam_spec.specs.Streams.{can_receive, can_send, local_bi}
-use Rattle.wt_session_spec.specs.Plan.{AcceptBi, AcceptUni, Establish, Plan, Receive, Step}
+use Rattle.wt_session_spec.specs.Plan.{Establish, Plan, Step}
 use Rattle.wt_session_spec.specs.SessionState.{has_receiving_now, has_sending_now, is_opening_now, session_state}
 use Rattle.wt_spec.specs.Handshake.{Connecting, Responding, awaits_answer, handshake_state, requested}
 use Rattle.wt_turn.specs.Log.{Log, actions_of, calls_of}

@@ -5,7 +5,7 @@ use Rattle.wt_seam_spec.specs.Streams.{local_uni, peer_uni}
 use Rattle.wt_turn.specs.Log.{CallRecord, Log, OpeningFailed, OpeningStarted, StreamAccepted, calls_of}
 use Rattle.wt_wire.specs.declared.side.Side.{Side}
 use Rattle.wt_spec.specs.Halves.{gives_up}
-use Rattle.wt_spec.specs.Handshake.{HandshakeState, after_record, handshake_state, requested, requested_by}
+use Rattle.wt_spec.specs.Handshake.{HandshakeState, Requested, Responding, after_record, handshake_state, requested, requested_by}
 
 -- ---- one stream
 
@@ -103,3 +103,9 @@ has_sending_now side s k = was_given (s.streams k).giving && not (k % 4 == peer_
 -- the application has the stream's receiving half, and didn't give it up
 abbrev pub has_receiving_now : Side → SessionState → ℕ → Bool
 has_receiving_now side s k = was_given (s.streams k).giving && not (k % 4 == local_uni side) && not (s.streams k).given_up
+
+-- a request was delivered, and its answer isn't through
+abbrev pub is_answering : HandshakeState → Bool
+is_answering (Requested id) = true
+is_answering (Responding accepts head) = true
+is_answering _ = false

@@ -1,105 +1,76 @@
--- Each exchange keeps the laws.
-use Rattle.std.proofs.Common.{arith, ◌≡◌, ◌≤◌, ℕ, zero, suc, Bool, true, false, List, [], ◌++◌, drop, refl, sym, subst, ap, ◌∙◌}
-use Rattle.std.specs.Prelude.{Some, ◌&&◌, ◌||◌, not}
-use Rattle.std.specs.List.{list_any}
-use Rattle.std.proofs.lemmas.Bool.Decides.{nat_tests}
-use Rattle.wt_wire.specs.declared.side.Side.TheVariants.{Server}
-use Rattle.wt_wire.specs.declared.side.StreamEnd.TheVariants.{Running}
-use Rattle.wt_proto.specs.declared.verdict.Verdict.{Verdict}
-use Rattle.wt_proto.specs.declared.verdict.Verdict.TheVariants.{Control}
-use Rattle.wt_proto.specs.Bi.{bi_verdict_of}
-use Rattle.wt_proto.specs.Uni.{uni_verdict_of}
-use Rattle.wt_core.specs.Calls.{is_for_session, offset_of, total_read}
-use Rattle.wt_core.specs.Driver.{accepts_stream, ids}
-use Rattle.wt_trace.specs.Exchanges.{Exchange, received_bytes, is_requested, was_accepted, read_from, settings_received, request_waits, stream_waits, is_settings_stream, after_header, unread_of}
-use Rattle.wt_turn.specs.Log.{Log, events_of, calls_of}
-use Rattle.wt_trace.specs.Laws.{ReadsFollow}
-use Rattle.wt_core.specs.Next.{is_delivery}
-use Rattle.wt_core.specs.Transport.{contents, peer_unis, peer_bis, is_among}
-use Rattle.wt_core.specs.Session.{is_request}
-use Rattle.wt_core.proofs.CallTurns.{unread_in}
-use Rattle.wt_core.proofs.Facts.{Facts, built-streams}
-use Rattle.wt_core.proofs.Moments.{settings_in}
-use Rattle.wt_core.proofs.Readable.{IsOrWaits, Waits, Is, uni-empty, bi-empty, settings-waits}
-use Rattle.wt_core.proofs.ReplayCalls.{control-came, session-came, or-false}
-use Rattle.wt_trace.proofs.ExchangeFacts.{Tells}
+-- Every run keeps the laws.
+use Rattle.std.proofs.Common.{arith, ◌≡◌, ◌<◌, ℕ, List, length, subst, sym, take, true}
+use Rattle.wt_laws.proofs.GivenOnce.{given_once_theorem}
+use Rattle.wt_laws.proofs.Theorems.{accepted_theorem, action_theorem, after_end_theorem, asks_first_theorem, connect_theorem, connects_theorem, datagrams_theorem, ended_theorem, fault_theorem, headers_theorem, heads_theorem, late_theorem, later_theorem, one_session_theorem, open_theorem, order_theorem, own_reads_theorem, pending_theorem, reads_theorem, receiving_calls_theorem, reply_theorem, request_theorem, requests_theorem, responses_theorem, result_theorem, sending_calls_theorem, sends_all_theorem, sends_end_theorem, sends_theorem, session_calls_theorem, session_stream_theorem, session_told_theorem, sessions_theorem, settings_theorem, stays_theorem, taken_theorem, within_credit_theorem}
+use Rattle.wt_laws.proofs.TurnCauses.{entries_theorem, recorded_theorem, went_out_theorem}
+use Rattle.wt_laws.specs.Runs.{StaysSo}
+use Rattle.wt_spec.specs.Answers.{is_lawful, run}
+use Rattle.wt_trace.specs.Laws.{CallsAnswer, HandshakesAnswer, HeadGoesOut, KeepsLaws, SettledStays}
+use Rattle.wt_trace.specs.Trace.{log_at}
+use Rattle.wt_trace.proofs.CutLaws.{may-be-cut}
+use Rattle.wt_trace.proofs.PrefixLaws.{lawful-at, lawful-turn, reachable-at}
+use Rattle.wt_laws.specs.Reachable.{IsReachable}
+use Rattle.wt_turn.specs.Log.{Log}
+use Rattle.wt_turn.specs.declared.turn.Turn.{Turn}
+use Rattle.wt_wire.specs.declared.side.Side.{Side}
 
--- ---- reads
+settled-stays : (side : Side) (log : Log) → SettledStays side log
+settled-stays side log earlier goes = subst (StaysSo side earlier) (sym goes.1) (stays_theorem side goes.0 earlier)
 
-follow : (before : List Exchange) (h : Log) (k : ℕ) (b : Bool) → Facts h → Tells before h → list_any (accepts_stream k) (calls_of h) ≡ b → (rest : List ℕ) × (read_from k before ++ rest ≡ after_header k before)
-follow before h k false f t e = (after_header k before, ap (λ r. r ++ after_header k before) (t.unaccepted k e))
-follow before h k true f t e =
-    let six : k ≡ 6 = f.calls.accepted k e in
-    let there : list_any (accepts_stream 6) (calls_of h) ≡ true = subst (λ (j : ℕ). list_any (accepts_stream j) (calls_of h) ≡ true) six e in
-    let header : after_header 6 before ≡ drop 3 (contents h 6) =
-    ap (λ (bytes : List ℕ). drop (offset_of (Some (uni_verdict_of bytes Running))) bytes) (t.bytes 6) ∙ ap (λ (v : Verdict). drop (offset_of (Some v)) (contents h 6)) (f.calls.handed_session there) in
-    subst (λ (j : ℕ). (rest : List ℕ) × (read_from j before ++ rest ≡ after_header j before)) (sym six) (t.prefix.0, t.prefix.1 ∙ sym header)
+calls-answer : (side : Side) (log : Log) → CallsAnswer side log
+calls-answer side log = record { first = asks_first_theorem side log; session = session_calls_theorem side log; sending = sending_calls_theorem side log; receiving = receiving_calls_theorem side log }
 
-pub reads-follow : (before : List Exchange) (h : Log) (k : ℕ) → Facts h → Tells before h → ReadsFollow before k
-reads-follow before h k f t = record {
-  in_order = follow before h k (list_any (accepts_stream k) (calls_of h)) f t refl;
-  accepted = λ e. t.unaccepted k (sym (t.accepted k) ∙ e);
+handshakes-answer : (side : Side) (log : Log) → HandshakesAnswer side log
+handshakes-answer side log = record {
+  request = requests_theorem side log;
+  response = responses_theorem side log;
+  connect = connects_theorem side log;
+  dialled = connect_theorem side log;
+  sent = request_theorem side log;
 }
 
--- ---- what is left
+head-goes-out : (side : Side) (log : Log) (turn : Turn) → IsReachable side log → is_lawful side log turn ≡ true → HeadGoesOut side log turn
+head-goes-out side log turn r l call e = heads_theorem side log call r (subst (λ (t : Turn). is_lawful side log t ≡ true) e l)
 
-came-tells : (before : List Exchange) (h : Log) → Facts h → Tells before h → (n : ℕ) → n ≤ 2 → (n ≡ 0 → contents h 2 ≡ []) → list_any (λ k. is_settings_stream (received_bytes k before)) (ids 2 0 n) ≡ settings_in h
-came-tells before h f t zero l none = sym (settings-waits (contents h 2) f.streams.control (ap (λ (c : List ℕ). uni_verdict_of c Running) (none refl) ∙ uni-empty))
-came-tells before h f t (suc zero) l none =
-    or-false (is_settings_stream (received_bytes 2 before)) ∙ ap is_settings_stream (t.bytes 2)
-    ∙ control-came h (uni_verdict_of (contents h 2) Running) (built-streams h f.streams).control (settings-waits (contents h 2) f.streams.control)
-came-tells before h f t (suc (suc zero)) l none =
-    ap (λ b. is_settings_stream (received_bytes 2 before) || (b || false)) (ap is_settings_stream (t.bytes 6) ∙ session-came (uni_verdict_of (contents h 6) Running) (contents h 6) (built-streams h f.streams).session)
-    ∙ or-false (is_settings_stream (received_bytes 2 before)) ∙ ap is_settings_stream (t.bytes 2)
-    ∙ control-came h (uni_verdict_of (contents h 2) Running) (built-streams h f.streams).control (settings-waits (contents h 2) f.streams.control)
-came-tells before h f t (suc (suc (suc n))) l none = absurd (omega arith)
-
-pub settings-tells : (before : List Exchange) (h : Log) → Facts h → Tells before h → settings_received Server before ≡ settings_in h
-settings-tells before h f t =
-    ap (λ n. list_any (λ k. is_settings_stream (received_bytes k before)) (ids 2 0 n)) t.unis
-    ∙ came-tells before h f t (peer_unis (events_of h)) f.streams.unis (λ z. f.streams.unopened 2 (rw z refl) refl)
-
-asks-tells : (before : List Exchange) (h : Log) → Facts h → Tells before h → (n : ℕ) → n ≤ 1 → (n ≡ 0 → contents h 0 ≡ [])
-    → list_any (λ k. is_request (bi_verdict_of (received_bytes k before) Running) && not (is_requested k before)) (ids 0 0 n) ≡ (is_request (bi_verdict_of (contents h 0) Running) && not (list_any is_delivery (calls_of h)))
-asks-tells before h f t zero l none = sym (ap (λ (v : Verdict). is_request v && not (list_any is_delivery (calls_of h))) (ap (λ (c : List ℕ). bi_verdict_of c Running) (none refl) ∙ bi-empty))
-asks-tells before h f t (suc zero) l none =
-    or-false _ ∙ ap (λ (c : List ℕ). is_request (bi_verdict_of c Running) && not (is_requested 0 before)) (t.bytes 0)
-    ∙ ap (λ b. is_request (bi_verdict_of (contents h 0) Running) && not b) (t.given 0 ∙ f.calls.gave_first)
-asks-tells before h f t (suc (suc n)) l none = absurd (omega arith)
-
-pub request-tells : (before : List Exchange) (h : Log) → Facts h → Tells before h → request_waits Server before ≡ (is_request (bi_verdict_of (contents h 0) Running) && not (list_any is_delivery (calls_of h)))
-request-tells before h f t =
-    ap (λ n. list_any (λ k. is_request (bi_verdict_of (received_bytes k before) Running) && not (is_requested k before)) (ids 0 0 n)) t.bis
-    ∙ asks-tells before h f t (peer_bis (events_of h)) f.streams.bis (λ z. f.streams.unopened 0 refl (rw z refl))
-
-control-unnamed : (v : Verdict) (b : Bool) → IsOrWaits (Control 1) v → (is_for_session 0 v && b) ≡ false
-control-unnamed v b Waits = refl
-control-unnamed v b Is = refl
-
-waits-tells : (before : List Exchange) (h : Log) → Facts h → Tells before h → (n : ℕ) → n ≤ 2 → (n ≤ 1 → contents h 6 ≡ [])
-    → list_any (λ k. is_for_session 0 (uni_verdict_of (received_bytes k before) Running) && not (was_accepted k before)) (ids 2 0 n) ≡ (is_for_session 0 (uni_verdict_of (contents h 6) Running) && not (list_any (accepts_stream 6) (calls_of h)))
-waits-tells before h f t zero l none = sym (ap (λ (v : Verdict). is_for_session 0 v && not (list_any (accepts_stream 6) (calls_of h))) (ap (λ (c : List ℕ). uni_verdict_of c Running) (none (omega arith)) ∙ uni-empty))
-waits-tells before h f t (suc zero) l none =
-    or-false _ ∙ ap (λ (c : List ℕ). is_for_session 0 (uni_verdict_of c Running) && not (was_accepted 2 before)) (t.bytes 2)
-    ∙ control-unnamed (uni_verdict_of (contents h 2) Running) (not (was_accepted 2 before)) (built-streams h f.streams).control
-    ∙ sym (ap (λ (v : Verdict). is_for_session 0 v && not (list_any (accepts_stream 6) (calls_of h))) (ap (λ (c : List ℕ). uni_verdict_of c Running) (none (omega arith)) ∙ uni-empty))
-waits-tells before h f t (suc (suc zero)) l none =
-    ap (λ b. b || ((is_for_session 0 (uni_verdict_of (received_bytes 6 before) Running) && not (was_accepted 6 before)) || false))
-    (ap (λ (c : List ℕ). is_for_session 0 (uni_verdict_of c Running) && not (was_accepted 2 before)) (t.bytes 2) ∙ control-unnamed (uni_verdict_of (contents h 2) Running) (not (was_accepted 2 before)) (built-streams h f.streams).control)
-    ∙ or-false _ ∙ ap (λ (c : List ℕ). is_for_session 0 (uni_verdict_of c Running) && not (was_accepted 6 before)) (t.bytes 6)
-    ∙ ap (λ b. is_for_session 0 (uni_verdict_of (contents h 6) Running) && not b) (t.accepted 6)
-waits-tells before h f t (suc (suc (suc n))) l none = absurd (omega arith)
-
-few-opened : (n : ℕ) → n ≤ 1 → is_among 2 n 6 ≡ false
-few-opened n l = grind (arith, nat_tests)
-
-pub stream-tells : (before : List Exchange) (h : Log) → Facts h → Tells before h → stream_waits Server 0 before ≡ (is_for_session 0 (uni_verdict_of (contents h 6) Running) && not (list_any (accepts_stream 6) (calls_of h)))
-stream-tells before h f t =
-    ap (λ n. list_any (λ k. is_for_session 0 (uni_verdict_of (received_bytes k before) Running) && not (was_accepted k before)) (ids 2 0 n)) t.unis
-    ∙ waits-tells before h f t (peer_unis (events_of h)) f.streams.unis (λ l. f.streams.unopened 6 (few-opened (peer_unis (events_of h)) l) refl)
-
-pub unread-tells : (before : List Exchange) (h : Log) → Facts h → Tells before h → list_any (accepts_stream 6) (calls_of h) ≡ true → unread_of 6 before ≡ unread_in h
-unread-tells before h f t here =
-    ap (λ n. drop n (after_header 6 before)) (t.count 6)
-    ∙ ap (λ (bytes : List ℕ). drop (total_read 6 (calls_of h)) (drop (offset_of (Some (uni_verdict_of bytes Running))) bytes)) (t.bytes 6)
-    ∙ ap (λ (v : Verdict). drop (total_read 6 (calls_of h)) (drop (offset_of (Some v)) (contents h 6))) (f.calls.handed_session here)
+pub laws : (side : Side) (all : List Turn) → KeepsLaws side all (run side all).answers
+laws side all =
+    let reach = reachable-at side all in
+    let before = λ (n : ℕ) (l : n < length (run side all).answers). reachable-at side all n (omega (arith, l)) in
+    let lawful = lawful-turn side all in
+    record {
+      sessions = λ n l. sessions_theorem side (log_at side all n) (reach n l);
+      one_session = λ n turn l e. one_session_theorem side (log_at side all n) turn (before n l) (lawful n turn l e);
+      told = λ n turn l e. session_told_theorem side (log_at side all n) turn (lawful n turn l e);
+      streams = λ n turn l e. accepted_theorem side (log_at side all n) turn (before n l) (lawful n turn l e);
+      given_once = λ n l. given_once_theorem side (take n all) (lawful-at side all n l);
+      bi_order = λ n l. order_theorem side (log_at side all n);
+      reads = λ n l. reads_theorem side (take n all) (lawful-at side all n l);
+      local_reads = λ n l. own_reads_theorem side (log_at side all n);
+      datagrams = λ n l. datagrams_theorem side (take n all) (lawful-at side all n l);
+      pending = λ n turn l e. pending_theorem side (log_at side all n) turn (lawful n turn l e);
+      none_pending = λ n turn l e. ended_theorem side (log_at side all n) turn (lawful n turn l e);
+      calls = λ n l. calls-answer side (log_at side all n);
+      handshakes = λ n l. handshakes-answer side (log_at side all n);
+      replies = λ n turn l e. reply_theorem side (log_at side all n) turn (lawful n turn l e);
+      recorded = λ n turn l e. recorded_theorem side (log_at side all n) turn (lawful n turn l e);
+      actions = λ n l. went_out_theorem side (log_at side all n) (reach n l);
+      caused = λ n l. action_theorem side (log_at side all n) (reach n l);
+      entries = λ n turn l e. entries_theorem side (log_at side all n) turn (lawful n turn l e);
+      opened = λ n l. open_theorem side (log_at side all n) (reach n l);
+      faults = λ n l moment goes. fault_theorem side moment;
+      result_stays = λ n turn l e. result_theorem side (log_at side all n) turn (lawful n turn l e);
+      after_end = λ n l. after_end_theorem side (log_at side all n) (reach n l);
+      late = λ n turn l e. late_theorem side (log_at side all n) turn;
+      forgotten = λ n l. later_theorem side (log_at side all n);
+      settled = λ n l. settled-stays side (log_at side all n);
+      settings = λ n l. settings_theorem side (log_at side all n) (reach n l);
+      headers = λ n l. headers_theorem side (log_at side all n) (reach n l);
+      heads = λ n turn l e. head-goes-out side (log_at side all n) turn (before n l) (lawful n turn l e);
+      sends = λ n turn l e. sends_theorem side (log_at side all n) turn (before n l) (lawful n turn l e);
+      sends_all = λ n l. sends_all_theorem side (take n all) (lawful-at side all n l);
+      sends_end = λ n turn l e. sends_end_theorem side (log_at side all n) turn (before n l) (lawful n turn l e);
+      session_stream = λ n l. session_stream_theorem side (take n all) (lawful-at side all n l);
+      credit = λ n l. within_credit_theorem side (log_at side all n) (reach n l);
+      taken = λ n l. taken_theorem side (log_at side all n);
+      cutting = may-be-cut side all;
+    }

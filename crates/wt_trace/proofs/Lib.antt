@@ -1,10 +1,7 @@
 pub mod OutsideLaws
 pub mod RunLaws
-pub mod ExchangeFacts
-pub mod EachTurn
-pub mod AllTurns
-pub mod Cutting
+pub mod PrefixLaws
+pub mod CutLaws
 pub mod LawsHold
 pub mod ProgramLaws
 pub mod GenerateLaws
-pub mod CutRuns

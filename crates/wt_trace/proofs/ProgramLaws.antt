@@ -2,20 +2,19 @@
 use Rattle.std.proofs.Common.{◌≡◌, ℕ, Bool, true, false, List, [], ◌++◌, refl, sym, subst, ap, ◌∙◌, append-nil}
 use Rattle.std.specs.Prelude.{Option, IsTrue, Result, Ok, Err, nat_lt, length, codes, if◌then◌else◌}
 use Rattle.std.specs.Io.KnownBytes.{Appends, Consumes}
-use Rattle.wt_core.specs.Next.{run, Stop, Finished, AtUnlawful, AtUnbuilt}
+use Rattle.wt_spec.specs.Answers.{AtUnlawful, Finished, RunEnd, run}
 use Rattle.wt_turn.specs.declared.answer.Answer.{Answer}
 use Rattle.wt_script.specs.declared.script.Script.{Script}
 use Rattle.wt_script.specs.declared.script.ScriptRefused.{ScriptRefused}
 use Rattle.wt_script.specs.Print.{print}
 use Rattle.wt_script.specs.Script.{script_of}
 use Rattle.wt_trace.specs.Program.{AnswersInput, AnswersKeepLaws, is_run_status, script_limit, too_long, script_outcome, stop_outcome, stop_line}
-use Rattle.wt_trace.proofs.AllTurns.{laws}
+use Rattle.wt_trace.proofs.LawsHold.{laws}
 
 -- the answers stand at the front of the text
-front : (stop : Stop) (answers : List Answer) → (last : List ℕ) × ((stop_outcome stop answers).text ≡ print answers ++ last)
+front : (stop : RunEnd) (answers : List Answer) → (last : List ℕ) × ((stop_outcome stop answers).text ≡ print answers ++ last)
 front Finished answers = ([], sym (append-nil (print answers)))
 front AtUnlawful answers = (stop_line answers (codes " unlawful\n"), refl)
-front AtUnbuilt answers = (stop_line answers (codes " unbuilt\n"), refl)
 
 of-script : (left_before left_now took_before took_now : Option (List ℕ)) (input : List ℕ) (b : Bool) (r : Result Script ScriptRefused) → script_of input ≡ r
     → Consumes left_before left_now input → IsTrue (is_run_status (if b then too_long else script_outcome r).status) → Appends took_before took_now (if b then too_long else script_outcome r).text

@@ -1,6 +1,5 @@
-pub mod Exchanges
-pub mod Laws
 pub mod Outside
 pub mod Trace
+pub mod Laws
 pub mod Program
 pub mod Generate

@@ -5,8 +5,8 @@ use Rattle.std.specs.Io.KnownBytes.{Appends, Consumes}
 use Rattle.wt_turn.specs.declared.answer.Answer.{Answer}
 use Rattle.wt_script.specs.declared.script.Script.{Script}
 use Rattle.wt_script.specs.declared.script.ScriptRefused.{ScriptRefused}
-use Rattle.wt_core.specs.Next.{Run, run, Stop, Finished, AtUnlawful, AtUnbuilt}
-use Rattle.wt_trace.specs.Laws.{HoldsOf, KeepsLaws}
+use Rattle.wt_spec.specs.Answers.{AtUnlawful, Finished, Run, RunEnd, run}
+use Rattle.wt_trace.specs.Laws.{KeepsLaws}
 use Rattle.wt_script.specs.Print.{print}
 use Rattle.wt_script.specs.Script.{script_of}
 use Rattle.wt_script.specs.Words.{is_word}
@@ -42,11 +42,10 @@ refused_at line = record { status = 2; text = codes "line " ++ decimal line ++ c
 abbrev pub stop_line : List Answer → List ℕ → List ℕ
 stop_line answers reason = codes "turn " ++ decimal (length answers) ++ reason
 
--- a run that ended so after these answers: status 0, 3 or 8
-abbrev pub stop_outcome : Stop → List Answer → Outcome
+-- a run that ended so after these answers: status 0 or 3
+abbrev pub stop_outcome : RunEnd → List Answer → Outcome
 stop_outcome Finished answers = record { status = 0; text = print answers }
 stop_outcome AtUnlawful answers = record { status = 3; text = print answers ++ stop_line answers (codes " unlawful\n") }
-stop_outcome AtUnbuilt answers = record { status = 8; text = print answers ++ stop_line answers (codes " unbuilt\n") }
 
 -- the outcome of a run
 abbrev pub run_outcome : Run → Outcome
@@ -86,7 +85,7 @@ is_cut_short status = status == 4 || status == 5 || status == 6
 
 -- a status that tells of a script that was read to its end
 abbrev pub is_script_status : ℕ → Bool
-is_script_status status = status == 0 || status == 2 || status == 3 || status == 8
+is_script_status status = status == 0 || status == 2 || status == 3
 
 -- a status that tells of an input
 abbrev pub is_input_status : ℕ → Bool
@@ -94,7 +93,7 @@ is_input_status status = is_script_status status || status == 7
 
 -- a status that tells of a run of turns
 abbrev pub is_run_status : ℕ → Bool
-is_run_status status = status == 0 || status == 3 || status == 8
+is_run_status status = status == 0 || status == 3
 
 -- the bytes that were read are a script, the answers to its turns stand at the front of the text that was written, and they
 -- keep the laws
@@ -105,4 +104,4 @@ pub record AnswersKeepLaws (left_before left_now took_before took_now : Option (
   pub read : script_of input ≡ Ok script
   pub last : List ℕ
   pub written : Appends took_before took_now (print (run script.side script.turns).answers ++ last)
-  pub laws : HoldsOf (KeepsLaws script.side) script.turns (run script.side script.turns).answers
+  pub laws : KeepsLaws script.side script.turns (run script.side script.turns).answers

@@ -2,7 +2,7 @@
 ghost use Rattle.std.specs.Prelude.{◌≡◌, ◌+◌, ◌++◌, ◌<◌, ◌≤◌, ℕ, List, Option, map, string_bytes, ◌≢◌, ◌⊎◌, IfOk, IfErr, IsErr, IfSome, IsTrue, MatchResult, OnOk, OnErr, length, codes, false, true};
 ghost use Rattle.std.specs.Fmt.{decimal};
 ghost use Rattle.std.specs.Io.KnownBytes.{Consumes, Appends, Keeps, IsAtEnd};
-ghost use Rattle.wt_core.specs.Next.{run};
+ghost use Rattle.wt_spec.specs.Answers.{run};
 ghost use Rattle.wt_trace.specs.Outside.{Rose, AppendsPart, Passes};
 ghost use Rattle.wt_script.specs.Print.{answer_line, print};
 ghost use Rattle.wt_trace.specs.Program.{is_trace, is_cut_short, is_script_status, is_input_status, is_run_status, script_limit, usage, refused_at, run_outcome, input_outcome, outcome, ReadsFew, AnswersInput, AnswersKeepLaws};
@@ -58,7 +58,6 @@ impl From<OutOfMemory> for CutShort {
 /// | 5 | the sink failed | a first part of the text |
 /// | 6 | the program ran out of memory | a first part of the text |
 /// | 7 | the source gave more than 16,777,216 bytes | `script too long` |
-/// | 8 | the turn at this index is lawful and has no answer yet | the answers before, `turn <at> unbuilt` |
 pub fn run_program<S: Source, K: Sink>(
     alloc: Global,
     words: &[String],
@@ -256,10 +255,6 @@ fn answer_script<K: Sink>(alloc: Global, script: &Script, sink: &mut K) -> Resul
         Err(TraceError::Unlawful { at, answers }) => {
             write_stopped(alloc, answers.as_slice(), at, " unlawful\n", sink)?;
             Ok(3)
-        }
-        Err(TraceError::Unbuilt { at, answers }) => {
-            write_stopped(alloc, answers.as_slice(), at, " unbuilt\n", sink)?;
-            Ok(8)
         }
         Err(TraceError::OutOfMemory) => Err(CutShort::OutOfMemory),
     }

@@ -2,3 +2,4 @@ pub mod Close
 pub mod ProtoReason
 pub mod ProtoError
 pub mod Log
+pub mod Records

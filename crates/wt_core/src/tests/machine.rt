@@ -71,7 +71,6 @@ fn the_core_answers_each_turn(rt: HostRuntime) {
     let mut answers = Answers::new(alloc);
     for turn in opening(&rt, alloc).as_slice() {
         assert!(rt; core.is_lawful(turn));
-        assert!(rt; core.is_built(turn));
         let answer = core.turn(turn).expect(&rt, "no memory");
         answers.push(answer).expect(&rt, "no memory");
     }

@@ -1,25 +1,32 @@
 //! Calls that give the session's next stream or datagram, and pass those of others.
-ghost use Rattle.std.specs.Prelude.{◌≡◌, List, suc, OnOk, ℕ};
-ghost use Rattle.wt_inbox.specs.Stage.{Anywhere, Refines, Stage, with_stage};
-ghost use Rattle.wt_driver.specs.Calling.{MayBeCalled};
-ghost use Rattle.wt_driver.specs.Tie.{Follows};
-ghost use Rattle.wt_spec.specs.Driver.{log_and_flush};
-ghost use Rattle.wt_turn.specs.Log.{Called, Log, StreamAccepted};
-ghost use Rattle.wt_turn.specs.declared.action.Action.{Action};
-ghost use Rattle.wt_wire.specs.declared.side.Side.{Side};
-ghost use Rattle.wt_driver_spec.specs.Due.{due_stream, state_next_due};
-ghost use Rattle.wt_driver_spec.specs.Step.{release, without_slot};
+ghost use Rattle.std.specs.Prelude.{◌≡◌, ◌∷◌, IfOk, List, None, OnOk, Some, suc, true, ℕ};
 ghost use Rattle.wt_driver.specs.DriverValue.{IsAmong, with_state, without_first};
 ghost use Rattle.wt_driver.specs.Found.{due_as};
+ghost use Rattle.wt_driver.specs.Given.{given_by, is_own, next_datagram_now, payload_by, payload_in};
+ghost use Rattle.wt_driver.specs.Moving.{front_of};
+ghost use Rattle.wt_driver.specs.Tie.{Follows};
+ghost use Rattle.wt_driver_spec.specs.Asking.{MayBeCalled};
+ghost use Rattle.wt_driver_spec.specs.Due.{accepted, due_stream, log_streams, passing, received, state_next_due, take_due};
+ghost use Rattle.wt_driver_spec.specs.Step.{release, without_slot};
+ghost use Rattle.wt_inbox.specs.Stage.{Anywhere, Refines, Stage, with_stage};
+ghost use Rattle.wt_seam_spec.specs.Acting.{MayAct};
+ghost use Rattle.wt_seam_spec.specs.Streams.{peer_bi, peer_uni};
+ghost use Rattle.wt_spec.specs.Connection.{pass_stream, read_datagram};
+ghost use Rattle.wt_spec.specs.Driver.{log_and_flush, settles_datagram};
+ghost use Rattle.wt_turn.specs.Log.{CallRecord, Called, Log, Sent, StreamAccepted, StreamPassed};
+ghost use Rattle.wt_turn.specs.declared.action.Action.{Action};
+ghost use Rattle.wt_wire.specs.declared.side.Side.{Side};
 
 use super::Driver;
 use crate::scan::remove_at;
 use crate::slot::{Slot, peer_bi, peer_uni};
 use std::collections::VecDeque;
 use wt_proto::datagram::H3Datagram;
+use wt_turn::action::Action;
 use wt_turn::driver_error::DriverError;
 use wt_turn::piece::Piece;
 use wt_turn::poll::Poll;
+use wt_turn::record::Record;
 use wt_wire::error::{ErrorCode, OutOfMemory};
 use wt_wire::ids::{SessionId, StreamId};
 
@@ -38,11 +45,13 @@ fn remove_slot(slots: &mut VecDeque<Slot>, most: usize, id: StreamId)
     }
 }
 
-/// Whether a datagram is of the session, where it is one.
-fn is_of_session(piece: &Piece, session: SessionId) -> bool {
+/// Whether a datagram is of the session; None where it doesn't name one.
+fn is_own(piece: &Piece, session: SessionId) -> Option<bool>
+    ensures { result ≡ is_own session (read_datagram (Some piece.now)) }
+{
     match H3Datagram::read(piece.as_slice()) {
-        Ok(datagram) => datagram.qstream_id().into_session_id() == session,
-        Err(_) => false,
+        Ok(datagram) => Some(datagram.qstream_id().into_session_id() == session),
+        Err(_) => None,
     }
 }
 
@@ -81,24 +90,19 @@ impl Driver {
         self.release(id);
     }
 
-    fn stop_passed(&mut self, id: StreamId) -> Result<(), OutOfMemory> {
-        if self.inbox.can_receive(id) {
-            self.inbox
-                .stop(id, ErrorCode::BufferedStreamRejected.to_code())?;
-        }
-        Ok(())
-    }
-
     /// A stream of another session is stopped and passed, and the work of that moment is done.
-    fn pass_stream(&mut self, id: StreamId) -> Result<(), OutOfMemory> {
-        self.stop_passed(id)?;
-        self.pass(id);
-        self.work()
+    fn pass_stream(&mut self, id: StreamId) -> Result<(), OutOfMemory>
+        ensures log { (side : Side) (log : Log) (taken : ℕ) → Follows side self.old log taken → MayAct side log (passing id) → MayBeCalled side (Sent (passing id) ∷ log) (StreamPassed id)
+            → OnOk result (Follows side self.new (pass_stream side log id) taken) }
+    {
+        let code = ErrorCode::BufferedStreamRejected.to_code();
+        self.act(Action::StopOut { id, code })?;
+        self.called(&Record::StreamPassed(id))
     }
 
     /// A stream of the session is given, and the work of that moment is done.
     fn give_stream(&mut self, id: StreamId) -> Result<(), OutOfMemory>
-        ensures log { (side : Side) (log : Log) (taken : ℕ) (f : Follows side self.old log taken) → MayBeCalled side log self.old f.refines.stage (StreamAccepted id)
+        ensures log { (side : Side) (log : Log) (taken : ℕ) → Follows side self.old log taken → MayBeCalled side log (StreamAccepted id)
             → OnOk result (Follows side self.new (log_and_flush side log (Called (StreamAccepted id))) taken) }
     {
         self.release(id);
@@ -113,30 +117,38 @@ impl Driver {
     }
 
     /// The session's next stream of the kind with these low two bits: streams of other sessions in
-    /// front of it are passed.
+    /// front of it are passed, and behind each it looks again, at most so many times.
     fn accept(
         &mut self,
         kind: u64,
         session: SessionId,
         looks: u64,
-    ) -> Result<Option<StreamId>, OutOfMemory> {
-        for _look in 0..=looks {
-            match self.next_due(kind, session) {
-                None => return Ok(None),
-                Some((id, is_own)) => {
-                    if is_own {
-                        self.give_stream(id)?;
-                        return Ok(Some(id));
-                    }
-                    self.pass_stream(id)?;
-                }
+    ) -> Result<Option<StreamId>, OutOfMemory>
+        ensures log { (side : Side) (log : Log) (taken : ℕ) → Follows side self.old log taken → OnOk result (Follows side self.new (take_due (log_streams side kind session) (suc looks) log).state taken) }
+        ensures given { (side : Side) (log : Log) (taken : ℕ) → Follows side self.old log taken → IfOk result (λ given. given ≡ (take_due (log_streams side kind session) (suc looks) log).given) }
+    {
+        let mut left = looks;
+        loop {
+            let Some(due) = self.next_due(kind, session) else {
+                return Ok(None);
+            };
+            let (id, is_own) = due;
+            if is_own {
+                self.give_stream(id)?;
+                return Ok(Some(id));
             }
+            self.pass_stream(id)?;
+            if left == 0 {
+                return Ok(None);
+            }
+            left -= 1;
         }
-        Ok(None)
     }
 
     /// What a call answers that has nothing to give.
-    fn nothing_left<T>(&self) -> Result<Poll<Result<T, DriverError>>, OutOfMemory> {
+    fn nothing_left<T>(&self) -> Result<Poll<Result<T, DriverError>>, OutOfMemory>
+        ensures { IfOk result (λ p. given_by p ≡ None) }
+    {
         match self.result()? {
             None => Ok(Poll::Pending),
             Some(error) => Ok(Poll::Ready(Err(error))),
@@ -147,7 +159,10 @@ impl Driver {
     pub fn accept_uni_id(
         &mut self,
         session: SessionId,
-    ) -> Result<Poll<Result<StreamId, DriverError>>, OutOfMemory> {
+    ) -> Result<Poll<Result<StreamId, DriverError>>, OutOfMemory>
+        ensures log { (side : Side) (log : Log) (taken : ℕ) → Follows side self.old log taken → OnOk result (Follows side self.new (accepted side (peer_uni side) log session).state taken) }
+        ensures given { (side : Side) (log : Log) (taken : ℕ) → Follows side self.old log taken → IfOk result (λ p. given_by p ≡ (accepted side (peer_uni side) log session).given) }
+    {
         let kind = peer_uni(self.inbox.side());
         let looks = self.inbox.peer_unis();
         match self.accept(kind, session, looks)? {
@@ -160,7 +175,10 @@ impl Driver {
     pub fn accept_bi_id(
         &mut self,
         session: SessionId,
-    ) -> Result<Poll<Result<StreamId, DriverError>>, OutOfMemory> {
+    ) -> Result<Poll<Result<StreamId, DriverError>>, OutOfMemory>
+        ensures log { (side : Side) (log : Log) (taken : ℕ) → Follows side self.old log taken → OnOk result (Follows side self.new (accepted side (peer_bi side) log session).state taken) }
+        ensures given { (side : Side) (log : Log) (taken : ℕ) → Follows side self.old log taken → IfOk result (λ p. given_by p ≡ (accepted side (peer_bi side) log session).given) }
+    {
         let kind = peer_bi(self.inbox.side());
         let looks = self.inbox.peer_bis();
         match self.accept(kind, session, looks)? {
@@ -172,15 +190,15 @@ impl Driver {
     // ---- datagrams
 
     /// Whether a datagram is dequeued that is neither received nor passed: whether it is of the session.
-    fn next_datagram(&self, session: SessionId) -> Option<bool> {
+    fn next_datagram(&self, session: SessionId) -> Option<bool>
+        ensures { result ≡ is_own session (next_datagram_now self.now) }
+    {
         if self.settled >= self.progress.datagrams() {
             return None;
         }
         match self.queue.front() {
-            Some(piece) if H3Datagram::read(piece.as_slice()).is_ok() => {
-                Some(is_of_session(piece, session))
-            }
-            _ => None,
+            Some(piece) => is_own(piece, session),
+            None => None,
         }
     }
 
@@ -193,7 +211,8 @@ impl Driver {
     }
 
     fn take_front(&mut self) -> Result<Option<Piece>, OutOfMemory>
-        ensures { OnOk result (self.new ≡ record self.old { state = record self.old.state { datagrams = suc self.old.state.datagrams }; queue = without_first self.old.queue }) }
+        ensures piece { IfOk result (λ piece. piece ≡ front_of self.old.queue) }
+        ensures settled { OnOk result (self.new ≡ record self.old { state = record self.old.state { datagrams = suc self.old.state.datagrams }; queue = without_first self.old.queue }) }
     {
         match self.settled.checked_add(1) {
             None => Err(OutOfMemory),
@@ -205,31 +224,48 @@ impl Driver {
     }
 
     /// The same, with the work of that moment; the datagram is given.
-    fn take_datagram(&mut self) -> Result<Option<Piece>, OutOfMemory> {
+    fn take_datagram(&mut self) -> Result<Option<Piece>, OutOfMemory>
+        ensures piece { IfOk result (λ piece. piece ≡ front_of self.old.queue) }
+        ensures log { (side : Side) (log : Log) (taken : ℕ) (r : CallRecord) → Follows side self.old log taken → settles_datagram r ≡ true → MayBeCalled side log r
+            → OnOk result (Follows side self.new (log_and_flush side log (Called r)) taken) }
+    {
         let piece = self.take_front()?;
         self.work()?;
         Ok(piece)
     }
 
     /// The session's next datagram, whole: those of other sessions in front of it are passed.
+    fn receive(&mut self, session: SessionId) -> Result<Option<Piece>, OutOfMemory>
+        ensures log { (side : Side) (log : Log) (taken : ℕ) → Follows side self.old log taken → OnOk result (Follows side self.new (received side log session).state taken) }
+        ensures given { (side : Side) (log : Log) (taken : ℕ) → Follows side self.old log taken → IfOk result (λ piece. payload_in (read_datagram piece) ≡ (received side log session).given) }
+    {
+        let mut left = self.queue.len();
+        loop {
+            let Some(is_own) = self.next_datagram(session) else {
+                return Ok(None);
+            };
+            let piece = self.take_datagram()?;
+            if is_own {
+                return Ok(piece);
+            }
+            if left == 0 {
+                return Ok(None);
+            }
+            left -= 1;
+        }
+    }
+
+    /// The session's next datagram, whole, or the end.
     pub fn receive_datagram_piece(
         &mut self,
         session: SessionId,
-    ) -> Result<Poll<Result<Piece, DriverError>>, OutOfMemory> {
-        let looks = self.queue.len();
-        for _look in 0..looks {
-            match self.next_datagram(session) {
-                None => return self.nothing_left(),
-                Some(is_own) => {
-                    let piece = self.take_datagram()?;
-                    if let Some(piece) = piece {
-                        if is_own {
-                            return Ok(Poll::Ready(Ok(piece)));
-                        }
-                    }
-                }
-            }
+    ) -> Result<Poll<Result<Piece, DriverError>>, OutOfMemory>
+        ensures log { (side : Side) (log : Log) (taken : ℕ) → Follows side self.old log taken → OnOk result (Follows side self.new (received side log session).state taken) }
+        ensures given { (side : Side) (log : Log) (taken : ℕ) → Follows side self.old log taken → IfOk result (λ p. payload_by p ≡ (received side log session).given) }
+    {
+        match self.receive(session)? {
+            Some(piece) => Ok(Poll::Ready(Ok(piece))),
+            None => self.nothing_left(),
         }
-        self.nothing_left()
     }
 }

@@ -1,6 +1,6 @@
 //! What goes out for a call.
 ghost use Rattle.std.specs.Prelude.{◌≡◌, ◌∷◌, [], Some, false, true, List, ℕ, OnOk};
-ghost use Rattle.wt_driver.specs.Flushing.{MayAct, local_kind};
+ghost use Rattle.wt_seam_spec.specs.Acting.{MayAct, local_kind};
 ghost use Rattle.wt_inbox.specs.Stage.{Refines, Stage};
 ghost use Rattle.wt_seam_spec.specs.Outgoing.{may_send, opened_id, sending};
 ghost use Rattle.wt_seam_spec.specs.Streams.{can_receive, can_send};

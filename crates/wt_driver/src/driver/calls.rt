@@ -1,38 +1,41 @@
 //! The other calls: the handshake's, streams of this end, the end.
-ghost use Rattle.std.specs.Prelude.{◌≡◌, ◌≤◌, ◌+◌, ◌∷◌, List, Some, IfOk, OnOk, drop, false, length, true, ℕ};
+ghost use Rattle.std.specs.Prelude.{◌≡◌, ◌≤◌, ◌+◌, ◌∷◌, [], List, None, Some, IfOk, OnOk, drop, false, is_some, length, true, ℕ, ◌||◌};
 ghost use Rattle.wt_driver_spec.specs.Step.{deliver};
-ghost use Rattle.wt_driver.specs.Calling.{MayBeCalled, SparesControl};
-ghost use Rattle.wt_driver.specs.Flushing.{MayAct};
-ghost use Rattle.wt_driver.specs.Records.{record_of};
+ghost use Rattle.wt_driver_spec.specs.Asking.{AwaitsResponse, MayBeCalled, SparesControl};
+ghost use Rattle.wt_seam_spec.specs.Acting.{MayAct};
+ghost use Rattle.wt_turn.specs.Records.{record_of};
 ghost use Rattle.wt_driver.specs.Tie.{Follows, TakenIn, untaken_since};
-ghost use Rattle.wt_inbox.specs.Stage.{Body, Refines, Stage, body_offset, with_stage};
+ghost use Rattle.wt_inbox.specs.Stage.{Body, Refines, ResponseHead, Stage, awaits_response, body_offset, with_stage};
+ghost use Rattle.wt_proto.specs.ResponseWalk.{response_offset, response_walk_of};
+ghost use Rattle.wt_seam_spec.specs.Reports.{end_of};
 ghost use Rattle.wt_seam_spec.specs.Joined.{joined, newest_first};
 ghost use Rattle.wt_seam_spec.specs.Outgoing.{if_open};
 ghost use Rattle.wt_seam_spec.specs.Streams.{can_send, contents};
 ghost use Rattle.wt_spec.specs.Driver.{log_and_flush};
-ghost use Rattle.wt_turn.specs.Log.{Called, Log, actions_of, PrioritySet, ResetUnsent, Sent, is_open, with_actions};
+ghost use Rattle.wt_turn.specs.Log.{Called, Log, actions_of, events_of, PrioritySet, ResetUnsent, Sent, is_open, with_actions};
 ghost use Rattle.wt_turn.specs.declared.action.Action.{Action};
 ghost use Rattle.wt_turn.specs.declared.action.Action.TheVariants as actions;
 ghost use Rattle.wt_wire.specs.declared.side.Side.{Side};
+ghost use Rattle.wt_wire.specs.declared.side.Side.TheVariants.{Client, Server};
 ghost use Rattle.wt_driver.specs.DriverValue.{with_state};
-ghost use Rattle.wt_driver.specs.Results.{error_of, result_of};
+ghost use Rattle.wt_driver.specs.Results.{due_settings, error_of, first_request, request_as, requests_now, result_of, settings_or};
 
 use super::Driver;
 use super::acting::{act, reset};
 use crate::ending::EndingKind;
-use crate::record::Record;
 use wt_proto::response_walk::ResponseWalk;
 use wt_proto::session::SessionRequest;
 use wt_proto::settings::Settings;
-use wt_proto::verdict::Verdict;
 use wt_turn::action::{Action, Actions};
 use wt_turn::close::ApplicationClose;
 use wt_turn::driver_error::DriverError;
 use wt_turn::piece::Piece;
 use wt_turn::poll::Poll;
+use wt_turn::record::Record;
 use wt_wire::addr::Addr;
 use wt_wire::error::OutOfMemory;
 use wt_wire::ids::StreamId;
+use wt_wire::side::Side;
 use wt_wire::text::Text;
 use wt_wire::varint::VarInt;
 
@@ -56,7 +59,8 @@ impl Driver {
         Ok(Some(self.error()?))
     }
 
-    fn error(&self) -> Result<DriverError, OutOfMemory>
+    /// How the driver tells the ending of the connection, whether it is open or not.
+    pub fn error(&self) -> Result<DriverError, OutOfMemory>
         ensures { IfOk result (λ e. e ≡ error_of self.now.state.progress.ending) }
     {
         let Some(ending) = self.progress.ending() else {
@@ -100,11 +104,11 @@ impl Driver {
 
     /// Takes in what a call did.
     fn note_call(&mut self, call: &Record) -> Result<(), OutOfMemory>
-        ensures log { (side : Side) (log : Log) (taken : ℕ) (f : Follows side self.old log taken) → MayBeCalled side log self.old f.refines.stage (record_of call.now) → OnOk result (TakenIn side log (Called (record_of call.now)) self.new taken) }
+        ensures log { (side : Side) (log : Log) (taken : ℕ) → Follows side self.old log taken → MayBeCalled side log (record_of call.now) → OnOk result (TakenIn side log (Called (record_of call.now)) self.new taken) }
     {
         match call {
             Record::RequestDelivered(id) => self.deliver(*id),
-            Record::SessionEstablished(id, at) => self.establish(*id, *at),
+            Record::SessionEstablished(id, at) => self.establish(*id, *at)?,
             Record::StreamAccepted(id) => self.release(*id),
             Record::StreamPassed(id) => self.pass(*id),
             Record::DatagramReceived => self.settle_datagram()?,
@@ -146,10 +150,37 @@ impl Driver {
         self.dispatched.deliver(id);
     }
 
-    fn establish(&mut self, id: StreamId, at: usize)
+    /// A client lets its response go, and reads on behind it.
+    fn pass_response(&mut self, id: StreamId) -> Result<(), OutOfMemory>
+        ensures client { (log : Log) (stage : ℕ → Stage) (untaken : List Action) (at : ℕ) → Refines Client self.old.inbox log stage untaken → awaits_response (stage id) ≡ true
+            → response_offset (response_walk_of (contents log id) (end_of (events_of log) id)) ≡ Some at → OnOk result (Refines Client self.new.inbox log (with_stage stage id (Body at)) untaken) }
+        ensures server { (log : Log) (stage : ℕ → Stage) (untaken : List Action) → Refines Server self.old.inbox log stage untaken → OnOk result (Refines Server self.new.inbox log stage untaken) }
+        ensures state { OnOk result (self.new.state ≡ record self.old.state { is_open = self.new.inbox.transport.is_open }) }
+        ensures queue { OnOk result (self.new.queue ≡ self.old.queue) }
+    {
+        if self.inbox.side() == Side::Client {
+            let _response = self.inbox.release_response(id)?;
+        }
+        Ok(())
+    }
+
+    fn set_session(&mut self, id: StreamId, at: usize)
         ensures { self.new ≡ with_state self.old (record self.old.state { session = Some (id, at) }) }
     {
         self.session = Some((id, at));
+    }
+
+    /// The session is established: its part of the stream begins at this offset.
+    fn establish(&mut self, id: StreamId, at: usize) -> Result<(), OutOfMemory>
+        ensures client { (log : Log) (stage : ℕ → Stage) (untaken : List Action) → Refines Client self.old.inbox log stage untaken → awaits_response (stage id) ≡ true
+            → response_offset (response_walk_of (contents log id) (end_of (events_of log) id)) ≡ Some at → OnOk result (Refines Client self.new.inbox log (with_stage stage id (Body at)) untaken) }
+        ensures server { (log : Log) (stage : ℕ → Stage) (untaken : List Action) → Refines Server self.old.inbox log stage untaken → OnOk result (Refines Server self.new.inbox log stage untaken) }
+        ensures state { OnOk result (self.new.state ≡ record self.old.state { session = Some (id, at); is_open = self.new.inbox.transport.is_open }) }
+        ensures queue { OnOk result (self.new.queue ≡ self.old.queue) }
+    {
+        self.pass_response(id)?;
+        self.set_session(id, at);
+        Ok(())
     }
 
     fn set_priority(&mut self, id: StreamId, priority: i32)
@@ -166,7 +197,7 @@ impl Driver {
     /// Takes in what a call did, and does the work of its moment. What the call sent of its own is put
     /// out before.
     pub fn called(&mut self, call: &Record) -> Result<(), OutOfMemory>
-        ensures log { (side : Side) (log : Log) (taken : ℕ) (f : Follows side self.old log taken) → MayBeCalled side log self.old f.refines.stage (record_of call.now)
+        ensures log { (side : Side) (log : Log) (taken : ℕ) → Follows side self.old log taken → MayBeCalled side log (record_of call.now)
             → OnOk result (Follows side self.new (log_and_flush side log (Called (record_of call.now))) taken) }
     {
         self.note_call(call)?;
@@ -186,21 +217,32 @@ impl Driver {
 
     /// An action of a call goes out.
     pub fn act(&mut self, action: Action) -> Result<(), OutOfMemory>
-        ensures log { (side : Side) (log : Log) (taken : ℕ) → Follows side self.old log taken → MayAct side log action → SparesControl side action → OnOk result (Follows side self.new (Sent action ∷ log) taken) }
+        ensures log { (side : Side) (log : Log) (taken : ℕ) → Follows side self.old log taken → MayAct side log action → SparesControl side log action → OnOk result (Follows side self.new (Sent action ∷ log) taken) }
     {
         self.put_out(action)
     }
 
     // ---- the handshake
 
-    /// Reads a client's session stream on up to the response, and tells whether there is an outcome.
-    pub fn has_response(&mut self, id: StreamId) -> Result<bool, OutOfMemory> {
-        self.inbox.has_response(id)
+    fn read_response(&mut self, id: StreamId) -> Result<ResponseWalk, OutOfMemory>
+        ensures answer { (side : Side) (log : Log) (stage : ℕ → Stage) (untaken : List Action) → Refines side self.old.inbox log stage untaken → awaits_response (stage id) ≡ true
+            → IfOk result (λ walk. walk ≡ response_walk_of (contents log id) (end_of (events_of log) id)) }
+        ensures log { (side : Side) (log : Log) (stage : ℕ → Stage) (untaken : List Action) → Refines side self.old.inbox log stage untaken → awaits_response (stage id) ≡ true
+            → OnOk result (Refines side self.new.inbox log (with_stage stage id ResponseHead) untaken) }
+        ensures state { OnOk result (self.new.state ≡ self.old.state) }
+        ensures queue { OnOk result (self.new.queue ≡ self.old.queue) }
+    {
+        self.inbox.response(id)
     }
 
-    /// The response on a client's session stream. What comes after it stays unread.
-    pub fn release_response(&mut self, id: StreamId) -> Result<ResponseWalk, OutOfMemory> {
-        self.inbox.release_response(id)
+    /// The response on a client's request stream, as far as it came. Nothing of it is let go.
+    pub fn response(&mut self, id: StreamId) -> Result<ResponseWalk, OutOfMemory>
+        ensures log { (side : Side) (log : Log) (taken : ℕ) → Follows side self.old log taken → AwaitsResponse side log id → OnOk result (Follows side self.new log taken) }
+        ensures answer { (side : Side) (log : Log) (taken : ℕ) → Follows side self.old log taken → AwaitsResponse side log id → IfOk result (λ walk. walk ≡ response_walk_of (contents log id) (end_of (events_of log) id)) }
+        ensures state { OnOk result (self.new.state ≡ self.old.state) }
+        ensures queue { OnOk result (self.new.queue ≡ self.old.queue) }
+    {
+        self.read_response(id)
     }
 
     /// Whether the peer's SETTINGS came.
@@ -210,28 +252,62 @@ impl Driver {
         self.progress.settings()
     }
 
-    /// The peer's SETTINGS, once; later, or without them, the result or Pending.
-    pub fn accept_settings(&mut self) -> Result<Poll<Result<Settings, DriverError>>, OutOfMemory> {
-        match self.settings {
-            Some(settings) if self.progress.settings() && !self.has_given_settings => {
-                self.has_given_settings = true;
-                Ok(Poll::Ready(Ok(settings)))
-            }
-            _ => match self.result()? {
+    /// The peer's SETTINGS, where they came and weren't given.
+    fn due_settings(&self) -> Option<Settings>
+        ensures { result ≡ due_settings self.now }
+    {
+        if self.progress.settings() && !self.has_given_settings {
+            return self.settings;
+        }
+        None
+    }
+
+    fn note_settings_given(&mut self, given: bool)
+        ensures { self.new ≡ record self.old { has_given_settings = given || self.old.has_given_settings } }
+    {
+        self.has_given_settings |= given;
+    }
+
+    fn poll_settings(
+        &self,
+        due: Option<Settings>,
+    ) -> Result<Poll<Result<Settings, DriverError>>, OutOfMemory>
+        ensures { IfOk result (λ p. p ≡ settings_or due (result_of self.now.state.is_open self.now.state.progress.ending)) }
+    {
+        match due {
+            Some(settings) => Ok(Poll::Ready(Ok(settings))),
+            None => match self.result()? {
                 None => Ok(Poll::Pending),
                 Some(error) => Ok(Poll::Ready(Err(error))),
             },
         }
     }
 
-    /// The request that is queued: its stream, the request, and the offset behind it.
-    pub fn next_request(&self) -> Option<(StreamId, &SessionRequest, usize)> {
-        match self.dispatched.requests() {
-            [first, ..] => match &first.verdict {
-                Verdict::Request(request, at) => Some((first.id, request, *at)),
-                _ => None,
-            },
-            [] => None,
+    /// The peer's SETTINGS, once; later, or without them, the result or Pending.
+    pub fn accept_settings(&mut self) -> Result<Poll<Result<Settings, DriverError>>, OutOfMemory>
+        ensures answer { IfOk result (λ p. p ≡ settings_or (due_settings self.old) (result_of self.old.state.is_open self.old.state.progress.ending)) }
+        ensures value { OnOk result (self.new ≡ record self.old { has_given_settings = is_some (due_settings self.old) || self.old.has_given_settings }) }
+        ensures log { (side : Side) (log : Log) (taken : ℕ) → Follows side self.old log taken → OnOk result (Follows side self.new log taken) }
+    {
+        let due = self.due_settings();
+        self.note_settings_given(due.is_some());
+        self.poll_settings(due)
+    }
+
+    fn queued_request(&self) -> Option<(StreamId, &SessionRequest, usize)>
+        ensures { request_as result ≡ first_request (requests_now self.now.state) }
+    {
+        if self.progress.settings() {
+            return self.dispatched.first_request();
         }
+        None
+    }
+
+    /// The request that is queued, once SETTINGS came: its stream, the request, and the offset behind it.
+    pub fn next_request(&self) -> Option<(StreamId, &SessionRequest, usize)>
+        ensures now { request_as result ≡ first_request (requests_now self.now.state) }
+        ensures none { (side : Side) (log : Log) (taken : ℕ) → Follows side self.now log taken → result ≡ None → requests_now self.now.state ≡ [] }
+    {
+        self.queued_request()
     }
 }

@@ -1,6 +1,5 @@
 //! A driver in a test: each call stands in a function of its own, so that a test is cheap to prove.
 use crate::driver::Driver;
-use crate::record::Record;
 use std::alloc::Global;
 use std::process::Abort;
 use wt_turn::action::Action;
@@ -8,6 +7,7 @@ use wt_turn::datagram_fact::DatagramFact;
 use wt_turn::driver_error::DriverError;
 use wt_turn::piece::Piece;
 use wt_turn::poll::Poll;
+use wt_turn::record::Record;
 use wt_turn::turn::Turn;
 use wt_wire::ids::{SessionId, StreamId};
 use wt_wire::side::Side;
@@ -60,15 +60,20 @@ pub fn take(rt: &impl Abort, driver: &mut Driver, turn: &Turn) {
     driver.turn(turn).expect(rt, "no memory");
 }
 
-pub fn connected(rt: &impl Abort, alloc: Global, uni: u64, bi: u64, credit: u64) -> Driver {
-    let mut driver = Driver::init(alloc, Side::Server);
+/// The connection stands, with so many streams and so much credit.
+pub fn connect(rt: &impl Abort, driver: &mut Driver, uni: u64, bi: u64, credit: u64) {
     let turn = Turn::Connected {
         uni,
         bi,
         credit,
         datagrams: DatagramFact::Limit(1200),
     };
-    take(rt, &mut driver, &turn);
+    take(rt, driver, &turn);
+}
+
+pub fn connected(rt: &impl Abort, alloc: Global, uni: u64, bi: u64, credit: u64) -> Driver {
+    let mut driver = Driver::init(alloc, Side::Server);
+    connect(rt, &mut driver, uni, bi, credit);
     driver
 }
 
@@ -185,7 +190,12 @@ fn called(rt: &impl Abort, driver: &mut Driver, record: &Record) {
 /// The session of stream 0 is established, as a server does it.
 pub fn establish(rt: &impl Abort, driver: &mut Driver) {
     called(rt, driver, &Record::RequestDelivered(stream(0)));
-    called(rt, driver, &Record::SessionEstablished(stream(0), 83));
+    establish_at(rt, driver, 83);
+}
+
+/// The session of stream 0 is established, and its part begins at this offset.
+pub fn establish_at(rt: &impl Abort, driver: &mut Driver, at: usize) {
+    called(rt, driver, &Record::SessionEstablished(stream(0), at));
 }
 
 /// A server's driver with an established session: SETTINGS and a request came.

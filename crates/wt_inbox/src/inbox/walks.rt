@@ -16,9 +16,11 @@ ghost use Rattle.wt_inbox.specs.Kept.{reading_of};
 ghost use Rattle.wt_inbox.specs.Moves.{BiPulled, BiTaken, ControlPulled, ResponsePulled, ResponseTaken, SessionPulled, SessionTaken, UniPulled, UniTaken};
 ghost use Rattle.wt_inbox.specs.Quiet.{quiet};
 ghost use Rattle.wt_inbox.specs.State.{SameAt, bi_verdict_now, control_now, is_over_by_bytes, response_now, session_now, uni_verdict_now};
-ghost use Rattle.wt_inbox.specs.Stage.{Refines, Stage, awaits_bi, awaits_response, awaits_uni, control_offset, response_offset, session_offset, stage_from, verdict_offset, with_stage};
+ghost use Rattle.wt_inbox.specs.Stage.{Refines, Stage, awaits_bi, awaits_response, awaits_uni, control_offset, session_offset, stage_from, verdict_offset, with_stage};
+ghost use Rattle.wt_proto.specs.ResponseWalk.{response_offset};
 
 use super::Inbox;
+use crate::copies::copy_walk;
 use wt_proto::bi::BiHeader;
 use wt_proto::control_walk::ControlWalk;
 use wt_proto::reader::{BiReader, ControlReader, FrameReader, UniReader};
@@ -99,6 +101,20 @@ impl Inbox {
     {
         self.pull_response(id)?;
         Ok(self.is_response_there(id))
+    }
+
+    /// Reads a client's session stream on up to the response, and tells what came of it. Nothing of it is
+    /// let go.
+    pub fn response(&mut self, id: StreamId) -> Result<ResponseWalk, OutOfMemory>
+        ensures now { IfOk result (λ outcome. outcome ≡ response_now self.old id) }
+        ensures same { OnOk result ((k : ℕ) → response_now self.new k ≡ response_now self.old k) }
+        ensures others { OnOk result ((k : ℕ) → (id == k) ≡ false → SameAt self.old self.new k) }
+        ensures quiet { OnOk result (quiet self.new.transport ≡ quiet self.old.transport) }
+        ensures log_answer { (side : Side) (log : Log) (stage : ℕ → Stage) (untaken : List Action) → Refines side self.old log stage untaken → awaits_response (stage id) ≡ true → IfOk result (λ outcome. outcome ≡ response_walk_of (contents log id) (end_of (events_of log) id)) }
+        ensures log { (side : Side) (log : Log) (stage : ℕ → Stage) (untaken : List Action) → Refines side self.old log stage untaken → awaits_response (stage id) ≡ true → OnOk result (Refines side self.new log (with_stage stage id Stage.ResponseHead) untaken) }
+    {
+        self.pull_response(id)?;
+        self.response_outcome(id)
     }
 
     /// The response on a client's session stream. Its reader is let go; what comes after the response
@@ -221,6 +237,15 @@ impl Inbox {
         match self.responses.outcome(id) {
             Some(outcome) => is_answered(outcome),
             None => false,
+        }
+    }
+
+    fn response_outcome(&self, id: StreamId) -> Result<ResponseWalk, OutOfMemory>
+        ensures { IfOk result (λ outcome. outcome ≡ outcome_in response_unfinished (reading_of 0 self.now.responses id)) }
+    {
+        match self.responses.outcome(id) {
+            Some(outcome) => copy_walk(self.alloc, outcome),
+            None => Ok(ResponseWalk::Waiting),
         }
     }
 

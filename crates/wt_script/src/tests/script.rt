@@ -182,6 +182,16 @@ fn scripts_are_read(rt: HostRuntime) {
     assert!(rt; script.turns.as_slice()[1].is_equal(&Turn::PeerBi));
 }
 
+#[test]
+fn scripts_of_a_client_are_read(rt: HostRuntime) {
+    let text = b"client\nforbidden\naccept 78=79\n";
+    let read = read_script(rt.alloc(), text).expect(&rt, "no memory");
+    let script = read.ok().expect(&rt, "refused");
+    assert!(rt; script.side == Side::Client);
+    assert_eq!(rt; script.turns.as_slice().len(), 2);
+    assert!(rt; script.turns.as_slice()[0].is_equal(&Turn::Call(Call::Forbidden)));
+}
+
 fn refuses(rt: &impl Abort, alloc: Global, text: &str, line: u64) {
     let read = read_script(alloc, text.as_bytes()).expect(rt, "no memory");
     assert_eq!(rt; read.err().expect(rt, "read").line, line);
@@ -195,13 +205,14 @@ fn the_first_other_line_refuses_a_script(rt: HostRuntime) {
         ("\n\n", 3),
         ("# nothing", 2),
         ("# nothing\n", 2),
-        ("client", 1),
+        ("clients", 1),
         ("\npeer_uni\nserver", 2),
         ("server\nserver", 2),
         ("server\n\n#\nfoo\nbar\n", 4),
         ("server\r\n", 1),
-        ("server\nforbidden", 2),
-        ("server\naccept 78=79", 2),
+        ("server\nforbid", 2),
+        ("server\naccept 78", 2),
+        ("client\nhandshake\nconnect h", 3),
     ];
     for (text, line) in cases {
         refuses(&rt, rt.alloc(), text, line);

@@ -131,8 +131,6 @@ fn a_turn_without_an_answer_is_told(rt: HostRuntime) {
     let alloc = rt.alloc();
     let incoming = ["server\nincoming\n"];
     gives(&rt, alloc, &incoming, 3, &["turn 0 unlawful\n"]);
-    let little_credit = ["server\nconnected 9 9 24 1200\n"];
-    gives(&rt, alloc, &little_credit, 8, &["turn 0 unbuilt\n"]);
     let again = [OPENING, "connected 9 9 1000 1200\n"];
     let text = [CONNECTED, "done\ndone\ndone\n", "turn 4 unlawful\n"];
     gives(&rt, alloc, &again, 3, &text);

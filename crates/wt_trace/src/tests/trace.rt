@@ -2,8 +2,11 @@
 use crate::trace::{TraceError, run_trace};
 use std::alloc::Global;
 use std::process::Abort;
-use wt_turn::{Answers, DatagramFact, Reply, Turn, Turns};
+use wt_turn::{Answers, Call, DatagramFact, Reply, Turn, Turns};
+use wt_wire::header_list::HeaderList;
+use wt_wire::lookup::{ConnectOutcome, Lookup};
 use wt_wire::side::Side;
+use wt_wire::text::Text;
 
 fn connected(credit: u64) -> Turn {
     Turn::Connected {
@@ -56,14 +59,24 @@ fn a_trace_stops_at_an_unlawful_turn(rt: HostRuntime) {
 }
 
 #[test]
-fn a_trace_stops_at_a_turn_that_is_not_built(rt: HostRuntime) {
-    let mut turns = Turns::new(rt.alloc());
-    turns.push(connected(24)).expect(&rt, "no memory");
-    match run_trace(rt.alloc(), Side::Server, turns.as_slice()) {
-        Err(TraceError::Unbuilt { at, answers }) => {
-            assert_eq!(rt; at, 0);
-            assert!(rt; answers.as_slice().is_empty());
+fn a_trace_of_a_client_dials(rt: HostRuntime) {
+    let alloc = rt.alloc();
+    let url = Text::from_text(alloc, "https://127.0.0.1/").expect(&rt, "no memory");
+    let connect = Call::Connect {
+        options: (url, HeaderList::new(alloc)),
+        lookup: Lookup::NotFound,
+        outcome: ConnectOutcome::Proceed,
+    };
+    let mut turns = Turns::new(alloc);
+    let added = turns.push(Turn::Call(connect));
+    added.expect(&rt, "no memory");
+    match run_trace(alloc, Side::Client, turns.as_slice()) {
+        Ok(answers) => {
+            assert_eq!(rt; answers.as_slice().len(), 1);
+            let first = answers.as_slice().first().expect(&rt, "no answer");
+            assert!(rt; first.reply.is_equal(&Reply::Pending));
+            assert_eq!(rt; first.actions.as_slice().len(), 1);
         }
-        _ => assert!(rt; false),
+        Err(_) => assert!(rt; false),
     }
 }

@@ -4,7 +4,7 @@ use Rattle.wt_seam.specs.Step.{sent_now}
 use Rattle.wt_session_spec.specs.HandshakePlans.{response_left}
 use Rattle.wt_plan.specs.FactsNow.{facts_now}
 use Rattle.wt_plan.specs.Planned.{planned}
-use Rattle.wt_plan.specs.Records.{record_of}
+use Rattle.wt_turn.specs.Records.{record_of}
 use Rattle.wt_plan.proofs.handshake_plans.response.Goals as goal
 
 pub returns : goal.returns

@@ -1,4 +1,4 @@
-use Rattle.wt_driver.specs.Records.{record_of}
+use Rattle.wt_turn.specs.Records.{record_of}
 use Rattle.wt_turn.specs.Log.{Called}
 use Rattle.wt_driver.proofs.driver.Driver.called.Goals as goal
 

@@ -1,11 +1,12 @@
-use Rattle.std.proofs.Common.{◌∷◌, refl, subst}
+use Rattle.std.proofs.Common.{◌∷◌, refl, rules, subst}
 use Rattle.std.proofs.Math.Facts.{to_z-of_z}
-use Rattle.std.specs.Prelude.{ℤ}
+use Rattle.std.specs.Int.{w32}
+use Rattle.std.specs.Prelude.{FitsSigned, ℤ}
 use Rattle.wt_inbox.specs.Stage.{Refines}
 use Rattle.wt_driver.proofs.Calling.{accepted-taken, delivered-taken, established-taken, given-up-taken, no-other, nothing-taken, of-shape, passed-taken, read-taken, received-taken, skipped-taken, told-taken}
-use Rattle.wt_driver.specs.Records.{record_of}
+use Rattle.wt_turn.specs.Records.{record_of}
 use Rattle.wt_driver.specs.Tie.{untaken_since}
-use Rattle.wt_driver.specs.declared.record.Record.TheVariants as records
+use Rattle.wt_turn.specs.declared.record.Record.TheVariants as records
 use Rattle.wt_turn.specs.Log.{Called, PrioritySet, ResetUnsent}
 use Rattle.wt_driver.proofs.driver.Driver.note_call.Goals as goal
 
@@ -16,11 +17,12 @@ returns-in-RequestDelivered c = record {
       (λ a. delivered-taken side log taken c.args.self.now f c.deliver.new.self c.in-RequestDelivered.id c.deliver.ensures a);
 }
 
-pub returns-in-SessionEstablished : goal.returns-in-SessionEstablished
-returns-in-SessionEstablished c = record {
+pub returns-in_ok-establish-in-SessionEstablished : goal.returns-in_ok-establish-in-SessionEstablished
+returns-in_ok-establish-in-SessionEstablished c = record {
   log = λ side log taken f.
+      let e = c.in_ok-establish-in-SessionEstablished.ensures in
       of-shape side log taken c.args.self.now f.refines.stage c.establish.new.self c.args.call.now (records.SessionEstablished c.in-SessionEstablished.id c.in-SessionEstablished.at) c.in-SessionEstablished.is
-      (λ a. established-taken side log taken c.args.self.now f c.establish.new.self c.in-SessionEstablished.id c.in-SessionEstablished.at c.establish.ensures a);
+      (λ a. established-taken side log taken c.args.self.now f c.establish.new.self c.in-SessionEstablished.id c.in-SessionEstablished.at e.client e.server e.state e.queue a);
 }
 
 pub returns-in-StreamAccepted : goal.returns-in-StreamAccepted
@@ -54,10 +56,11 @@ returns-in-StreamGivenUp c = record {
 pub returns-in-PrioritySet : goal.returns-in-PrioritySet
 returns-in-PrioritySet c = record {
   log = λ side log taken f.
+      let fit : FitsSigned w32 c.in-PrioritySet.priority = search rules in
       of-shape side log taken c.args.self.now f.refines.stage c.set_priority.new.self c.args.call.now (records.PrioritySet c.in-PrioritySet.id c.in-PrioritySet.priority) c.in-PrioritySet.is
       (λ a. told-taken side log taken c.args.self.now f c.set_priority.new.self (PrioritySet c.in-PrioritySet.id c.in-PrioritySet.priority) refl refl refl
-      (subst (λ (p : ℤ). Refines side c.set_priority.new.self.inbox (Called (PrioritySet c.in-PrioritySet.id p) ∷ log) f.refines.stage (untaken_since taken log)) (to_z-of_z a.half.1)
-      (c.set_priority.ensures.log side log f.refines.stage (untaken_since taken log) f.refines.inbox a.half.0)) c.set_priority.ensures.state c.set_priority.ensures.queue a);
+      (subst (λ (p : ℤ). Refines side c.set_priority.new.self.inbox (Called (PrioritySet c.in-PrioritySet.id p) ∷ log) f.refines.stage (untaken_since taken log)) (to_z-of_z fit)
+      (c.set_priority.ensures.log side log f.refines.stage (untaken_since taken log) f.refines.inbox a.half)) c.set_priority.ensures.state c.set_priority.ensures.queue a);
 }
 
 pub returns-in_ok-reset_unsent-in-ResetUnsent : goal.returns-in_ok-reset_unsent-in-ResetUnsent

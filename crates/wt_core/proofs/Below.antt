@@ -1,0 +1,20 @@
+-- What the driver and the session keep tells which turn may come.
+use Rattle.std.proofs.Common.{◌≡◌, ℕ}
+use Rattle.wt_seam.proofs.Refining.{refined_fits}
+use Rattle.wt_seam.specs.Step.{fits_now}
+use Rattle.wt_seam_spec.specs.Arrivals.{fits}
+use Rattle.wt_spec.specs.Answers.{may_call}
+use Rattle.wt_driver.specs.DriverValue.{DriverValue}
+use Rattle.wt_session.proofs.Admitted.{may_call_kept}
+use Rattle.wt_session.specs.Keeping.{Keeps, SessionValue, may_call_of}
+use Rattle.wt_driver.specs.Tie.{Follows, untaken_since}
+use Rattle.wt_turn.specs.Log.{Log}
+use Rattle.wt_turn.specs.declared.call.Call.{Call}
+use Rattle.wt_turn.specs.declared.turn.Turn.{Turn}
+use Rattle.wt_wire.specs.declared.side.Side.{Side}
+
+pub driver_fits : (side : Side) (d : DriverValue) (log : Log) (taken : ℕ) (turn : Turn) → Follows side d log taken → fits_now d.inbox.transport turn ≡ fits side log turn
+driver_fits side d log taken turn r = refined_fits side d.inbox.transport log r.refines.inbox.position (untaken_since taken log) r.refines.inbox.transport turn
+
+pub session_calls : (side : Side) (s : SessionValue) (log : Log) (call : Call) → Keeps side s log → may_call_of side s call ≡ may_call side log call
+session_calls = may_call_kept

@@ -1,0 +1,112 @@
+-- What the public clauses of a core rest on.
+use Rattle.std.proofs.Common.{List, ap, length, ◌≡◌, false, refl, sym, subst, true, ◌∙◌}
+use Rattle.std.specs.Prelude.{IsTrue}
+use Rattle.wt_core.proofs.Below.{driver_fits, session_calls}
+use Rattle.wt_core.specs.CoreState.{CoreState, Refines, may_come, may_turn}
+use Rattle.wt_laws.specs.Reachable.{AfterTurn, IsReachable}
+use Rattle.wt_laws.specs.ReplyCauses as laws
+use Rattle.wt_seam.specs.Step.{fits_now}
+use Rattle.wt_seam_spec.specs.Arrivals.{fits}
+use Rattle.wt_spec.specs.Answers.{actions_since, answer_to, is_lawful, log_after, turn_effect}
+use Rattle.wt_driver.specs.Arriving.{is_call}
+use Rattle.wt_driver.specs.DriverValue.{DriverValue}
+use Rattle.wt_driver.specs.Tie.{Follows}
+use Rattle.wt_session.specs.Keeping.{Keeps}
+use Rattle.wt_turn.specs.Log.{Log, actions_of}
+use Rattle.wt_turn.specs.declared.action.Action.{Action}
+use Rattle.wt_turn.specs.declared.call.Call.{Call}
+use Rattle.wt_turn.specs.declared.reply.Reply.{Reply}
+use Rattle.wt_turn.specs.declared.reply.Reply.TheVariants as replies
+use Rattle.wt_turn.specs.declared.turn.Turn.{Turn}
+use Rattle.wt_turn.specs.declared.turn.Turn.TheVariants as turns
+use Rattle.wt_wire.specs.declared.side.Side.{Side}
+
+-- without the mark of a failed turn the test is that of the state
+pub working_may : (k : CoreState) (log : Log) (turn : Turn) → Refines k log → may_turn k turn ≡ may_come k turn
+working_may k log turn r = rw (r.works) refl
+
+may_lawful : (k : CoreState) (log : Log) (turn : Turn) → Refines k log → may_come k turn ≡ is_lawful k.side log turn
+may_lawful k log (turns.Call call) r = session_calls k.side k.session log call r.session
+may_lawful k log (turns.Connected uni bi credit datagrams) r = driver_fits k.side k.driver log _ (turns.Connected uni bi credit datagrams) r.driver
+may_lawful k log turns.PeerUni r = driver_fits k.side k.driver log _ turns.PeerUni r.driver
+may_lawful k log turns.PeerBi r = driver_fits k.side k.driver log _ turns.PeerBi r.driver
+may_lawful k log (turns.Bytes id piece) r = driver_fits k.side k.driver log _ (turns.Bytes id piece) r.driver
+may_lawful k log (turns.End id) r = driver_fits k.side k.driver log _ (turns.End id) r.driver
+may_lawful k log (turns.Reset id code) r = driver_fits k.side k.driver log _ (turns.Reset id code) r.driver
+may_lawful k log (turns.Stop id code) r = driver_fits k.side k.driver log _ (turns.Stop id code) r.driver
+may_lawful k log (turns.Acked id) r = driver_fits k.side k.driver log _ (turns.Acked id) r.driver
+may_lawful k log (turns.Datagram piece) r = driver_fits k.side k.driver log _ (turns.Datagram piece) r.driver
+may_lawful k log (turns.MaxUni total) r = driver_fits k.side k.driver log _ (turns.MaxUni total) r.driver
+may_lawful k log (turns.MaxBi total) r = driver_fits k.side k.driver log _ (turns.MaxBi total) r.driver
+may_lawful k log (turns.MaxData id total) r = driver_fits k.side k.driver log _ (turns.MaxData id total) r.driver
+may_lawful k log (turns.DatagramLimit fact) r = driver_fits k.side k.driver log _ (turns.DatagramLimit fact) r.driver
+may_lawful k log (turns.Loss reason) r = driver_fits k.side k.driver log _ (turns.Loss reason) r.driver
+
+-- a turn that may be asked for is lawful
+pub asked_lawful : (k : CoreState) (log : Log) (turn : Turn) → Refines k log → IsTrue (may_turn k turn) → is_lawful k.side log turn ≡ true
+asked_lawful k log turn r may = sym (may_lawful k log turn r) ∙ (rw (working_may k log turn r) at may)
+
+-- ---- what stands below, by the fields of a core
+
+-- the driver follows the log
+pub driver_of : (k m : CoreState) (log : Log) → m ≡ k → Refines k log → Follows k.side m.driver log (length (actions_of log))
+driver_of k m log e r = subst (λ (x : CoreState). Follows k.side x.driver log (length (actions_of log))) (sym e) r.driver
+
+-- the session keeps it
+pub session_of : (k m : CoreState) (log : Log) → m ≡ k → Refines k log → Keeps k.side m.session log
+session_of k m log e r = subst (λ (x : CoreState). Keeps k.side x.session log) (sym e) r.session
+
+-- ---- a turn that is no call
+
+-- it may come where the transport may tell it
+pub event_may : (k : CoreState) (turn : Turn) → ((call : Call) → turn ≡ turns.Call call → ⊥) → fits_now k.driver.inbox.transport turn ≡ may_come k turn
+event_may k (turns.Call call) n = absurd (n call refl)
+event_may k _ n = refl
+
+-- it is lawful where the transport may tell it
+pub event_fits : (side : Side) (log : Log) (turn : Turn) → ((call : Call) → turn ≡ turns.Call call → ⊥) → fits side log turn ≡ is_lawful side log turn
+event_fits side log (turns.Call call) n = absurd (n call refl)
+event_fits side log _ n = refl
+
+-- its reply
+pub event_reply : (side : Side) (log : Log) (turn : Turn) → ((call : Call) → turn ≡ turns.Call call → ⊥) → replies.Done ≡ (turn_effect side log turn).reply
+event_reply side log (turns.Call call) n = absurd (n call refl)
+event_reply side log (turns.Bytes id piece) n = refl
+event_reply side log _ n = refl
+
+-- what the transport may tell is no call, in the driver's word and in the laws'
+pub fits_event : (side : Side) (log : Log) (turn : Turn) → fits side log turn ≡ true → is_call turn ≡ false
+fits_event side log (turns.Call call) f = absurd (cc)
+fits_event side log _ f = refl
+
+pub fits_no_call : (side : Side) (log : Log) (turn : Turn) → fits side log turn ≡ true → laws.is_call turn ≡ false
+fits_no_call side log (turns.Call call) f = absurd (cc)
+fits_no_call side log _ f = refl
+
+-- and it is lawful
+pub fits_lawful : (side : Side) (log : Log) (turn : Turn) → fits side log turn ≡ true → is_lawful side log turn ≡ true
+fits_lawful side log (turns.Call call) f = absurd (cc)
+fits_lawful side log _ f = f
+
+-- ---- after a turn
+
+-- the answer is the reply and the actions that weren't taken yet
+pub answer_is : (side : Side) (log : Log) (turn : Turn) (reply : Reply) (actions : List Action) → reply ≡ (turn_effect side log turn).reply → actions ≡ actions_since log (turn_effect side log turn).log
+    → record { reply = reply; actions = actions } ≡ answer_to side log turn
+answer_is side log turn reply actions e f = rw (e, f) refl
+
+-- a core whose driver's actions were taken refines the log
+pub taken_refines : (m k : CoreState) (side : Side) (d : DriverValue) (log : Log) → m ≡ k → k.failed ≡ false → k.side ≡ side → Follows side d log (length (actions_of log)) → Keeps side k.session log
+    → IsReachable side log → Refines (record m { driver = d }) log
+taken_refines m k side d log e works s follows keeps reached =
+    let at : m.side ≡ side = ap (λ (x : CoreState). x.side) e ∙ s in
+    record {
+      works = ap (λ (x : CoreState). x.failed) e ∙ works;
+      driver = subst (λ (x : Side). Follows x d log (length (actions_of log))) (sym at) follows;
+      session = subst (λ (x : Side). Keeps x m.session log) (sym at) (subst (λ (x : CoreState). Keeps side x.session log) (sym e) keeps);
+      reached = subst (λ (x : Side). IsReachable x log) (sym at) reached;
+    }
+
+-- a lawful turn leads from a reachable log to another one
+pub reached_after : (side : Side) (log : Log) (turn : Turn) → IsReachable side log → is_lawful side log turn ≡ true → IsReachable side (log_after side log turn)
+reached_after side log turn r l = AfterTurn turn r l

@@ -1,0 +1,41 @@
+use Rattle.std.proofs.Common.{ℕ, sym, ap, subst, ◌∙◌}
+use Rattle.wt_driver.proofs.AcceptSteps.{accepted-is, always-ok, nothing-by}
+use Rattle.wt_driver.specs.DriverValue.{DriverValue}
+use Rattle.wt_driver.specs.Tie.{Follows, untaken_since}
+use Rattle.wt_driver_spec.specs.Due.{Outcome, accepted}
+use Rattle.wt_inbox.specs.Stage.{Refines}
+use Rattle.wt_seam_spec.specs.Streams.{peer_bi}
+use Rattle.wt_turn.specs.Log.{Log}
+use Rattle.wt_driver.proofs.driver.Driver.accept_bi_id.Goals as goal
+
+pub returns-in-Some : goal.returns-in-Some
+returns-in-Some c = record {
+  log = λ side log taken f.
+      let inbox = subst (λ (v : DriverValue). Refines side v.inbox log f.refines.stage (untaken_since taken log)) (sym c.self.view_is) f.refines.inbox in
+      let whole = accepted-is side log c.peer_bi-kind.result (peer_bi side) c.args.session c.peer_bis-looks.result
+      (c.peer_bi-kind.ensures.kind ∙ ap peer_bi (c.side.ensures.log side log f.refines.stage (untaken_since taken log) inbox))
+      (c.peer_bis-looks.ensures.log side log f.refines.stage (untaken_since taken log) inbox) in
+      subst (λ (x : Outcome Log ℕ). Follows side c.accept.new.self x.state taken) whole (c.in_ok-id.ensures.log side log taken f);
+  given = λ side log taken f.
+      let inbox = subst (λ (v : DriverValue). Refines side v.inbox log f.refines.stage (untaken_since taken log)) (sym c.self.view_is) f.refines.inbox in
+      let whole = accepted-is side log c.peer_bi-kind.result (peer_bi side) c.args.session c.peer_bis-looks.result
+      (c.peer_bi-kind.ensures.kind ∙ ap peer_bi (c.side.ensures.log side log f.refines.stage (untaken_since taken log) inbox))
+      (c.peer_bis-looks.ensures.log side log f.refines.stage (untaken_since taken log) inbox) in
+      sym c.in-Some.is ∙ c.in_ok-id.ensures.given side log taken f ∙ ap (λ (x : Outcome Log ℕ). x.given) whole;
+}
+
+pub returns-in-None : goal.returns-in-None
+returns-in-None c = record {
+  log = λ side log taken f.
+      let inbox = subst (λ (v : DriverValue). Refines side v.inbox log f.refines.stage (untaken_since taken log)) (sym c.self.view_is) f.refines.inbox in
+      let whole = accepted-is side log c.peer_bi-kind.result (peer_bi side) c.args.session c.peer_bis-looks.result
+      (c.peer_bi-kind.ensures.kind ∙ ap peer_bi (c.side.ensures.log side log f.refines.stage (untaken_since taken log) inbox))
+      (c.peer_bis-looks.ensures.log side log f.refines.stage (untaken_since taken log) inbox) in
+      always-ok c.nothing_left.result (subst (λ (x : Outcome Log ℕ). Follows side c.accept.new.self x.state taken) whole (c.in_ok-id.ensures.log side log taken f));
+  given = λ side log taken f.
+      let inbox = subst (λ (v : DriverValue). Refines side v.inbox log f.refines.stage (untaken_since taken log)) (sym c.self.view_is) f.refines.inbox in
+      let whole = accepted-is side log c.peer_bi-kind.result (peer_bi side) c.args.session c.peer_bis-looks.result
+      (c.peer_bi-kind.ensures.kind ∙ ap peer_bi (c.side.ensures.log side log f.refines.stage (untaken_since taken log) inbox))
+      (c.peer_bis-looks.ensures.log side log f.refines.stage (untaken_since taken log) inbox) in
+      nothing-by c.nothing_left.result (accepted side (peer_bi side) log c.args.session).given (sym c.in-None.is ∙ c.in_ok-id.ensures.given side log taken f ∙ ap (λ (x : Outcome Log ℕ). x.given) whole) c.nothing_left.ensures;
+}

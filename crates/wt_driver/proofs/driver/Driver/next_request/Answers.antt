@@ -1,0 +1,7 @@
+use Rattle.std.proofs.Common.{ap, sym, ◌∙◌}
+use Rattle.wt_driver.proofs.Answering.{none-queued}
+use Rattle.wt_driver.specs.Results.{request_as}
+use Rattle.wt_driver.proofs.driver.Driver.next_request.Goals as goal
+
+pub returns-clause-none : goal.returns-clause-none
+returns-clause-none c = λ side log taken f e. none-queued side log c.args.self.now.state f.refines.state_is (sym c.queued_request.ensures ∙ ap request_as e)

@@ -1,0 +1,13 @@
+use Rattle.std.proofs.Common.{ℕ}
+use Rattle.wt_driver.proofs.AcceptLooks.{LooksOn}
+use Rattle.wt_driver.specs.Tie.{Follows}
+use Rattle.wt_driver_spec.specs.Due.{log_datagrams, received}
+use Rattle.wt_turn.specs.Log.{Log}
+use Rattle.wt_wire.specs.declared.side.Side.{Side}
+use Rattle.wt_driver.proofs.driver.Driver.receive.Given as goal
+
+abbrev pub invariant-loop-is_own : goal.invariant-loop-is_own
+invariant-loop-is_own l = (side : Side) (log : Log) (taken : ℕ) → Follows side l.fn.self log taken → LooksOn side taken (log_datagrams side l.session) (received side log l.session) l.left l.self
+
+abbrev pub decreases-loop-is_own : goal.decreases-loop-is_own
+decreases-loop-is_own l = l.left

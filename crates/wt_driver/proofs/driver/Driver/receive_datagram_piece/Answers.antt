@@ -1,0 +1,19 @@
+use Rattle.std.proofs.Common.{sym, ap, ◌∙◌}
+use Rattle.wt_driver.proofs.AcceptSteps.{always-ok, nothing-paid}
+use Rattle.std.specs.Prelude.{List, Option, ℕ}
+use Rattle.wt_driver.specs.Given.{payload_in}
+use Rattle.wt_driver_spec.specs.Due.{received}
+use Rattle.wt_spec.specs.Connection.{read_datagram}
+use Rattle.wt_driver.proofs.driver.Driver.receive_datagram_piece.Goals as goal
+
+pub returns-in-Some-clause-given : goal.returns-in-Some-clause-given
+returns-in-Some-clause-given c = λ side log taken f.
+    ap (λ (x : Option (List ℕ)). payload_in (read_datagram x)) (sym c.in-Some.is) ∙ c.in_ok-piece.ensures.given side log taken f
+
+pub returns-in-None : goal.returns-in-None
+returns-in-None c = record {
+  log = λ side log taken f. always-ok c.nothing_left.result (c.in_ok-piece.ensures.log side log taken f);
+  given = λ side log taken f.
+      nothing-paid c.nothing_left.result (received side log c.args.session).given
+      (ap (λ (x : Option (List ℕ)). payload_in (read_datagram x)) (sym c.in-None.is) ∙ c.in_ok-piece.ensures.given side log taken f) c.nothing_left.ensures;
+}

@@ -1,0 +1,23 @@
+use Rattle.std.proofs.Common.{◌∙◌}
+use Rattle.wt_inbox.proofs.Asked.{if-ok, on-ok, response-same, response-others, response-quiet, response-answered}
+use Rattle.wt_inbox.proofs.Staging.{response-says, response_read_refines}
+use Rattle.wt_inbox.proofs.inbox.Inbox.response.Goals as goal
+
+pub returns-clause-now : goal.returns-clause-now
+returns-clause-now c = if-ok c.response_outcome.result (λ x e. e ∙ response-answered c.args.self.now c.pull_response.new.self c.args.id c.in_ok-pull_response.ensures) c.response_outcome.ensures
+
+pub returns-clause-same : goal.returns-clause-same
+returns-clause-same c = on-ok c.response_outcome.result (response-same c.args.self.now c.pull_response.new.self c.args.id c.in_ok-pull_response.ensures)
+
+pub returns-clause-others : goal.returns-clause-others
+returns-clause-others c = on-ok c.response_outcome.result (response-others c.args.self.now c.pull_response.new.self c.args.id c.in_ok-pull_response.ensures)
+
+pub returns-clause-quiet : goal.returns-clause-quiet
+returns-clause-quiet c = on-ok c.response_outcome.result (response-quiet c.args.self.now c.pull_response.new.self c.args.id c.in_ok-pull_response.ensures)
+
+pub returns-clause-log_answer : goal.returns-clause-log_answer
+returns-clause-log_answer c = λ side log stage untaken r a.
+    if-ok c.response_outcome.result (λ x e. e ∙ response-answered c.args.self.now c.pull_response.new.self c.args.id c.in_ok-pull_response.ensures ∙ response-says side c.args.self.now log stage untaken r c.args.id a) c.response_outcome.ensures
+
+pub returns-clause-log : goal.returns-clause-log
+returns-clause-log c = λ side log stage untaken r a. on-ok c.response_outcome.result (response_read_refines side c.args.self.now log stage untaken r c.args.id a c.pull_response.new.self c.in_ok-pull_response.ensures)

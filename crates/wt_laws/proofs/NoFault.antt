@@ -1,0 +1,55 @@
+-- While the driver ended nothing, no classified stream has a fault.
+use Rattle.std.specs.Prelude.{[], ◌++◌, ◌∷◌, ◌≡◌, List, None, Option, Some, false, ℕ}
+use Rattle.std.proofs.Common.{◌∙◌, ap, refl, sym}
+use Rattle.wt_proto.specs.declared.verdict.Verdict.{Verdict}
+use Rattle.wt_turn.specs.Log.{Log}
+use Rattle.wt_wire.specs.declared.error.ErrorCode.{ErrorCode}
+use Rattle.wt_wire.specs.declared.side.Side.{Side}
+use Rattle.wt_laws.proofs.Moments.{AsBi, AsUni, ClassifiedAs, IsKept, causes, kept}
+use Rattle.wt_laws.specs.Faults.{NoneFaulty, StreamsFaultless, is_fault}
+use Rattle.wt_spec.specs.Driver.{call_view, stream_table}
+use Rattle.wt_spec.specs.Scan.{fault_ending}
+use Rattle.wt_spec.specs.StreamTable.{Classified, Consequence, Dispatched, StreamTable, bi_consequence, dispatched, uni_consequence}
+use Rattle.wt_proto.specs.declared.verdict.Verdict.TheVariants as verdicts
+
+-- ---- one more in the list
+
+none-more : (cs : List Classified) (x : Classified) → NoneFaulty cs → is_fault x.verdict ≡ false → NoneFaulty (cs ++ x ∷ [])
+none-more [] x a f = (f, tt)
+none-more (c ∷ cs) x a f = (a.0, none-more cs x a.1 f)
+
+-- ---- a stream that is classified and ends nothing
+
+pub no-ending : (o : Option ErrorCode) → fault_ending o ≡ None → o ≡ None
+no-ending None e = refl
+no-ending (Some code) e = absurd (cc)
+
+uni-none : (d : Dispatched) (k : ℕ) (v : Verdict) → (uni_consequence d k v).fault ≡ None → is_fault v ≡ false
+uni-none d k (verdicts.Fault code) e = absurd (cc)
+uni-none d k _ e = refl
+
+bi-none : (d : Dispatched) (k : ℕ) (v : Verdict) → (bi_consequence d k v).fault ≡ None → is_fault v ≡ false
+bi-none d k (verdicts.Fault code) e = absurd (cc)
+bi-none d k _ e = refl
+
+pub same-fault : (x y : Consequence) → x ≡ y → fault_ending x.fault ≡ None → y.fault ≡ None
+same-fault x y e n = ap (λ (z : Consequence). z.fault) (sym e) ∙ no-ending x.fault n
+
+classified-none : (side : Side) (log : Log) (t : StreamTable) (k : ℕ) (v : Verdict) (e : Consequence) → ClassifiedAs side log t k v e → fault_ending e.fault ≡ None → is_fault v ≡ false
+classified-none side log t k v e (AsUni a u f c) n = uni-none (dispatched (call_view log) t.classified) k v (same-fault e _ c n)
+classified-none side log t k v e (AsBi a u f c) n = bi-none (dispatched (call_view log) t.classified) k v (same-fault e _ c n)
+
+faultless-kept : (side : Side) (log : Log) → IsKept (causes side log) (λ t. t.progress.ending ≡ None → NoneFaulty t.classified)
+faultless-kept side log = record {
+  by_ending = λ t e c p q. absurd (cc);
+  by_moment = λ t p. p;
+  by_settings = λ t b c p. p;
+  by_datagram = λ t c p. p;
+  by_dequeued = λ t k p. p;
+  by_classified = λ t k v e c n still p q. none-more t.classified (record { id = k; verdict = v; surplus = e.surplus }) (p still) (classified-none side log t k v e c q);
+}
+
+pub streams-faultless : (side : Side) (log : Log) → StreamsFaultless side log
+unfolding stream_table
+streams-faultless side [] = λ n. tt
+streams-faultless side (e ∷ log) = kept (λ t. t.progress.ending ≡ None → NoneFaulty t.classified) side e log (faultless-kept side (e ∷ log)) (streams-faultless side log)

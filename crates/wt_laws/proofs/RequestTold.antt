@@ -1,0 +1,77 @@
+-- A reply that gives a request tells of one that was queued first, is delivered from then on, and is in the bytes of its stream.
+use Rattle.std.specs.Prelude.{◌≡◌, Bool, List, Some, false, true, ℕ}
+use Rattle.std.proofs.Common.{◌∙◌, ap, refl, subst, sym}
+use Rattle.std.proofs.lemmas.Bool.{eq-eqb, or_left, or_right}
+use Rattle.std.specs.List.{list_any}
+use Rattle.wt_turn.specs.Log.{BytesRead, CallRecord, DatagramReceived, Log, Polled, RequestDelivered, SessionEstablished, StreamAccepted, calls_of}
+use Rattle.wt_turn.specs.declared.reply.Reply.{Reply}
+use Rattle.wt_turn.specs.declared.turn.Turn.{Turn}
+use Rattle.wt_wire.specs.HeaderList.{Fields}
+use Rattle.wt_wire.specs.declared.side.Side.{Side}
+use Rattle.wt_laws.proofs.Calls.{caused}
+use Rattle.wt_laws.proofs.During.{decided-during, why-reply}
+use Rattle.wt_laws.proofs.Facts.{facts-hold}
+use Rattle.wt_laws.proofs.RequestLaws.{carries}
+use Rattle.wt_laws.proofs.RunLaws.{stays-behind}
+use Rattle.wt_laws.proofs.SessionLaws.{first-queued}
+use Rattle.wt_laws.specs.Laws.{GoesOnFrom, RequestTold}
+use Rattle.wt_laws.specs.Reachable.{AfterTurn, IsReachable}
+use Rattle.wt_laws.specs.Runs.{StaysSo}
+use Rattle.wt_laws.specs.Told.{Logged, NoRecord, OneRecord, Tells, ThenPolled, datagram_told, given_stream, is_quiet, read_piece, request_told, session_told}
+use Rattle.wt_spec.specs.Answers.{is_lawful, log_after}
+use Rattle.wt_spec.specs.Driver.{delivers, stream_table}
+use Rattle.wt_spec.specs.StreamTable.{verdict_of}
+use Rattle.wt_proto.specs.declared.verdict.Verdict.TheVariants as verdicts
+use Rattle.wt_turn.specs.declared.reply.Reply.TheVariants as replies
+
+-- ---- its record
+
+tells-request : (turn : Turn) (k : ℕ) (headers : Fields) (reply : Reply) → reply ≡ replies.Request k headers → (r : CallRecord) → Tells turn r reply → delivers k r ≡ true
+tells-request turn k headers reply e (RequestDelivered id) t = let y = ap request_told e in let x : id ≡ k = cc in eq-eqb id k x
+tells-request turn k headers reply e (SessionEstablished i a) t = absurd (let y = ap session_told e in cc)
+tells-request turn k headers reply e (BytesRead j n) t = absurd (let y = ap read_piece e in let z = t.1 in cc)
+tells-request turn k headers reply e (StreamAccepted j) t = absurd (let y = ap given_stream e in cc)
+tells-request turn k headers reply e DatagramReceived t = absurd (let y = ap datagram_told e in let z = t.1 in cc)
+tells-request turn k headers reply e _ t = absurd (let y = ap is_quiet e in cc)
+
+delivered-by : (turn : Turn) (k : ℕ) (headers : Fields) (before after : List CallRecord) (reply : Reply) → reply ≡ replies.Request k headers → Logged turn before after reply → list_any (delivers k) after ≡ true
+delivered-by turn k headers before after reply e (NoRecord c q) = absurd (let x = ap is_quiet e in cc)
+delivered-by turn k headers before after reply e (OneRecord r c t) = ap (list_any (delivers k)) c ∙ or_left (delivers k r) _ (tells-request turn k headers reply e r t)
+delivered-by turn k headers before after reply e (ThenPolled r c t) = ap (list_any (delivers k)) c ∙ or_right (delivers k Polled) _ (or_left (delivers k r) _ (tells-request turn k headers reply e r t))
+
+-- ---- the law
+
+stays : (side : Side) {earlier later : Log} → GoesOnFrom earlier later → StaysSo side earlier later
+stays side {earlier} x = subst (λ z. StaysSo side earlier z) (sym x.1) (stays-behind side x.0 earlier)
+
+not-yet : (b c : Bool) → (b ≡ true → c ≡ true) → c ≡ false → b ≡ false
+not-yet true c f e = absurd (let x = f refl in cc)
+not-yet false c f e = refl
+
+pub request-told : (side : Side) (log : Log) (turn : Turn) → IsReachable side log → is_lawful side log turn ≡ true → RequestTold side log turn
+request-told side log turn r l k headers e =
+    let c = caused side turn log l in
+    let d = decided-during side log turn l in
+    let w = why-reply side log turn l (replies.Request k headers) e in
+    let q = first-queued side c.decided w.0 w.1 w.2 in
+    let s = stays side d.to_end in
+    let v : verdict_of k (stream_table side (log_after side log turn)).classified ≡ Some (verdicts.Request q.request.headers q.request.at) =
+    s.verdict k _ (subst (λ (j : ℕ). verdict_of j (stream_table side c.decided).classified ≡ Some (verdicts.Request q.request.headers q.request.at)) w.3 q.request.verdict) in
+    let b = carries side (log_after side log turn) k q.request.headers q.request.at ((facts-hold side (log_after side log turn) (AfterTurn turn r l)).verdicts k _ v) in
+    let fresh = subst (λ (j : ℕ). list_any (delivers j) (calls_of c.decided) ≡ false) w.3 q.fresh in
+    record {
+      fresh = not-yet (list_any (delivers k) (calls_of log)) _ ((stays side d.from_start).delivered k) fresh;
+      given = record {
+        delivered = delivered-by turn k headers (calls_of c.decided) (calls_of (log_after side log turn)) _ e c.logged;
+        settings = s.settings q.request.settings;
+        headers = q.request.headers;
+        at = q.request.at;
+        opened = b.opened;
+        bytes = b.bytes;
+        verdict = v;
+      };
+      fields = sym (w.4 ∙ q.same);
+    }
+
+pub request_told_theorem : (side : Side) (log : Log) (turn : Turn) → IsReachable side log → is_lawful side log turn ≡ true → RequestTold side log turn
+request_told_theorem = request-told

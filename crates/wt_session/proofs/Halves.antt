@@ -1,0 +1,24 @@
+-- A call on a half that the application has is planned as such.
+use Rattle.std.proofs.Common.{◌≡◌, IfOk, Result, true, ℕ}
+use Rattle.wt_plan.specs.FactsNow.{DriverFacts, facts_now}
+use Rattle.wt_plan.specs.Planned.{planned}
+use Rattle.wt_plan.specs.Table.{TableValue}
+use Rattle.wt_plan.specs.Tells.{session_now}
+use Rattle.wt_plan.specs.declared.plan.Plan as code
+use Rattle.wt_seam.specs.State.{TransportState}
+use Rattle.wt_session_spec.specs.Plan.{Plan}
+use Rattle.wt_session_spec.specs.Plans.{with_receiving, with_sending}
+use Rattle.wt_session_spec.specs.SessionState.{has_receiving_now, has_sending_now}
+use Rattle.wt_wire.specs.declared.error.OutOfMemory.{OutOfMemory}
+
+module _ (t : TransportState) (d : DriverFacts) (s : TableValue) (k : ℕ) where
+  pub sending_there : (call p : Plan) → has_sending_now t.side (session_now s) k ≡ true → p ≡ call → p ≡ with_sending (facts_now t d) (session_now s) k call
+  sending_there call p h e = rw h e
+
+  pub sending_there_ok : (call : Plan) (r : Result code.Plan OutOfMemory) → has_sending_now t.side (session_now s) k ≡ true
+      → IfOk r (λ p. planned p ≡ call) → IfOk r (λ p. planned p ≡ with_sending (facts_now t d) (session_now s) k call)
+  sending_there_ok call r h e = rw h e
+
+  pub receiving_there_ok : (call : Plan) (r : Result code.Plan OutOfMemory) → has_receiving_now t.side (session_now s) k ≡ true
+      → IfOk r (λ p. planned p ≡ call) → IfOk r (λ p. planned p ≡ with_receiving (facts_now t d) (session_now s) k call)
+  receiving_there_ok call r h e = rw h e

@@ -1,0 +1,6 @@
+pub mod Turns
+pub mod Serving
+pub mod RequestEnds
+pub mod Tables
+pub mod Theorems
+pub mod DriverTheorems
