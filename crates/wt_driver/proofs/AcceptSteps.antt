@@ -5,7 +5,7 @@ use Rattle.std.proofs.lemmas.Bool.{true≢false}
 use Rattle.wt_driver.proofs.AcceptLooks.{LooksOn, enough-looks, none-due, one-look, other-due, own-due}
 use Rattle.wt_driver.proofs.AcceptUses.{MayPass, datagram-kept, due-kept, due-parts, may-give, may-pass-due, may-settle, other-open, passed-less}
 use Rattle.wt_driver.specs.DriverValue.{DriverValue}
-use Rattle.wt_driver.specs.Found.{due_as}
+use Rattle.wt_dispatch.specs.Found.{due_as}
 use Rattle.wt_driver.specs.Given.{given_by, is_own, next_datagram_now, payload_by, payload_in}
 use Rattle.wt_driver.specs.Moving.{front_of}
 use Rattle.wt_driver.specs.Tie.{Follows, unsettled}

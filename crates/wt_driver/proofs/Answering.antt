@@ -4,7 +4,8 @@ use Rattle.std.proofs.lemmas.Bool.{and_parts}
 use Rattle.std.specs.Prelude.{None, if◌then◌else◌, not, ◌&&◌}
 use Rattle.wt_driver.proofs.StageAnswers.{response-fits}
 use Rattle.wt_driver.specs.DriverValue.{DriverValue}
-use Rattle.wt_driver.specs.Results.{first_request, request_in, requests_now}
+use Rattle.wt_driver.specs.Results.{requests_now}
+use Rattle.wt_dispatch.specs.Requests.{first_request, request_in}
 use Rattle.wt_driver.specs.Tie.{Follows, untaken_since}
 use Rattle.wt_driver_spec.specs.Asking.{AwaitsResponse}
 use Rattle.wt_driver_spec.specs.DriverState.{DriverState, state_of}

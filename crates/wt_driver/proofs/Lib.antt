@@ -10,8 +10,6 @@ pub mod FlushFacts
 pub mod AcceptLooks
 pub mod AcceptUses
 pub mod AcceptSteps
-pub mod BiChannelLaws
-pub mod SharedResultLaws
 pub mod StageChecks
 pub mod StageEntries
 pub mod StageMoments

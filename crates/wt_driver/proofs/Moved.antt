@@ -5,7 +5,7 @@ use Rattle.wt_driver.specs.DriverValue.{DriverValue, with_state}
 use Rattle.wt_driver.specs.Moving.{Moves}
 use Rattle.wt_driver.specs.Scanning.{Scans, known_by, rule_of}
 use Rattle.wt_driver.specs.Stages.{bi_stages, datagram_checked, uni_stages, unless_ended_stage}
-use Rattle.wt_driver.specs.declared.slot.Half.TheVariants.{Bi, Uni}
+use Rattle.wt_dispatch.specs.declared.slot.Half.TheVariants.{Bi, Uni}
 use Rattle.wt_driver_spec.specs.DriverState.{DriverState, Slot}
 use Rattle.wt_driver_spec.specs.Step.{scan_bi_slots, scan_uni_slots, with_scanned_bis, with_scanned_unis}
 use Rattle.std.proofs.lemmas.Bool.{eq-eqb, eqb-true}

@@ -11,8 +11,8 @@ use Rattle.wt_driver.specs.Scanning.{AllAwait}
 use Rattle.wt_driver.specs.Stages.{ClassifiedSays, FirstSays, ResponseSays, StageFits, StageSays, StagesFit, TableFits, peer_role}
 use Rattle.wt_driver_spec.specs.Asking.{AwaitsResponse}
 use Rattle.wt_driver_spec.specs.Uses.{CallUse, ForRequest, OfLocalBi, OfLocalUni, StreamRole, Uses, classified_of, is_sessions, may_give, passes, response_at, role_by, role_of, use_of}
-use Rattle.wt_driver.specs.declared.slot.Half.{Half}
-use Rattle.wt_driver.specs.declared.slot.Half.TheVariants.{Bi, Uni}
+use Rattle.wt_dispatch.specs.declared.slot.Half.{Half}
+use Rattle.wt_dispatch.specs.declared.slot.Half.TheVariants.{Bi, Uni}
 use Rattle.wt_driver_spec.proofs.Following.{sound}
 use Rattle.wt_driver_spec.proofs.StreamIds.{bi-low, kind-is, uni-low}
 use Rattle.wt_driver_spec.specs.DriverState.{Arrived, Dequeued, Held, slot_by, slots}

@@ -9,7 +9,7 @@ use Rattle.wt_driver.proofs.StageScans.{verdict-found, verdict_in}
 use Rattle.wt_driver.specs.Scanning.{AllAwait}
 use Rattle.wt_driver.specs.Stages.{ClassifiedSays, StageSays, StagesFit, TableFits, bi_stages, datagram_checked, entry_stages, session_stages, uni_stages, unless_ended_stage}
 use Rattle.wt_driver_spec.specs.Uses.{CallUse, ForRequest, MayUseBy, StreamRole, Uses, classified_of, request_at, response_at, role_of, session_at, use_of}
-use Rattle.wt_driver.specs.declared.slot.Half.TheVariants.{Bi, Uni}
+use Rattle.wt_dispatch.specs.declared.slot.Half.TheVariants.{Bi, Uni}
 use Rattle.wt_driver.proofs.StageTables.{is-own, session-is, use-session}
 use Rattle.wt_driver_spec.proofs.Bounded.{log-bounded, takes-bounded}
 use Rattle.wt_driver_spec.proofs.DistinctSlots.{state-distinct}

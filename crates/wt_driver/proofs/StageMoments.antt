@@ -7,7 +7,7 @@ use Rattle.wt_driver.proofs.StageScans.{AreOf, scan-fits}
 use Rattle.wt_driver.proofs.StageTables.{is-own, session-is, use-session}
 use Rattle.wt_driver.specs.Stages.{StageSays, StagesFit, TableFits, bi_stages, check_stages, entry_stages, moment_stages, scanned_stages, uni_stages}
 use Rattle.wt_driver_spec.specs.Uses.{ForRequest, MayUseBy, OfLocalBi, OfLocalUni, OfPeerBi, OfPeerUni, StreamRole, no_use, Uses, role_of, session_at, classified_of, use_of}
-use Rattle.wt_driver.specs.declared.slot.Half.TheVariants.{Bi, Uni}
+use Rattle.wt_dispatch.specs.declared.slot.Half.TheVariants.{Bi, Uni}
 use Rattle.wt_driver_spec.proofs.Following.{Sound, before_scan, open-more, sound, taken-in, untouched-entry}
 use Rattle.wt_driver_spec.proofs.ScanSlots.{Untouched, scan-later, scan-same, scan-slots, slots-same, untouched-later}
 use Rattle.wt_driver_spec.proofs.StreamIds.{apart-ids, bi-low, uni-low}

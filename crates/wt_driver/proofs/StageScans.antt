@@ -6,8 +6,8 @@ use Rattle.wt_driver.proofs.StageEntries.{with-fits}
 use Rattle.wt_driver.specs.Scanning.{awaits, classified_stage, dequeue_stage, header_stage, rule_of, scan_stages, stages_on, unless_given_up, visit_stage}
 use Rattle.wt_driver.specs.Stages.{ClassifiedSays, FirstSays, ResponseSays, StageFits, StageSays, TableFits, peer_role}
 use Rattle.wt_driver_spec.specs.Uses.{CallUse, ForRequest, OfLocalBi, OfLocalUni, OfPeerBi, OfPeerUni, StreamRole, classified_of, role_of, use_of}
-use Rattle.wt_driver.specs.declared.slot.Half.{Half}
-use Rattle.wt_driver.specs.declared.slot.Half.TheVariants.{Bi, Uni}
+use Rattle.wt_dispatch.specs.declared.slot.Half.{Half}
+use Rattle.wt_dispatch.specs.declared.slot.Half.TheVariants.{Bi, Uni}
 use Rattle.wt_driver_spec.proofs.ScanSlots.{ArePeers, IsDistinct, Same, Untouched, apart, has-here, known, scan-same, scan-slots, slots-same, untouched-later, visit-later}
 use Rattle.wt_driver_spec.specs.DriverState.{Arrived, Dequeued, Held, Slot, SlotPlace, slot_by, slots}
 use Rattle.wt_driver_spec.specs.Step.{Known, Scanned, dequeue_slot, known_after, scan_slots, visit_slot}

@@ -3,10 +3,11 @@ use Rattle.std.proofs.Common.{◌≡◌, ℕ, suc, Bool, true, false, List, [], 
 use Rattle.std.specs.Prelude.{◌||◌, ◌&&◌, nat_lt, if◌then◌else◌, Option, Some, Result, Ok, Err, IfOk}
 use Rattle.std.proofs.lemmas.Bool.{eq-eqb}
 use Rattle.wt_driver.proofs.Restaged.{stage-again, twice}
-use Rattle.wt_driver.specs.Rules.{consequence_of}
-use Rattle.wt_driver.specs.Scanning.{Leaves, awaits, classified_stage, header_stage, is_given_up, known_by, rule_of, unless_given_up, visit_stage}
-use Rattle.wt_driver.specs.declared.slot.Half.{Half}
-use Rattle.wt_driver.specs.declared.slot.Half.TheVariants.{Bi, Uni}
+use Rattle.wt_dispatch.specs.Rules.{consequence_of}
+use Rattle.wt_driver.specs.Scanning.{Leaves, awaits, classified_stage, header_stage, known_by, rule_of, unless_given_up, visit_stage}
+use Rattle.wt_dispatch.specs.Rules.{is_given_up}
+use Rattle.wt_dispatch.specs.declared.slot.Half.{Half}
+use Rattle.wt_dispatch.specs.declared.slot.Half.TheVariants.{Bi, Uni}
 use Rattle.wt_driver_spec.specs.DriverState.{Arrived, Held, Slot}
 use Rattle.wt_driver_spec.specs.Step.{Known, Visited, classify_as, dispatch, visit_slot, visited_as}
 use Rattle.wt_inbox.specs.Stage.{Refines, Stage, stage_from, verdict_offset, with_stage}

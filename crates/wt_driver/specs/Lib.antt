@@ -1,10 +1,4 @@
-pub mod BiChannel
-pub mod Poll
-pub mod SharedResult
-pub mod Places
-pub mod Found
 pub mod Given
-pub mod Rules
 pub mod Scanning
 pub mod Stages
 pub mod Moving

@@ -3,7 +3,7 @@ use Rattle.std.specs.Prelude.{[], ◌∷◌, ◌≡◌, List, None, Option, Some
 use Rattle.wt_driver.specs.DriverValue.{DriverValue}
 use Rattle.wt_driver.specs.Scanning.{AllAwait}
 use Rattle.wt_driver.specs.Stages.{bi_stages, datagram_checked, session_stages, uni_stages, unless_ended_stage}
-use Rattle.wt_driver.specs.declared.slot.Half.TheVariants.{Bi, Uni}
+use Rattle.wt_dispatch.specs.declared.slot.Half.TheVariants.{Bi, Uni}
 use Rattle.wt_driver_spec.specs.Bounds.{AreDistinct, IsBounded}
 use Rattle.wt_driver_spec.specs.DriverState.{DriverState}
 use Rattle.wt_driver_spec.specs.Step.{begin_scan, scan_bi_slots, scan_uni_slots}

@@ -43,18 +43,3 @@ settings_or None None = Pending
 -- the queued requests, once SETTINGS came
 abbrev pub requests_now : DriverState → List Classified
 requests_now s = if s.progress.settings then s.dispatched.requests else []
-
--- what is told of a request: its stream, its fields, and the offset behind it
-abbrev pub request_as : Option (ℕ × Bor Fields × ℕ) → Option (ℕ × Fields × ℕ)
-request_as None = None
-request_as (Some told) = Some (told.0, told.1.now, told.2)
-
--- the request that a verdict says of a stream
-abbrev pub request_in : ℕ → Verdict → Option (ℕ × Fields × ℕ)
-request_in id (verdicts.Request fields at) = Some (id, fields, at)
-request_in id _ = None
-
--- the first request among these streams
-abbrev pub first_request : List Classified → Option (ℕ × Fields × ℕ)
-first_request [] = None
-first_request (c ∷ later) = request_in c.id c.verdict

@@ -1,7 +1,8 @@
 -- What a visit of a slot leaves of a stream: at which stage of its reading it is then.
 use Rattle.std.specs.Prelude.{[], ◌&&◌, ◌||◌, ◌∷◌, ◌≡◌, Bool, List, None, Option, Some, false, nat_lt, true, ℕ}
-use Rattle.wt_driver.specs.declared.slot.Half.{Half}
-use Rattle.wt_driver.specs.declared.slot.Half.TheVariants.{Bi, Uni}
+use Rattle.wt_dispatch.specs.Rules.{is_given_up}
+use Rattle.wt_dispatch.specs.declared.slot.Half.{Half}
+use Rattle.wt_dispatch.specs.declared.slot.Half.TheVariants.{Bi, Uni}
 use Rattle.wt_driver_spec.specs.DriverState.{Arrived, Dequeued, Held, Slot, SlotPlace}
 use Rattle.wt_driver_spec.specs.Step.{Known, Visited, scan_slots, visit_slot, visited_as}
 use Rattle.wt_inbox.specs.Stage.{Anywhere, BiHeader, Refines, Stage, UniHeader, awaits_bi, awaits_uni, stage_from, verdict_offset, with_stage}
@@ -29,12 +30,6 @@ awaits Bi = awaits_bi
 abbrev pub header_stage : Half → Stage
 header_stage Uni = UniHeader
 header_stage Bi = BiHeader
-
--- nothing of a stream with this verdict is read any more
-abbrev pub is_given_up : Verdict → Bool
-is_given_up verdicts.Dropped = true
-is_given_up (verdicts.Refused code) = true
-is_given_up _ = false
 
 -- the stage, unless the stream is given up
 abbrev pub unless_given_up : Bool → Stage → Stage

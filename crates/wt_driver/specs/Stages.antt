@@ -1,8 +1,8 @@
 -- At which stage of its reading each stream is after a log: what the driver does with a stream says of it.
 use Rattle.std.specs.Prelude.{◌&&◌, drop, ◌+◌, ◌==◌, ◌≡◌, Bool, List, None, Option, Some, false, true, ℕ}
 use Rattle.wt_driver.specs.Scanning.{scan_stages}
-use Rattle.wt_driver.specs.declared.slot.Half.{Half}
-use Rattle.wt_driver.specs.declared.slot.Half.TheVariants.{Bi, Uni}
+use Rattle.wt_dispatch.specs.declared.slot.Half.{Half}
+use Rattle.wt_dispatch.specs.declared.slot.Half.TheVariants.{Bi, Uni}
 use Rattle.wt_driver_spec.specs.DriverState.{DriverState}
 use Rattle.wt_driver_spec.specs.Moment.{scans}
 use Rattle.wt_driver_spec.specs.Uses.{CallUse, ForRequest, OfLocalBi, OfLocalUni, OfPeerBi, OfPeerUni, StreamRole, classified_of, role_of, use_of}

@@ -11,9 +11,9 @@ mod calls;
 mod flush;
 mod moment;
 
-use crate::dispatched::DispatchedStreams;
-use crate::progress::Progress;
-use crate::slot::Slot;
+use wt_dispatch::dispatched::DispatchedStreams;
+use wt_dispatch::progress::Progress;
+use wt_dispatch::slot::Slot;
 use std::alloc::Global;
 use std::collections::VecDeque;
 use std::marker::Model;

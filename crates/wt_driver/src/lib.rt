@@ -1,18 +1,13 @@
 //! The driver of a connection: which streams of the peer's are dequeued and classified, what goes out
-//! at each moment, and how the connection ends; beside it the result that is set once, and the channel
-//! between two ends.
+//! at each moment, and how the connection ends. The result that is set once and the channel between two
+//! ends are wt_channel's, and offered again here.
 #![tactic(auto)]
 
-pub mod bichannel;
-pub mod classified;
-pub mod dispatched;
 pub mod driver;
-pub mod ending;
-pub mod laws;
-pub mod progress;
 pub mod scan;
-pub mod shared_result;
-pub mod slot;
 #[cfg(test)]
 mod tests;
-pub mod utils;
+
+pub use wt_channel::bichannel;
+pub use wt_channel::shared_result;
+pub use wt_channel::utils;

@@ -1,8 +1,9 @@
 //! The scan of the slots of a kind.
 ghost use Rattle.std.specs.Prelude.{◌≡◌, ◌<◌, ◌&&◌, ◌||◌, [], length, ◌∷◌, if◌then◌else◌, List, ℕ, true, IfOk, OnOk, nat_lt};
 ghost use Rattle.std.specs.List.{remove};
-ghost use Rattle.wt_driver.specs.Rules.{slots_of};
-ghost use Rattle.wt_driver.specs.Scanning.{AllAwait, AwaitsAt, Leaves, Scans, awaits, dequeue_stage, header_stage, is_given_up, known_by, look_stage, rule_of, unless_given_up, visit_stage};
+ghost use Rattle.wt_dispatch.specs.Rules.{slots_of};
+ghost use Rattle.wt_driver.specs.Scanning.{AllAwait, AwaitsAt, Leaves, Scans, awaits, dequeue_stage, header_stage, known_by, look_stage, rule_of, unless_given_up, visit_stage};
+ghost use Rattle.wt_dispatch.specs.Rules.{is_given_up};
 ghost use Rattle.wt_driver_spec.specs.Bounds.{AreDistinct, IsBounded};
 ghost use Rattle.wt_driver_spec.specs.DriverState.{Held};
 ghost use Rattle.wt_driver_spec.specs.Step.{Known, classify_slot, visit_slot, visited_as};
@@ -14,10 +15,10 @@ ghost use Rattle.wt_turn.specs.Log.{Log, is_open};
 ghost use Rattle.wt_turn.specs.declared.action.Action.{Action};
 ghost use Rattle.wt_wire.specs.declared.side.Side.{Side};
 
-use crate::classified::{Classified, is_given_up, is_released_at_once};
-use crate::dispatched::DispatchedStreams;
-use crate::progress::Progress;
-use crate::slot::{Half, Place, Slot};
+use wt_dispatch::classified::{Classified, is_given_up, is_released_at_once};
+use wt_dispatch::dispatched::DispatchedStreams;
+use wt_dispatch::progress::Progress;
+use wt_dispatch::slot::{Half, Place, Slot};
 use std::collections::VecDeque;
 use wt_inbox::Inbox;
 use wt_proto::verdict::Verdict;

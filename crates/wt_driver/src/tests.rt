@@ -2,5 +2,4 @@
 mod clients;
 mod drivers;
 mod floods;
-mod parts;
 mod sessions;

@@ -3,7 +3,7 @@ use Rattle.std.specs.Prelude.{[], ◌∷◌, ◌≡◌, List, Option, Some, fals
 use Rattle.std.proofs.Common.{◌∙◌, ap, refl, sym}
 use Rattle.std.specs.Borrow.{Bor}
 use Rattle.wt_driver.specs.DriverValue.{DriverValue}
-use Rattle.wt_driver.specs.Results.{first_request, request_as}
+use Rattle.wt_dispatch.specs.Requests.{first_request, request_as}
 use Rattle.wt_driver.specs.Tie.{Follows, untaken_since}
 use Rattle.wt_laws.specs.Reachable.{IsReachable}
 use Rattle.wt_plan.specs.DriverAnswers.{requests_now}

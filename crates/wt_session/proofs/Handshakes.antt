@@ -1,7 +1,7 @@
 -- The steps of a handshake's plans.
 use Rattle.std.proofs.Common.{[], ◌∙◌, ◌∷◌, ◌≡◌, ap, Bool, false, IfOk, List, None, Option, Result, refl, Some, subst, sym, true, ℕ}
 use Rattle.std.specs.Prelude.{if◌then◌else◌, is_some, not}
-use Rattle.wt_driver.specs.Results.{first_request, request_in}
+use Rattle.wt_dispatch.specs.Requests.{first_request, request_in}
 use Rattle.wt_plan.specs.FactsNow.{DriverFacts, facts_now}
 use Rattle.wt_plan.specs.Planned.{planned}
 use Rattle.wt_plan.specs.declared.plan.Plan as code

@@ -3,7 +3,8 @@ use Rattle.std.specs.Prelude.{[], ◌∷◌, ◌≡◌, Bool, List, None, Option
 use Rattle.std.proofs.Common.{◌∙◌, ap, refl, subst, sym}
 use Rattle.wt_driver.proofs.StageAnswers.{read-staged}
 use Rattle.wt_driver.specs.DriverValue.{DriverValue}
-use Rattle.wt_driver.specs.Results.{first_request, request_in, requests_now}
+use Rattle.wt_driver.specs.Results.{requests_now}
+use Rattle.wt_dispatch.specs.Requests.{first_request, request_in}
 use Rattle.wt_driver.specs.Tie.{Refines}
 use Rattle.wt_driver_spec.specs.DriverState.{DriverState, state_of}
 use Rattle.wt_laws.specs.Reachable.{IsReachable}

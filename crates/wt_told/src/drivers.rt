@@ -2,7 +2,8 @@
 //! contracts are the laws.
 ghost use Rattle.std.specs.Prelude.{◌≡◌, Bool, List, Option, Some, if◌then◌else◌, true, ℕ};
 ghost use Rattle.wt_driver.specs.DriverValue.{DriverValue};
-ghost use Rattle.wt_driver.specs.Results.{first_request, requests_now};
+ghost use Rattle.wt_driver.specs.Results.{requests_now};
+ghost use Rattle.wt_dispatch.specs.Requests.{first_request};
 ghost use Rattle.wt_driver.specs.Tie.{Refines};
 ghost use Rattle.wt_laws.specs.Reachable.{IsReachable};
 ghost use Rattle.wt_plan.specs.DriverAnswers.{answers_now, error_now};

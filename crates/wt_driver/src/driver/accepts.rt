@@ -1,7 +1,7 @@
 //! Calls that give the session's next stream or datagram, and pass those of others.
 ghost use Rattle.std.specs.Prelude.{◌≡◌, ◌∷◌, IfOk, List, None, OnOk, Some, suc, true, ℕ};
 ghost use Rattle.wt_driver.specs.DriverValue.{IsAmong, with_state, without_first};
-ghost use Rattle.wt_driver.specs.Found.{due_as};
+ghost use Rattle.wt_dispatch.specs.Found.{due_as};
 ghost use Rattle.wt_driver.specs.Given.{given_by, is_own, next_datagram_now, payload_by, payload_in};
 ghost use Rattle.wt_driver.specs.Moving.{front_of};
 ghost use Rattle.wt_driver.specs.Tie.{Follows};
@@ -19,7 +19,7 @@ ghost use Rattle.wt_wire.specs.declared.side.Side.{Side};
 
 use super::Driver;
 use crate::scan::remove_at;
-use crate::slot::{Slot, peer_bi, peer_uni};
+use wt_dispatch::slot::{Slot, peer_bi, peer_uni};
 use std::collections::VecDeque;
 use wt_proto::datagram::H3Datagram;
 use wt_turn::action::Action;

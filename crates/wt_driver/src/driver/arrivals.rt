@@ -17,7 +17,7 @@ ghost use Rattle.wt_driver_spec.specs.Step.{new_slot};
 ghost use Rattle.wt_driver.specs.DriverValue.{with_state};
 
 use super::Driver;
-use crate::slot::{Slot, peer_bi, peer_uni};
+use wt_dispatch::slot::{Slot, peer_bi, peer_uni};
 use wt_turn::piece::Piece;
 use wt_turn::turn::Turn;
 use wt_wire::error::OutOfMemory;

@@ -18,11 +18,12 @@ ghost use Rattle.wt_turn.specs.declared.action.Action.TheVariants as actions;
 ghost use Rattle.wt_wire.specs.declared.side.Side.{Side};
 ghost use Rattle.wt_wire.specs.declared.side.Side.TheVariants.{Client, Server};
 ghost use Rattle.wt_driver.specs.DriverValue.{with_state};
-ghost use Rattle.wt_driver.specs.Results.{due_settings, error_of, first_request, request_as, requests_now, result_of, settings_or};
+ghost use Rattle.wt_driver.specs.Results.{due_settings, error_of, requests_now, result_of, settings_or};
+ghost use Rattle.wt_dispatch.specs.Requests.{first_request, request_as};
 
 use super::Driver;
 use super::acting::{act, reset};
-use crate::ending::EndingKind;
+use wt_dispatch::ending::EndingKind;
 use wt_proto::response_walk::ResponseWalk;
 use wt_proto::session::SessionRequest;
 use wt_proto::settings::Settings;

@@ -16,9 +16,9 @@ ghost use Rattle.wt_wire.specs.declared.side.Side.{Side};
 
 use super::Driver;
 use super::acting::{close, reset, stop};
-use crate::classified::Stopped;
-use crate::ending::{Ending, EndingKind};
-use crate::progress::Progress;
+use wt_dispatch::classified::Stopped;
+use wt_dispatch::ending::{Ending, EndingKind};
+use wt_dispatch::progress::Progress;
 use std::alloc::Global;
 use wt_inbox::Inbox;
 use wt_proto::outgoing::control_stream_head;

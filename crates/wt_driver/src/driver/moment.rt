@@ -5,7 +5,7 @@ ghost use Rattle.wt_driver.specs.Moving.{HasDatagram, MayCheck, MayScan, Moves, 
 ghost use Rattle.wt_driver.specs.Scanning.{AllAwait};
 ghost use Rattle.wt_driver.specs.Stages.{bi_stages, check_stages, control_stages, datagram_checked, scanned_stages, session_stage, session_stages, uni_stages, unless_ended_stage};
 ghost use Rattle.wt_driver.specs.Tie.{Follows, TakenIn};
-ghost use Rattle.wt_driver.specs.declared.slot.Half.TheVariants as halves;
+ghost use Rattle.wt_dispatch.specs.declared.slot.Half.TheVariants as halves;
 ghost use Rattle.wt_driver_spec.specs.Bounds.{AreDistinct, IsBounded};
 ghost use Rattle.wt_driver_spec.specs.Step.{begin_scan, run_checks, scan_bi_slots, scan_state, scan_uni_slots};
 ghost use Rattle.wt_inbox.specs.Stage.{Anywhere, ControlBody, Refines, SessionBody, Stage, control_offset, session_offset, with_stage};
@@ -21,7 +21,7 @@ ghost use Rattle.wt_wire.specs.declared.side.Side.{Side};
 
 use super::Driver;
 use crate::scan::scan;
-use crate::slot::Half;
+use wt_dispatch::slot::Half;
 use wt_proto::control_walk::ControlWalk;
 use wt_proto::session_walk::SessionWalk;
 use wt_wire::error::OutOfMemory;

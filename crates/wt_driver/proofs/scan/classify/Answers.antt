@@ -1,6 +1,6 @@
 use Rattle.std.proofs.Common.{ap, ◌∙◌}
 use Rattle.std.specs.Prelude.{◌||◌}
-use Rattle.wt_driver.specs.Scanning.{is_given_up}
+use Rattle.wt_dispatch.specs.Rules.{is_given_up}
 use Rattle.wt_driver_spec.specs.Step.{dispatch}
 use Rattle.wt_spec.specs.StreamTable.{Consequence}
 use Rattle.wt_driver.proofs.Visits.{classify-done, consequence-is}

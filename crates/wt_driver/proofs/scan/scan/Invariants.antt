@@ -1,6 +1,6 @@
 use Rattle.std.proofs.Common.{◌≡◌, ◌-◌, ℕ, List, true, length}
 use Rattle.wt_driver.proofs.ScanSteps.{ScansSoFar}
-use Rattle.wt_driver.specs.Rules.{slots_of}
+use Rattle.wt_dispatch.specs.Rules.{slots_of}
 use Rattle.wt_driver.specs.Scanning.{AllAwait, known_by, rule_of}
 use Rattle.wt_driver_spec.specs.Bounds.{AreDistinct, IsBounded}
 use Rattle.wt_inbox.specs.Stage.{Refines, Stage}

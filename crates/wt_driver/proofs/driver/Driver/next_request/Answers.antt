@@ -1,6 +1,6 @@
 use Rattle.std.proofs.Common.{ap, sym, ◌∙◌}
 use Rattle.wt_driver.proofs.Answering.{none-queued}
-use Rattle.wt_driver.specs.Results.{request_as}
+use Rattle.wt_dispatch.specs.Requests.{request_as}
 use Rattle.wt_driver.proofs.driver.Driver.next_request.Goals as goal
 
 pub returns-clause-none : goal.returns-clause-none

@@ -3,7 +3,7 @@ use Rattle.wt_driver.proofs.Moved.{moves-on, on_ok, state-moves}
 use Rattle.wt_driver.specs.Moving.{HasDatagram, MayCheck, Moves, front_of}
 use Rattle.wt_driver.specs.Scanning.{AllAwait}
 use Rattle.wt_driver.specs.Stages.{bi_stages, check_stages, uni_stages}
-use Rattle.wt_driver.specs.declared.slot.Half.TheVariants.{Bi, Uni}
+use Rattle.wt_dispatch.specs.declared.slot.Half.TheVariants.{Bi, Uni}
 use Rattle.wt_driver_spec.specs.Bounds.{AreDistinct, IsBounded}
 use Rattle.wt_driver_spec.specs.DriverState.{DriverState}
 use Rattle.wt_driver_spec.specs.Step.{begin_scan, run_checks, scan_bi_slots, scan_uni_slots}

@@ -2,7 +2,7 @@ use Rattle.std.proofs.Common.{ap, sym, ◌∙◌, Some}
 use Rattle.std.specs.Option.{option_copied}
 use Rattle.wt_driver.proofs.Flushed.{ending_open, ending_resets, ending_sends}
 use Rattle.wt_driver.proofs.Moved.{on_ok}
-use Rattle.wt_driver.specs.Places.{ending_of}
+use Rattle.wt_dispatch.specs.Places.{ending_of}
 use Rattle.wt_seam_spec.specs.Joined.{newest_first}
 use Rattle.wt_spec.specs.Driver.{reset_if, session_id}
 use Rattle.wt_spec.specs.StreamTable.{Ending}

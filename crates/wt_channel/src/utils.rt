@@ -1,6 +1,6 @@
 //! What makes shared results and channels.
 ghost use Rattle.std.specs.Prelude.{◌≡◌, ◌≤◌, IfOk, None};
-ghost use Rattle.wt_driver.specs.BiChannel.{empty_channel};
+ghost use Rattle.wt_channel.specs.BiChannel.{empty_channel};
 
 use crate::bichannel::BiChannel;
 use crate::shared_result::SharedResult;

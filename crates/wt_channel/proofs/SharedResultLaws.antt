@@ -2,7 +2,7 @@
 use Rattle.std.proofs.Common.{◌≡◌, true, false, List, [], ◌∷◌, Some, None, arith, refl}
 use Rattle.std.proofs.lemmas.Grind.{common_steps}
 use Rattle.wt_turn.specs.declared.poll.Poll.TheVariants.{Ready}
-use Rattle.wt_driver.specs.SharedResult.{Shared, SharedCall, Set, Subscribe, AddSetter, LeaveSetter, LeaveGetter, after_call, after_calls, after_set, may_set, result_of}
+use Rattle.wt_channel.specs.SharedResult.{Shared, SharedCall, Set, Subscribe, AddSetter, LeaveSetter, LeaveGetter, after_call, after_calls, after_set, may_set, result_of}
 
 module _ {T : Type 0} where
   -- one call leaves a value that is set

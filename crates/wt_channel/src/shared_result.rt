@@ -1,8 +1,8 @@
 //! A result that is set once, for all who wait for it.
 ghost use Rattle.std.specs.Prelude.{◌≡◌, ◌↔◌, IsTrue};
 ghost use Rattle.std.specs.Option.{option_copied};
-ghost use Rattle.wt_driver.specs.Poll.{is_ready, poll_map};
-ghost use Rattle.wt_driver.specs.SharedResult.{after_add_setter, after_leave_getter, after_leave_setter, after_set, after_subscribe, fresh, may_set, result_of};
+ghost use Rattle.wt_channel.specs.Poll.{is_ready, poll_map};
+ghost use Rattle.wt_channel.specs.SharedResult.{after_add_setter, after_leave_getter, after_leave_setter, after_set, after_subscribe, fresh, may_set, result_of};
 
 use std::marker::Model;
 use wt_turn::poll::Poll;
@@ -20,7 +20,7 @@ pub struct SharedResult<T> {
 }
 
 impl<T> Model for SharedResult<T> {
-    ghost use Rattle.wt_driver.specs.SharedResult.{Shared};
+    ghost use Rattle.wt_channel.specs.SharedResult.{Shared};
 
     ghost Value = { Shared T };
 

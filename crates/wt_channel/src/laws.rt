@@ -1,10 +1,10 @@
 //! What holds of shared results and of channels, each a function whose contract is the law.
 ghost use Rattle.std.specs.Prelude.{◌≡◌, ◌++◌, ℕ, List, Some, None, true, false};
-ghost use Rattle.wt_driver.specs.BiChannel as channels;
-ghost use Rattle.wt_driver.specs.BiChannel.{Channel, ChannelCall, all_received, all_sent, empty_channel, is_closed, queue_of};
-ghost use Rattle.wt_driver.specs.declared.bichannel.ChannelEnd.{ChannelEnd};
+ghost use Rattle.wt_channel.specs.BiChannel as channels;
+ghost use Rattle.wt_channel.specs.BiChannel.{Channel, ChannelCall, all_received, all_sent, empty_channel, is_closed, queue_of};
+ghost use Rattle.wt_channel.specs.declared.bichannel.ChannelEnd.{ChannelEnd};
 ghost use Rattle.wt_turn.specs.declared.poll.Poll.TheVariants.{Ready};
-ghost use Rattle.wt_driver.specs.SharedResult.{Shared, SharedCall, after_calls, after_set, may_set, result_of};
+ghost use Rattle.wt_channel.specs.SharedResult.{Shared, SharedCall, after_calls, after_set, may_set, result_of};
 
 /// The first result that is set stays: whatever is called later, each `set` answers false, and each
 /// poll gives that value.

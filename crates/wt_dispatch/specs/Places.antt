@@ -1,8 +1,8 @@
 -- How the driver's enums stand for what the definitions name.
-use Rattle.wt_driver.specs.declared.ending.EndingKind.{EndingKind}
-use Rattle.wt_driver.specs.declared.ending.EndingKind.TheVariants as kinds
-use Rattle.wt_driver.specs.declared.slot.Place.{Place}
-use Rattle.wt_driver.specs.declared.slot.Place.TheVariants as places
+use Rattle.wt_dispatch.specs.declared.ending.EndingKind.{EndingKind}
+use Rattle.wt_dispatch.specs.declared.ending.EndingKind.TheVariants as kinds
+use Rattle.wt_dispatch.specs.declared.slot.Place.{Place}
+use Rattle.wt_dispatch.specs.declared.slot.Place.TheVariants as places
 use Rattle.wt_driver_spec.specs.DriverState.{Arrived, Dequeued, Held, SlotPlace}
 use Rattle.wt_spec.specs.StreamTable.{ByFault, BySession, Ending}
 

@@ -1,6 +1,6 @@
 //! What is kept of a peer's stream that isn't released.
 ghost use Rattle.std.specs.Prelude.{◌≡◌, ◌<◌};
-ghost use Rattle.wt_driver.specs.Places.{place_of};
+ghost use Rattle.wt_dispatch.specs.Places.{place_of};
 ghost use Rattle.wt_seam_spec.specs.Streams.{peer_bi, peer_uni};
 ghost use Rattle.wt_driver_spec.specs.DriverState.{Dequeued, Held};
 ghost use Rattle.wt_driver_spec.specs.Step.{new_slot};
@@ -29,7 +29,7 @@ pub struct Slot {
 
 impl Model for Slot {
     ghost use Rattle.wt_driver_spec.specs.DriverState.{Slot};
-    ghost use Rattle.wt_driver.specs.Places.{place_of};
+    ghost use Rattle.wt_dispatch.specs.Places.{place_of};
 
     ghost Value = { Slot };
 

@@ -1,8 +1,8 @@
 //! A stream with its verdict, and what it leads to that the verdict is known.
 ghost use Rattle.std.specs.Prelude.{◌≡◌, Some, false};
 ghost use Rattle.wt_proto.specs.Uni.{is_final};
-ghost use Rattle.wt_driver.specs.Results.{request_as, request_in};
-ghost use Rattle.wt_driver.specs.Scanning.{is_given_up};
+ghost use Rattle.wt_dispatch.specs.Requests.{request_as, request_in};
+ghost use Rattle.wt_dispatch.specs.Rules.{is_given_up};
 ghost use Rattle.wt_spec.specs.Connection.{is_for_session};
 ghost use Rattle.wt_spec.specs.Scan.{is_released};
 ghost use Rattle.wt_spec.specs.StreamTable.{faulty, none_of_it, stopped_with};

@@ -1,8 +1,9 @@
 -- What holds of each kind of the peer's streams.
-use Rattle.std.specs.Prelude.{ℕ}
-use Rattle.wt_driver.specs.declared.slot.Half.{Half}
-use Rattle.wt_driver.specs.declared.slot.Half.TheVariants.{Bi, Uni}
+use Rattle.std.specs.Prelude.{Bool, false, true, ℕ}
+use Rattle.wt_dispatch.specs.declared.slot.Half.{Half}
+use Rattle.wt_dispatch.specs.declared.slot.Half.TheVariants.{Bi, Uni}
 use Rattle.wt_proto.specs.declared.verdict.Verdict.{Verdict}
+use Rattle.wt_proto.specs.declared.verdict.Verdict.TheVariants as verdicts
 use Rattle.wt_spec.specs.StreamTable.{Consequence, Dispatched, bi_consequence, uni_consequence}
 
 -- what classifying a stream of this kind leads to
@@ -14,3 +15,9 @@ consequence_of Bi = bi_consequence
 abbrev pub slots_of : Half → ℕ
 slots_of Uni = 4
 slots_of Bi = 1
+
+-- nothing of a stream with this verdict is read any more
+abbrev pub is_given_up : Verdict → Bool
+is_given_up verdicts.Dropped = true
+is_given_up (verdicts.Refused code) = true
+is_given_up _ = false

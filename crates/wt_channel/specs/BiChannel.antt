@@ -4,12 +4,12 @@ use Rattle.std.specs.VecDeque.{deque_capacity}
 use Rattle.std.specs.declared.collections.VecDeque.{VecDeque}
 use Rattle.wt_turn.specs.declared.poll.Poll.{Poll}
 use Rattle.wt_turn.specs.declared.poll.Poll.TheVariants.{Ready, Pending}
-use Rattle.wt_driver.specs.declared.bichannel.ChannelEnd.{ChannelEnd}
-use Rattle.wt_driver.specs.declared.bichannel.ChannelEnd.TheVariants.{Left, Right}
-use Rattle.wt_driver.specs.declared.bichannel.TrySendError.{TrySendError}
-use Rattle.wt_driver.specs.declared.bichannel.TrySendError.TheVariants as errors
-use Rattle.wt_driver.specs.declared.bichannel.SendOutcome.{SendOutcome}
-use Rattle.wt_driver.specs.declared.bichannel.SendOutcome.TheVariants as outcomes
+use Rattle.wt_channel.specs.declared.bichannel.ChannelEnd.{ChannelEnd}
+use Rattle.wt_channel.specs.declared.bichannel.ChannelEnd.TheVariants.{Left, Right}
+use Rattle.wt_channel.specs.declared.bichannel.TrySendError.{TrySendError}
+use Rattle.wt_channel.specs.declared.bichannel.TrySendError.TheVariants as errors
+use Rattle.wt_channel.specs.declared.bichannel.SendOutcome.{SendOutcome}
+use Rattle.wt_channel.specs.declared.bichannel.SendOutcome.TheVariants as outcomes
 
 -- the queue holds no more values than this, and has room for so many
 pub record HasRoom {T A : Type 0} (capacity : ℕ) (queue : VecDeque T A) : Type 0 where

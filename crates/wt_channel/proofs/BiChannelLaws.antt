@@ -1,9 +1,9 @@
 -- What holds of a channel, whatever is called.
 use Rattle.std.proofs.Common.{◌≡◌, ℕ, true, List, [], ◌∷◌, ◌++◌, arith, refl, append_assoc, sym, ◌∙◌, ap}
 use Rattle.std.proofs.lemmas.Grind.{common_steps}
-use Rattle.wt_driver.specs.declared.bichannel.ChannelEnd.{ChannelEnd}
-use Rattle.wt_driver.specs.declared.bichannel.ChannelEnd.TheVariants.{Left, Right}
-use Rattle.wt_driver.specs.BiChannel.{Channel, ChannelCall, Send, Recv, Leave, after_call, after_calls, all_received, all_sent, received_by, sent_by, empty_channel, is_closed, queue_of}
+use Rattle.wt_channel.specs.declared.bichannel.ChannelEnd.{ChannelEnd}
+use Rattle.wt_channel.specs.declared.bichannel.ChannelEnd.TheVariants.{Left, Right}
+use Rattle.wt_channel.specs.BiChannel.{Channel, ChannelCall, Send, Recv, Leave, after_call, after_calls, all_received, all_sent, received_by, sent_by, empty_channel, is_closed, queue_of}
 
 module _ {T : Type 0} where
   -- one call: what it receives and what then waits is what waited and what it sends

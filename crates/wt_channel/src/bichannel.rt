@@ -1,6 +1,6 @@
 //! A channel between two ends, with a queue of bounded length each way.
 ghost use Rattle.std.specs.Prelude.{◌≡◌, ◌≤◌, [], ◌∷◌, ◌++◌, IfOk, length, nat_le, if◌then◌else◌};
-ghost use Rattle.wt_driver.specs.BiChannel.{HasRoom, after_leave, after_recv, after_send, empty_channel, is_closed, recv_answer, send_answer, try_send_answer};
+ghost use Rattle.wt_channel.specs.BiChannel.{HasRoom, after_leave, after_recv, after_send, empty_channel, is_closed, recv_answer, send_answer, try_send_answer};
 
 use std::alloc::Global;
 use std::collections::VecDeque;
@@ -52,7 +52,7 @@ pub struct BiChannel<T> {
 }
 
 impl<T> Model for BiChannel<T> {
-    ghost use Rattle.wt_driver.specs.BiChannel.{Channel};
+    ghost use Rattle.wt_channel.specs.BiChannel.{Channel};
 
     ghost Value = { Channel T };
 
@@ -62,7 +62,7 @@ impl<T> Model for BiChannel<T> {
       right = record { queue = c.to_right.items; has_left = c.has_right_gone };
     } };
 
-    ghost use Rattle.wt_driver.specs.BiChannel.{HasRoom};
+    ghost use Rattle.wt_channel.specs.BiChannel.{HasRoom};
 
     ghost invariant = { λ c. HasRoom c.capacity c.to_left × HasRoom c.capacity c.to_right };
 }

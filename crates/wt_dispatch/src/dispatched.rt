@@ -1,8 +1,8 @@
 //! The classified streams by their use.
 ghost use Rattle.std.specs.Prelude.{◌≡◌, ◌++◌, ◌∷◌, [], None, Some, OnOk, not};
-ghost use Rattle.wt_driver.specs.Found.{due_as};
-ghost use Rattle.wt_driver.specs.Results.{first_request, request_as};
-ghost use Rattle.wt_driver.specs.Rules.{consequence_of};
+ghost use Rattle.wt_dispatch.specs.Found.{due_as};
+ghost use Rattle.wt_dispatch.specs.Requests.{first_request, request_as};
+ghost use Rattle.wt_dispatch.specs.Rules.{consequence_of};
 ghost use Rattle.wt_driver_spec.specs.Due.{due_stream};
 ghost use Rattle.wt_driver_spec.specs.Step.{dispatch, is_other};
 ghost use Rattle.wt_spec.specs.Connection.{first_of, is_due};

@@ -1,0 +1,2 @@
+pub mod BiChannelLaws
+pub mod SharedResultLaws

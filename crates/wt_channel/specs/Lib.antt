@@ -1,0 +1,3 @@
+pub mod BiChannel
+pub mod Poll
+pub mod SharedResult

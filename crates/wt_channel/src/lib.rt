@@ -1,0 +1,10 @@
+//! What two parts of a program share, as cores without a lock: a result that is set once, and the
+//! channel between two ends.
+#![tactic(auto)]
+
+pub mod bichannel;
+pub mod laws;
+pub mod shared_result;
+#[cfg(test)]
+mod tests;
+pub mod utils;

@@ -1,0 +1,4 @@
+pub mod Found
+pub mod Places
+pub mod Requests
+pub mod Rules

@@ -1,0 +1,22 @@
+-- What is told of a request that a stream carries.
+use Rattle.std.specs.Borrow.{Bor}
+use Rattle.std.specs.Prelude.{[], ◌∷◌, List, None, Option, Some, ℕ}
+use Rattle.wt_proto.specs.declared.verdict.Verdict.{Verdict}
+use Rattle.wt_proto.specs.declared.verdict.Verdict.TheVariants as verdicts
+use Rattle.wt_spec.specs.StreamTable.{Classified}
+use Rattle.wt_wire.specs.HeaderList.{Fields}
+
+-- what is told of a request: its stream, its fields, and the offset behind it
+abbrev pub request_as : Option (ℕ × Bor Fields × ℕ) → Option (ℕ × Fields × ℕ)
+request_as None = None
+request_as (Some told) = Some (told.0, told.1.now, told.2)
+
+-- the request that a verdict says of a stream
+abbrev pub request_in : ℕ → Verdict → Option (ℕ × Fields × ℕ)
+request_in id (verdicts.Request fields at) = Some (id, fields, at)
+request_in id _ = None
+
+-- the first request among these streams
+abbrev pub first_request : List Classified → Option (ℕ × Fields × ℕ)
+first_request [] = None
+first_request (c ∷ later) = request_in c.id c.verdict
