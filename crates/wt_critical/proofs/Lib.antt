@@ -1,0 +1,3 @@
+pub mod Consuming
+pub mod ReadOn
+pub mod Runs

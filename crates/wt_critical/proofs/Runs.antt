@@ -1,0 +1,106 @@
+-- What a run tells by the reader that is kept is what the definitions say of all bytes.
+use Rattle.std.proofs.Common.{◌≡◌, ℕ, Bool, List, ◌++◌, Option, Some, None, refl, sym, ap, ◌∙◌}
+use Rattle.std.specs.Prelude.{unwrap_or}
+use Rattle.wt_wire.specs.declared.side.StreamEnd.{StreamEnd}
+use Rattle.wt_wire.specs.declared.side.StreamEnd.TheVariants.{Running, Fin, Reset}
+use Rattle.wt_message.specs.declared.settings.Settings.{Settings}
+use Rattle.wt_proto.specs.declared.control_walk.ControlWalk.{ControlWalk}
+use Rattle.wt_proto.specs.declared.session_walk.SessionWalk.{SessionWalk}
+use Rattle.wt_proto.specs.ControlWalk.{control_decides, control_unfinished, control_walk_of}
+use Rattle.wt_proto.specs.SessionWalk.{session_decides, session_unfinished, session_walk_of}
+use Rattle.wt_proto.specs.Progress.{Progress, Reading, progress_over, reached}
+use Rattle.wt_proto.specs.Reading.{outcome_in}
+use Rattle.wt_proto.specs.Walk.{Reached, outcome_at, walked}
+use Rattle.wt_proto.proofs.ControlReading.{control_lawful}
+use Rattle.wt_proto.proofs.SessionReading.{session_lawful}
+use Rattle.wt_proto.proofs.ProgressLaws.{walk-progress}
+use Rattle.wt_turn.specs.declared.driver_error.DriverError.{DriverError}
+use Rattle.wt_turn.specs.declared.poll.Poll.{Poll}
+use Rattle.wt_seam.specs.State.{TransportState}
+use Rattle.wt_seam.specs.Step.{end_now, unread_now}
+use Rattle.wt_critical.specs.Critical.{RemoteUni, SessionStream, Watched, control_answer, session_answer, session_bytes, shown_by_fault, shown_by_walk, shown_or_ended, uni_bytes}
+use Rattle.wt_critical.specs.Reading.{WasRead, read_on}
+use Rattle.wt_critical.proofs.ReadOn.{was-read-more, was-read-outcome}
+
+-- ---- the peer's control stream
+
+abbrev pub ControlWatched : Type 0
+ControlWatched = Watched RemoteUni (Option Settings) ControlWalk
+
+abbrev pub ControlReading : Type 0
+ControlReading = Reading (Option Settings) ControlWalk
+
+module _ (old : ControlWatched) (o : Option RemoteUni) (s : RemoteUni) (r : ControlReading) (t : TransportState) (view : record { stream = o; reading = r } ≡ old) (is : o ≡ Some s) (id : ℕ) (its : id ≡ s.halves.id) where
+  stream : old.stream ≡ Some s
+  stream = ap (λ (w : ControlWatched). w.stream) (sym view) ∙ is
+
+  was-inside : (bytes : List ℕ) → WasRead control_decides None old.reading bytes → WasRead control_decides None r bytes
+  was-inside bytes was = ap (λ (w : ControlWatched). w.reading.progress) view ∙ was
+
+  pub control-told : (is_open : Bool) → is_open ≡ t.is_open → (shown : Option DriverError) → shown ≡ shown_by_fault (outcome_in control_unfinished (read_on control_decides r (unread_now t id) (end_now t id))).fault
+      → (result : Poll DriverError) → result ≡ shown_or_ended is_open shown → (bytes : List ℕ) → WasRead control_decides None old.reading bytes → result ≡ control_answer old.stream t bytes
+  control-told is_open open_is shown shown_is result result_is bytes was =
+      result_is
+      ∙ (ap (λ b. shown_or_ended b shown) open_is
+      ∙ (ap (λ x. shown_or_ended t.is_open x) shown_is
+      ∙ (ap (λ (w : ControlWalk). shown_or_ended t.is_open (shown_by_fault w.fault))
+      (was-read-outcome control_decides control_lawful.steady None r bytes (was-inside bytes was) control_unfinished control_walk_of control_lawful.reaches (unread_now t id) (end_now t id))
+      ∙ (ap (λ k. shown_or_ended t.is_open (shown_by_fault (control_walk_of (bytes ++ unread_now t k) (end_now t k)).fault)) its
+      ∙ ap (λ (x : Option RemoteUni). control_answer x t bytes) (sym stream)))))
+
+  pub control-goes-on : (new : ControlReading) → new ≡ read_on control_decides r (unread_now t id) (end_now t id)
+      → (bytes : List ℕ) → WasRead control_decides None old.reading bytes → WasRead control_decides None new (uni_bytes old.stream t bytes)
+  control-goes-on new new_is bytes was =
+      ap (λ (w : ControlReading). w.progress) new_is
+      ∙ (was-read-more control_decides control_lawful.steady None r bytes (was-inside bytes was) (unread_now t id) (end_now t id)
+      ∙ ap (λ (xs : List ℕ). progress_over control_decides None None 0 xs)
+      (ap (λ k. bytes ++ unread_now t k) its ∙ ap (λ (x : Option RemoteUni). uni_bytes x t bytes) (sym stream)))
+
+-- an end changes no settings
+settings-at : (stop : Option ControlWalk) (end : StreamEnd) (settings : Option Settings) (between : Bool) → (unwrap_or stop (control_unfinished end settings between)).settings ≡ (unwrap_or stop (control_unfinished Running settings between)).settings
+settings-at (Some walk) end settings between = refl
+settings-at None Running settings between = refl
+settings-at None Fin settings between = refl
+settings-at None (Reset code) settings between = refl
+
+pub settings_read : (r : Reading (Option Settings) ControlWalk) (bytes : List ℕ) → WasRead control_decides None r bytes → (outcome_in control_unfinished r).settings ≡ (control_walk_of bytes Running).settings
+settings_read r bytes was =
+    let at : Reached (Option Settings) ControlWalk = walked control_decides None bytes in
+    ap (λ (p : Progress (Option Settings) ControlWalk). (outcome_at control_unfinished r.end (reached p)).settings) was
+    ∙ (ap (λ (x : Reached (Option Settings) ControlWalk). (outcome_at control_unfinished r.end x).settings) (sym (walk-progress control_decides bytes None None 0))
+    ∙ (settings-at at.stop r.end at.state at.between
+    ∙ ap (λ (w : ControlWalk). w.settings) (sym (control_lawful.reaches bytes Running))))
+
+-- ---- a session's stream
+
+abbrev pub SessionWatched : Type 0
+SessionWatched = Watched SessionStream (Unit {0}) SessionWalk
+
+abbrev pub SessionReading : Type 0
+SessionReading = Reading (Unit {0}) SessionWalk
+
+module _ (old : SessionWatched) (o : Option SessionStream) (s : SessionStream) (r : SessionReading) (t : TransportState) (view : record { stream = o; reading = r } ≡ old) (is : o ≡ Some s) (id : ℕ) (its : id ≡ s.halves.0.id) where
+  session-set : old.stream ≡ Some s
+  session-set = ap (λ (w : SessionWatched). w.stream) (sym view) ∙ is
+
+  session-inside : (bytes : List ℕ) → WasRead session_decides tt old.reading bytes → WasRead session_decides tt r bytes
+  session-inside bytes was = ap (λ (w : SessionWatched). w.reading.progress) view ∙ was
+
+  pub session-told : (is_open : Bool) → is_open ≡ t.is_open → (shown : Option DriverError) → shown ≡ shown_by_walk (outcome_in session_unfinished (read_on session_decides r (unread_now t id) (end_now t id)))
+      → (result : Poll DriverError) → result ≡ shown_or_ended is_open shown → (bytes : List ℕ) → WasRead session_decides tt old.reading bytes → result ≡ session_answer old.stream t bytes
+  session-told is_open open_is shown shown_is result result_is bytes was =
+      result_is
+      ∙ (ap (λ b. shown_or_ended b shown) open_is
+      ∙ (ap (λ x. shown_or_ended t.is_open x) shown_is
+      ∙ (ap (λ (w : SessionWalk). shown_or_ended t.is_open (shown_by_walk w))
+      (was-read-outcome session_decides session_lawful.steady tt r bytes (session-inside bytes was) session_unfinished session_walk_of session_lawful.reaches (unread_now t id) (end_now t id))
+      ∙ (ap (λ k. shown_or_ended t.is_open (shown_by_walk (session_walk_of (bytes ++ unread_now t k) (end_now t k)))) its
+      ∙ ap (λ (x : Option SessionStream). session_answer x t bytes) (sym session-set)))))
+
+  pub session-goes-on : (new : SessionReading) → new ≡ read_on session_decides r (unread_now t id) (end_now t id)
+      → (bytes : List ℕ) → WasRead session_decides tt old.reading bytes → WasRead session_decides tt new (session_bytes old.stream t bytes)
+  session-goes-on new new_is bytes was =
+      ap (λ (w : SessionReading). w.progress) new_is
+      ∙ (was-read-more session_decides session_lawful.steady tt r bytes (session-inside bytes was) (unread_now t id) (end_now t id)
+      ∙ ap (λ (xs : List ℕ). progress_over session_decides tt None 0 xs)
+      (ap (λ k. bytes ++ unread_now t k) its ∙ ap (λ (x : Option SessionStream). session_bytes x t bytes) (sym session-set)))

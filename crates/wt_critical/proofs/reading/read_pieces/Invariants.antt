@@ -1,0 +1,16 @@
+use Rattle.std.proofs.Common.{◌≡◌, ℕ, [], true, false, length, ◌+◌}
+use Rattle.std.specs.Prelude.{if◌then◌else◌}
+use Rattle.wt_wire.specs.declared.side.StreamEnd.TheVariants.{Running}
+use Rattle.wt_seam.specs.Step.{unread_now}
+use Rattle.wt_critical.specs.Reading.{ReadsSome}
+use Rattle.wt_critical.proofs.reading.read_pieces.Given as goal
+
+abbrev pub invariant-loop-goes : goal.invariant-loop-goes
+invariant-loop-goes g l = record {
+  some : (count : ℕ) × ReadsSome g.W.Walk.decides l.fn.reader l.reader l.fn.t l.t l.id count;
+  none : l.goes ≡ false → unread_now l.t l.id ≡ [];
+  runs : l.reader.end ≡ Running;
+}
+
+abbrev pub decreases-loop-goes : goal.decreases-loop-goes
+decreases-loop-goes g l = length (unread_now l.t l.id) + (if l.goes then 1 else 0)

@@ -1,0 +1,185 @@
+-- What the streams show on which a connection rests, and what their runs answer.
+use Rattle.std.specs.Prelude.{ℕ, List, ◌++◌, Option, Some, None, Result, Ok, Err, Bool, false, if◌then◌else◌}
+use Rattle.wt_wire.specs.declared.error.ErrorCode.{ErrorCode}
+use Rattle.wt_wire.specs.declared.error.ErrorCode.TheVariants.{ClosedCriticalStream}
+use Rattle.wt_wire.specs.declared.frame.FrameKind.TheVariants as kinds
+use Rattle.wt_wire.specs.declared.side.StreamEnd.{StreamEnd}
+use Rattle.wt_wire.specs.declared.side.StreamEnd.TheVariants as ends
+use Rattle.wt_wire.specs.FrameBytes.{FrameParts, frame_bytes}
+use Rattle.wt_message.specs.declared.settings.Settings.{Settings}
+use Rattle.wt_message.specs.FixedBytes.{local_settings}
+use Rattle.wt_message.specs.Settings.{settings_bytes}
+use Rattle.wt_proto.specs.declared.control_walk.ControlWalk.{ControlWalk}
+use Rattle.wt_proto.specs.declared.session_walk.SessionWalk.{SessionWalk}
+use Rattle.wt_proto.specs.declared.session_walk.SessionWalk.TheVariants as walks
+use Rattle.wt_proto.specs.ControlWalk.{control_walk_of}
+use Rattle.wt_proto.specs.SessionWalk.{session_walk_of}
+use Rattle.wt_proto.specs.Progress.{Reading}
+use Rattle.wt_turn.specs.declared.driver_error.DriverError.{DriverError}
+use Rattle.wt_turn.specs.declared.driver_error.DriverError.TheVariants as errors
+use Rattle.wt_turn.specs.declared.poll.Poll.{Poll}
+use Rattle.wt_turn.specs.declared.poll.Poll.TheVariants as polls
+use Rattle.wt_turn.specs.declared.proto_error.ProtoWriteError.{ProtoWriteError}
+use Rattle.wt_turn.specs.declared.proto_error.ProtoWriteError.TheVariants as write_errors
+use Rattle.wt_seam.specs.declared.halves.QuicSendStream.{QuicSendStream}
+use Rattle.wt_seam.specs.declared.halves.QuicRecvStream.{QuicRecvStream}
+use Rattle.wt_seam.specs.State.{TransportState}
+use Rattle.wt_seam.specs.Rules.{after_write, sending_half_now}
+use Rattle.wt_seam.specs.Step.{end_now, stop_now, unread_now}
+use Rattle.wt_typed.specs.declared.stream.UniLocalH3.{UniLocalH3}
+use Rattle.wt_typed.specs.declared.stream.UniRemoteH3.{UniRemoteH3}
+use Rattle.wt_typed.specs.declared.stream.Session.{Session}
+use Rattle.wt_typed.specs.Typed.{Pair, Typed, can_write_now}
+use Rattle.wt_typed.specs.Writing.{Continues, Pending, after_pending, pending_answer, rest, write_of}
+use Rattle.wt_critical.specs.Reading.{after_reading_all}
+
+-- a unidirectional stream of this end, behind its header
+abbrev pub LocalUni : Type 0
+LocalUni = Typed QuicSendStream UniLocalH3
+
+-- a unidirectional stream that the peer opened, behind its header
+abbrev pub RemoteUni : Type 0
+RemoteUni = Typed QuicRecvStream UniRemoteH3
+
+-- the stream of a session
+abbrev pub SessionStream : Type 0
+SessionStream = Typed Pair Session
+
+-- the stream that is set, and how far the walk over its bytes is
+pub record Watched (T S O : Type 0) : Type 0 where
+  pub stream : Option T
+  pub reading : Reading S O
+
+-- ---- what a stream shows
+
+-- a critical stream was closed (RFC 9114, section 6.2.1; RFC 9204, section 4.2)
+abbrev pub closed_critical : DriverError
+closed_critical = errors.Proto ClosedCriticalStream
+
+-- an end or a reset of a critical stream of the peer closes it
+abbrev pub shown_by_end : StreamEnd → Option DriverError
+shown_by_end ends.Running = None
+shown_by_end ends.Fin = Some closed_critical
+shown_by_end (ends.Reset code) = Some closed_critical
+
+-- a stop of a critical stream of this end closes it
+abbrev pub shown_by_stop : Option ℕ → Option DriverError
+shown_by_stop None = None
+shown_by_stop (Some code) = Some closed_critical
+
+-- the peer's control stream shows its fault
+abbrev pub shown_by_fault : Option ErrorCode → Option DriverError
+shown_by_fault None = None
+shown_by_fault (Some code) = Some (errors.Proto code)
+
+-- the stream of a session shows how the peer closed the session, or its fault (draft-ietf-webtrans-http3, section 6)
+abbrev pub shown_by_walk : SessionWalk → Option DriverError
+shown_by_walk walks.Running = None
+shown_by_walk (walks.Closed code reason) = Some (errors.ApplicationClosed (record { code = code; reason = reason }))
+shown_by_walk (walks.Fault code) = Some (errors.Proto code)
+
+-- ---- what a run answers
+
+-- what is shown; else the connection may have ended
+abbrev pub shown_or_ended : Bool → Option DriverError → Poll DriverError
+shown_or_ended open_ (Some error) = polls.Ready error
+shown_or_ended open_ None = if open_ then polls.Pending else polls.Ready errors.NotConnected
+
+-- on this end's control stream
+abbrev pub local_answer : Option LocalUni → TransportState → Poll DriverError
+local_answer None t = polls.Pending
+local_answer (Some s) t = shown_or_ended t.is_open (shown_by_stop (stop_now t s.halves.id))
+
+-- on an encoder or a decoder stream of the peer
+abbrev pub qpack_answer : Option RemoteUni → TransportState → Poll DriverError
+qpack_answer None t = polls.Pending
+qpack_answer (Some s) t = shown_or_ended t.is_open (shown_by_end (end_now t s.halves.id))
+
+-- on the peer's control stream, of which these bytes were read before
+abbrev pub control_answer : Option RemoteUni → TransportState → List ℕ → Poll DriverError
+control_answer None t bytes = polls.Pending
+control_answer (Some s) t bytes = shown_or_ended t.is_open (shown_by_fault (control_walk_of (bytes ++ unread_now t s.halves.id) (end_now t s.halves.id)).fault)
+
+-- on the stream of a session, of which these bytes were read before
+abbrev pub session_answer : Option SessionStream → TransportState → List ℕ → Poll DriverError
+session_answer None t bytes = polls.Pending
+session_answer (Some s) t bytes = shown_or_ended t.is_open (shown_by_walk (session_walk_of (bytes ++ unread_now t s.halves.0.id) (end_now t s.halves.0.id)))
+
+-- ---- what a run leaves
+
+-- all that has come of the stream that is set is read
+abbrev pub after_uni_run : Option RemoteUni → TransportState → TransportState
+after_uni_run None t = t
+after_uni_run (Some s) t = after_reading_all t s.halves.id
+
+-- the same of a session's stream
+abbrev pub after_session_run : Option SessionStream → TransportState → TransportState
+after_session_run None t = t
+after_session_run (Some s) t = after_reading_all t s.halves.0.id
+
+-- the bytes that are read then
+abbrev pub uni_bytes : Option RemoteUni → TransportState → List ℕ → List ℕ
+uni_bytes None t bytes = bytes
+uni_bytes (Some s) t bytes = bytes ++ unread_now t s.halves.id
+
+-- the same of a session's stream
+abbrev pub session_bytes : Option SessionStream → TransportState → List ℕ → List ℕ
+session_bytes None t bytes = bytes
+session_bytes (Some s) t bytes = bytes ++ unread_now t s.halves.0.id
+
+-- ---- this end's SETTINGS
+
+-- the frame of this end's SETTINGS (RFC 9114, section 7.2.4)
+abbrev pub settings_frame : FrameParts
+settings_frame = record { kind = kinds.Settings; payload = settings_bytes local_settings; session = None }
+
+-- the bytes of that frame
+abbrev pub settings_frame_bytes : List ℕ
+settings_frame_bytes = frame_bytes settings_frame
+
+-- why the frame can't go out, as a driver tells it: a stop closes a critical stream
+abbrev pub write_error : ProtoWriteError → DriverError
+write_error write_errors.NotConnected = errors.NotConnected
+write_error write_errors.Stopped = closed_critical
+
+-- what a write of the frame answers, as a driver tells it
+abbrev pub written_answer : Poll (Result (Unit {0}) ProtoWriteError) → Poll (Result (Unit {0}) DriverError)
+written_answer (polls.Ready (Ok through)) = polls.Ready (Ok through)
+written_answer (polls.Ready (Err error)) = polls.Ready (Err (write_error error))
+written_answer polls.Pending = polls.Pending
+
+-- a stream is set, and a write on it isn't closed
+abbrev pub can_send_settings : Option LocalUni → TransportState → Bool
+can_send_settings None t = false
+can_send_settings (Some s) t = can_write_now t s.halves.id
+
+-- no other frame is half written on the stream
+abbrev pub ContinuesSettings : Option LocalUni → Type 0
+ContinuesSettings None = Unit {0}
+ContinuesSettings (Some s) = Continues s.stage.writing settings_frame_bytes
+
+-- the write of the frame that was begun on the stream, or a new one
+abbrev pub settings_write : LocalUni → Pending
+settings_write s = write_of s.stage.writing settings_frame_bytes
+
+-- what a write of the frame on the stream answers
+abbrev pub settings_answer : Option LocalUni → TransportState → Poll (Result (Unit {0}) DriverError)
+settings_answer None t = polls.Pending
+settings_answer (Some s) t = written_answer (pending_answer t.is_open (sending_half_now t s.halves.id) (rest (settings_write s)))
+
+-- the transport then: as much went out as credit covers
+abbrev pub after_settings : Option LocalUni → TransportState → TransportState
+after_settings None t = t
+after_settings (Some s) t = after_write t s.halves.id (rest (settings_write s))
+
+-- the stream then
+abbrev pub with_settings : Option LocalUni → TransportState → Option LocalUni
+with_settings None t = None
+with_settings (Some s) t = Some (record s { stage = record s.stage { writing = after_pending t.is_open (sending_half_now t s.halves.id) (settings_write s) } })
+
+-- ---- the peer's SETTINGS
+
+-- what a watcher answers: the settings, where they came and weren't given
+abbrev pub given_once : Bool → Option Settings → Poll Settings
+given_once given None = polls.Pending
+given_once given (Some settings) = if given then polls.Pending else polls.Ready settings

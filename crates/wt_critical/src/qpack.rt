@@ -1,0 +1,130 @@
+//! The peer's QPACK streams (RFC 9204, section 4.2). Tables aren't used, so that what comes on them is
+//! read and means nothing.
+ghost use Rattle.std.specs.Prelude.{◌≡◌, ◌==◌, None, Ok, Some, is_some, not};
+ghost use Rattle.wt_proto.specs.declared.stream_header.StreamKind.TheVariants as kinds;
+ghost use Rattle.wt_typed.specs.UniHeader.{kind_of};
+ghost use Rattle.wt_critical.specs.Critical.{after_uni_run, qpack_answer};
+
+use crate::shown::{id_of, shown_by_end, shown_or_ended};
+use std::alloc::Global;
+use std::marker::Model;
+use wt_seam::Transport;
+use wt_turn::driver_error::DriverError;
+use wt_turn::poll::Poll;
+use wt_typed::StreamUniRemoteH3;
+use wt_wire::error::OutOfMemory;
+
+/// Reads all that has come of a stream, and tells how it ended.
+fn run_qpack(stream: &mut Option<StreamUniRemoteH3>, t: &mut Transport) -> Poll<DriverError>
+    ensures answer { result ≡ qpack_answer stream.old t.old }
+    ensures state { t.new ≡ after_uni_run stream.old t.old }
+    ensures same { stream.new ≡ stream.old }
+{
+    let Some(stream) = stream else {
+        return Poll::Pending;
+    };
+    let id = id_of(stream);
+    let count = t.unread(id);
+    t.consume(id, count as usize);
+    shown_or_ended(t.is_open(), shown_by_end(t.end(id)))
+}
+
+/// The peer's encoder stream, where it is set.
+#[derive(Drop)]
+pub struct RemoteQPackEncStream {
+    stream: Option<StreamUniRemoteH3>,
+}
+
+impl Model for RemoteQPackEncStream {
+    ghost use Rattle.std.specs.Prelude.{Option};
+    ghost use Rattle.wt_critical.specs.Critical.{RemoteUni};
+
+    ghost Value = { Option RemoteUni };
+
+    ghost view = { λ s. s.stream };
+}
+
+impl RemoteQPackEncStream {
+    /// No stream is set.
+    pub fn empty(_alloc: Global) -> Result<Self, OutOfMemory>
+        ensures { result ≡ Ok None }
+    {
+        Ok(RemoteQPackEncStream { stream: None })
+    }
+
+    /// Whether no stream is set.
+    pub fn is_empty(&self) -> bool
+        ensures { result ≡ not (is_some self.now) }
+    {
+        self.stream.is_none()
+    }
+
+    /// Sets the stream, which `kind` says to be the encoder's.
+    pub fn set_stream(&mut self, stream: StreamUniRemoteH3)
+        requires { kind_of stream.stage.header ≡ kinds.QPackEncoder }
+        ensures { self.new ≡ Some stream }
+    {
+        self.stream = Some(stream);
+    }
+
+    /// Reads all that has come. Ready with `Proto(ClosedCriticalStream)` where the peer ended or reset
+    /// the stream, else with `NotConnected` where the connection isn't open; pending where no stream is
+    /// set.
+    pub fn run(&mut self, t: &mut Transport) -> Result<Poll<DriverError>, OutOfMemory>
+        ensures answer { result ≡ Ok (qpack_answer self.old t.old) }
+        ensures state { t.new ≡ after_uni_run self.old t.old }
+        ensures same { self.new ≡ self.old }
+    {
+        Ok(run_qpack(&mut self.stream, t))
+    }
+}
+
+/// The peer's decoder stream, where it is set.
+#[derive(Drop)]
+pub struct RemoteQPackDecStream {
+    stream: Option<StreamUniRemoteH3>,
+}
+
+impl Model for RemoteQPackDecStream {
+    ghost use Rattle.std.specs.Prelude.{Option};
+    ghost use Rattle.wt_critical.specs.Critical.{RemoteUni};
+
+    ghost Value = { Option RemoteUni };
+
+    ghost view = { λ s. s.stream };
+}
+
+impl RemoteQPackDecStream {
+    /// No stream is set.
+    pub fn empty(_alloc: Global) -> Result<Self, OutOfMemory>
+        ensures { result ≡ Ok None }
+    {
+        Ok(RemoteQPackDecStream { stream: None })
+    }
+
+    /// Whether no stream is set.
+    pub fn is_empty(&self) -> bool
+        ensures { result ≡ not (is_some self.now) }
+    {
+        self.stream.is_none()
+    }
+
+    /// Sets the stream, which `kind` says to be the decoder's.
+    pub fn set_stream(&mut self, stream: StreamUniRemoteH3)
+        requires { kind_of stream.stage.header ≡ kinds.QPackDecoder }
+        ensures { self.new ≡ Some stream }
+    {
+        self.stream = Some(stream);
+    }
+
+    /// Reads all that has come. Ready with `Proto(ClosedCriticalStream)` where the peer ended or reset
+    /// the stream, else with `NotConnected` where the connection isn't open; pending where no stream is
+    /// set.
+    pub fn run(&mut self, t: &mut Transport) -> Result<Poll<DriverError>, OutOfMemory>
+        ensures answer { result ≡ Ok (qpack_answer self.old t.old) }
+        ensures state { t.new ≡ after_uni_run self.old t.old }
+        ensures same { self.new ≡ self.old }
+    {
+        Ok(run_qpack(&mut self.stream, t))
+    }
+}
