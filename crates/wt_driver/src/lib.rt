@@ -1,6 +1,6 @@
 //! The driver of a connection: which streams of the peer's are dequeued and classified, what goes out
-//! at each moment, and how the connection ends. The result that is set once and the channel between two
-//! ends are wt_channel's, and offered again here.
+//! at each moment, and how the connection ends. Offered again here are wt_critical's types of the streams
+//! on which a connection rests, and wt_channel's result that is set once and channel between two ends.
 #![tactic(auto)]
 
 pub mod driver;
@@ -8,6 +8,5 @@ pub mod scan;
 #[cfg(test)]
 mod tests;
 
-pub use wt_channel::bichannel;
-pub use wt_channel::shared_result;
-pub use wt_channel::utils;
+pub use wt_channel::{bichannel, shared_result, utils};
+pub use wt_critical::{connect, qpack, settings};
