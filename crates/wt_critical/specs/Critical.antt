@@ -9,7 +9,6 @@ use Rattle.wt_wire.specs.FrameBytes.{FrameParts, frame_bytes}
 use Rattle.wt_message.specs.declared.settings.Settings.{Settings}
 use Rattle.wt_message.specs.FixedBytes.{local_settings}
 use Rattle.wt_message.specs.Settings.{settings_bytes}
-use Rattle.wt_proto.specs.declared.control_walk.ControlWalk.{ControlWalk}
 use Rattle.wt_proto.specs.declared.session_walk.SessionWalk.{SessionWalk}
 use Rattle.wt_proto.specs.declared.session_walk.SessionWalk.TheVariants as walks
 use Rattle.wt_proto.specs.ControlWalk.{control_walk_of}
