@@ -9,7 +9,6 @@ use Rattle.wt_wire.specs.FrameBytes.{FrameParts, frame_bytes}
 use Rattle.wt_message.specs.declared.settings.Settings.{Settings}
 use Rattle.wt_message.specs.FixedBytes.{local_settings}
 use Rattle.wt_message.specs.Settings.{settings_bytes}
-use Rattle.wt_proto.specs.declared.control_walk.ControlWalk.{ControlWalk}
 use Rattle.wt_proto.specs.declared.session_walk.SessionWalk.{SessionWalk}
 use Rattle.wt_proto.specs.declared.session_walk.SessionWalk.TheVariants as walks
 use Rattle.wt_proto.specs.ControlWalk.{control_walk_of}
@@ -80,49 +79,49 @@ shown_by_walk (walks.Fault code) = Some (errors.Proto code)
 
 -- ---- what a run answers
 
--- what is shown; else the connection may have ended
+-- what is shown comes first, also where the connection has ended; else the run tells that it has (this repository's rule)
 abbrev pub shown_or_ended : Bool → Option DriverError → Poll DriverError
 shown_or_ended open_ (Some error) = polls.Ready error
 shown_or_ended open_ None = if open_ then polls.Pending else polls.Ready errors.NotConnected
 
--- on this end's control stream
+-- what a run answers on this end's control stream: nothing is told where none is set
 abbrev pub local_answer : Option LocalUni → TransportState → Poll DriverError
 local_answer None t = polls.Pending
 local_answer (Some s) t = shown_or_ended t.is_open (shown_by_stop (stop_now t s.halves.id))
 
--- on an encoder or a decoder stream of the peer
+-- what it answers on an encoder or a decoder stream of the peer: tables aren't used, so what comes on it means nothing (this repository's rule)
 abbrev pub qpack_answer : Option RemoteUni → TransportState → Poll DriverError
 qpack_answer None t = polls.Pending
 qpack_answer (Some s) t = shown_or_ended t.is_open (shown_by_end (end_now t s.halves.id))
 
--- on the peer's control stream, of which these bytes were read before
+-- what it answers on the peer's control stream, of which these bytes were read before: by them and all that is unread
 abbrev pub control_answer : Option RemoteUni → TransportState → List ℕ → Poll DriverError
 control_answer None t bytes = polls.Pending
 control_answer (Some s) t bytes = shown_or_ended t.is_open (shown_by_fault (control_walk_of (bytes ++ unread_now t s.halves.id) (end_now t s.halves.id)).fault)
 
--- on the stream of a session, of which these bytes were read before
+-- what it answers on the stream of a session, of which these bytes were read before: by them and all that is unread
 abbrev pub session_answer : Option SessionStream → TransportState → List ℕ → Poll DriverError
 session_answer None t bytes = polls.Pending
 session_answer (Some s) t bytes = shown_or_ended t.is_open (shown_by_walk (session_walk_of (bytes ++ unread_now t s.halves.0.id) (end_now t s.halves.0.id)))
 
 -- ---- what a run leaves
 
--- all that has come of the stream that is set is read
+-- after a run on a unidirectional stream of the peer: all that has come of it is read
 abbrev pub after_uni_run : Option RemoteUni → TransportState → TransportState
 after_uni_run None t = t
 after_uni_run (Some s) t = after_reading_all t s.halves.id
 
--- the same of a session's stream
+-- after a run on the stream of a session: all that has come of it is read
 abbrev pub after_session_run : Option SessionStream → TransportState → TransportState
 after_session_run None t = t
 after_session_run (Some s) t = after_reading_all t s.halves.0.id
 
--- the bytes that are read then
+-- the bytes that were read after a run on a unidirectional stream of the peer
 abbrev pub uni_bytes : Option RemoteUni → TransportState → List ℕ → List ℕ
 uni_bytes None t bytes = bytes
 uni_bytes (Some s) t bytes = bytes ++ unread_now t s.halves.id
 
--- the same of a session's stream
+-- the bytes that were read after a run on the stream of a session
 abbrev pub session_bytes : Option SessionStream → TransportState → List ℕ → List ℕ
 session_bytes None t bytes = bytes
 session_bytes (Some s) t bytes = bytes ++ unread_now t s.halves.0.id

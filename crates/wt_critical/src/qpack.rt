@@ -1,6 +1,6 @@
 //! The peer's QPACK streams (RFC 9204, section 4.2). Tables aren't used, so that what comes on them is
 //! read and means nothing.
-ghost use Rattle.std.specs.Prelude.{◌≡◌, ◌==◌, None, Ok, Some, is_some, not};
+ghost use Rattle.std.specs.Prelude.{◌≡◌, None, Ok, Some, is_some, not};
 ghost use Rattle.wt_proto.specs.declared.stream_header.StreamKind.TheVariants as kinds;
 ghost use Rattle.wt_typed.specs.UniHeader.{kind_of};
 ghost use Rattle.wt_critical.specs.Critical.{after_uni_run, qpack_answer};

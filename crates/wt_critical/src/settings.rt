@@ -1,5 +1,5 @@
 //! The control streams, on which SETTINGS go (RFC 9114, section 6.2.1).
-ghost use Rattle.std.specs.Prelude.{◌≡◌, ◌||◌, ℕ, List, [], IfOk, IfSome, IsTrue, None, Ok, OnErr, OnOk, Some, false, is_some, not, true};
+ghost use Rattle.std.specs.Prelude.{◌≡◌, ◌||◌, ℕ, List, [], IfOk, IsTrue, None, Ok, OnErr, OnOk, Some, false, is_some, not, true};
 ghost use Rattle.wt_wire.specs.FrameBytes.{frame_bytes};
 ghost use Rattle.wt_wire.specs.declared.side.StreamEnd.TheVariants.{Running};
 ghost use Rattle.wt_proto.specs.ControlWalk.{control_decides, control_unfinished, control_walk_of};
@@ -9,7 +9,7 @@ ghost use Rattle.wt_seam.specs.Rules.{after_write, sending_half_now};
 ghost use Rattle.wt_seam.specs.Step.{end_now, unread_now};
 ghost use Rattle.wt_typed.specs.Typed.{can_write_now};
 ghost use Rattle.wt_typed.specs.UniHeader.{kind_of};
-ghost use Rattle.wt_typed.specs.Writing.{Continues, WritesPrefix, after_pending, pending_answer, rest, write_of};
+ghost use Rattle.wt_typed.specs.Writing.{Continues, after_pending, pending_answer, rest, write_of};
 ghost use Rattle.wt_critical.specs.Critical.{ContinuesSettings, after_settings, after_uni_run, can_send_settings, control_answer, given_once, local_answer, settings_answer, shown_by_fault, uni_bytes, with_settings, write_error, written_answer};
 ghost use Rattle.wt_critical.specs.Reading.{WasRead, after_reading_all, read_on};
 
@@ -19,7 +19,6 @@ use std::alloc::Global;
 use std::marker::Model;
 use wt_proto::reader::ControlReader;
 use wt_proto::settings::Settings;
-use wt_proto::stream_header::StreamKind;
 use wt_seam::Transport;
 use wt_turn::driver_error::DriverError;
 use wt_turn::poll::Poll;

@@ -96,7 +96,11 @@ fn remote(rt: &impl Abort, alloc: Global, t: &mut Transport, kind: u8) -> Stream
     upgraded(rt, t, &mut quic)
 }
 
-fn upgraded(rt: &impl Abort, t: &mut Transport, quic: &mut StreamUniRemoteQuic) -> StreamUniRemoteH3 {
+fn upgraded(
+    rt: &impl Abort,
+    t: &mut Transport,
+    quic: &mut StreamUniRemoteQuic,
+) -> StreamUniRemoteH3 {
     let can_receive = t.can_receive(quic.id());
     assert!(rt; can_receive && !quic.is_spent());
     match quic.upgrade(t).expect(rt, "no memory") {
@@ -159,15 +163,27 @@ fn set_local(rt: &impl Abort, s: &mut LocalSettingsStream, stream: StreamUniLoca
     s.set_stream(stream);
 }
 
-fn run_control(rt: &impl Abort, s: &mut RemoteSettingsStream, t: &mut Transport) -> Poll<DriverError> {
+fn run_control(
+    rt: &impl Abort,
+    s: &mut RemoteSettingsStream,
+    t: &mut Transport,
+) -> Poll<DriverError> {
     s.run(t).expect(rt, "no memory")
 }
 
-fn run_encoder(rt: &impl Abort, s: &mut RemoteQPackEncStream, t: &mut Transport) -> Poll<DriverError> {
+fn run_encoder(
+    rt: &impl Abort,
+    s: &mut RemoteQPackEncStream,
+    t: &mut Transport,
+) -> Poll<DriverError> {
     s.run(t).expect(rt, "no memory")
 }
 
-fn run_decoder(rt: &impl Abort, s: &mut RemoteQPackDecStream, t: &mut Transport) -> Poll<DriverError> {
+fn run_decoder(
+    rt: &impl Abort,
+    s: &mut RemoteQPackDecStream,
+    t: &mut Transport,
+) -> Poll<DriverError> {
     s.run(t).expect(rt, "no memory")
 }
 
