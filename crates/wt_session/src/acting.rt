@@ -1,5 +1,5 @@
 //! What a call leads to over a driver alone: its actions, its record, and what an accept or a receive gives.
-ghost use Rattle.std.specs.Prelude.{◌≡◌, IfOk, List, OnOk, ℕ};
+ghost use Rattle.std.specs.Prelude.{◌≡◌, IfOk, OnOk, ℕ};
 ghost use Rattle.wt_driver.specs.Given.{given_by, payload_by};
 ghost use Rattle.wt_driver.specs.Tie.{Follows};
 ghost use Rattle.wt_driver_spec.specs.Asking.{MayBeCalled};
@@ -15,7 +15,6 @@ ghost use Rattle.wt_spec.specs.Driver.{log_and_flush};
 ghost use Rattle.wt_spec.specs.Effect.{log_call, pending_or_failed};
 ghost use Rattle.wt_turn.specs.Log.{Called, Log, Polled, with_actions};
 ghost use Rattle.wt_turn.specs.Records.{record_of};
-ghost use Rattle.wt_turn.specs.declared.reply.Reply.{Reply};
 ghost use Rattle.wt_turn.specs.declared.reply.Reply.TheVariants as replies;
 ghost use Rattle.wt_wire.specs.declared.side.Side.{Side};
 
@@ -30,6 +29,7 @@ use wt_turn::driver_error::DriverError;
 use wt_turn::piece::Piece;
 use wt_turn::poll::Poll;
 use wt_turn::record::Record;
+use wt_turn::reply::Reply;
 use wt_wire::error::OutOfMemory;
 use wt_wire::ids::{SessionId, StreamId};
 
@@ -116,15 +116,15 @@ fn accept_answer(
     d: &Driver,
     given: Option<StreamId>,
 ) -> Result<Poll<Result<StreamId, ConnectionError>>, OutOfMemory>
-    ensures reply { (reply : ℕ → Reply) (side : Side) (log : Log) (taken : ℕ) → Follows side d.now log taken → IfOk result (λ p. poll_reply reply p ≡ reply_or reply (pending_or_failed side log) given) }
+    ensures reply { (kind : ℕ → Reply) (side : Side) (log : Log) (taken : ℕ) → Follows side d.now log taken → IfOk result (λ p. poll_reply kind p ≡ reply_or kind (pending_or_failed side log) given) }
     ensures given { IfOk result (λ p. given_in p ≡ given) }
 {
-    if let Some(id) = given {
-        return Ok(Poll::Ready(Ok(id)));
-    }
-    match failure(alloc, d)? {
-        Some(error) => Ok(Poll::Ready(Err(error))),
-        None => Ok(Poll::Pending),
+    match given {
+        Some(id) => Ok(Poll::Ready(Ok(id))),
+        None => match failure(alloc, d)? {
+            Some(error) => Ok(Poll::Ready(Err(error))),
+            None => Ok(Poll::Pending),
+        },
     }
 }
 
@@ -192,12 +192,12 @@ fn receive_answer(
 ) -> Result<Poll<Result<Piece, ConnectionError>>, OutOfMemory>
     ensures { (side : Side) (log : Log) (taken : ℕ) → Follows side d.now log taken → IfOk result (λ p. poll_reply replies.Datagram p ≡ reply_or replies.Datagram (pending_or_failed side log) payload) }
 {
-    if let Some(payload) = payload {
-        return Ok(Poll::Ready(Ok(payload)));
-    }
-    match failure(alloc, d)? {
-        Some(error) => Ok(Poll::Ready(Err(error))),
-        None => Ok(Poll::Pending),
+    match payload {
+        Some(payload) => Ok(Poll::Ready(Ok(payload))),
+        None => match failure(alloc, d)? {
+            Some(error) => Ok(Poll::Ready(Err(error))),
+            None => Ok(Poll::Pending),
+        },
     }
 }
 
@@ -222,28 +222,59 @@ pub fn receive(
 
 // ---- plans
 
-/// Does what is planned, whatever its reply.
+/// The reply of an accept of a unidirectional stream.
+pub(crate) fn uni_reply(answer: Poll<Result<StreamId, ConnectionError>>) -> Reply
+    ensures { result ≡ poll_reply replies.Uni answer }
+{
+    match answer {
+        Poll::Ready(Ok(id)) => Reply::Uni(id),
+        Poll::Ready(Err(error)) => Reply::Failed(error),
+        Poll::Pending => Reply::Pending,
+    }
+}
+
+/// The reply of an accept of a bidirectional stream.
+pub(crate) fn bi_reply(answer: Poll<Result<StreamId, ConnectionError>>) -> Reply
+    ensures { result ≡ poll_reply replies.Bi answer }
+{
+    match answer {
+        Poll::Ready(Ok(id)) => Reply::Bi(id),
+        Poll::Ready(Err(error)) => Reply::Failed(error),
+        Poll::Pending => Reply::Pending,
+    }
+}
+
+/// The reply of a receive.
+pub(crate) fn datagram_reply(answer: Poll<Result<Piece, ConnectionError>>) -> Reply
+    ensures { result ≡ poll_reply replies.Datagram answer }
+{
+    match answer {
+        Poll::Ready(Ok(payload)) => Reply::Datagram(payload),
+        Poll::Ready(Err(error)) => Reply::Failed(error),
+        Poll::Pending => Reply::Pending,
+    }
+}
+
+/// Does what is planned, and tells the reply.
 ///
 /// # Errors
 ///
 /// `OutOfMemory` where a part of it found no memory.
-pub fn carry_out(alloc: Global, d: &mut Driver, plan: Plan) -> Result<(), OutOfMemory>
+pub fn perform(alloc: Global, d: &mut Driver, plan: Plan) -> Result<Reply, OutOfMemory>
+    ensures reply { (side : Side) (log : Log) (taken : ℕ) → Follows side d.old log taken → IfOk result (λ r. r ≡ (perform side log (planned plan)).reply) }
     ensures log { (side : Side) (log : Log) (taken : ℕ) → Follows side d.old log taken → MayPerform side log (planned plan) → OnOk result (Follows side d.new (perform side log (planned plan)).log taken) }
 {
     match plan {
-        Plan::Step { own, call, .. } => step(d, own, &call),
-        Plan::Establish { own, id, at } => establish(d, own, id, at),
-        Plan::AcceptUni(session) => {
-            accept_uni(alloc, d, session)?;
-            Ok(())
+        Plan::Step { own, call, reply } => {
+            step(d, own, &call)?;
+            Ok(reply)
         }
-        Plan::AcceptBi(session) => {
-            accept_bi(alloc, d, session)?;
-            Ok(())
+        Plan::Establish { own, id, at } => {
+            establish(d, own, id, at)?;
+            Ok(Reply::Session(id))
         }
-        Plan::Receive(session) => {
-            receive(alloc, d, session)?;
-            Ok(())
-        }
+        Plan::AcceptUni(session) => Ok(uni_reply(accept_uni(alloc, d, session)?)),
+        Plan::AcceptBi(session) => Ok(bi_reply(accept_bi(alloc, d, session)?)),
+        Plan::Receive(session) => Ok(datagram_reply(receive(alloc, d, session)?)),
     }
 }

@@ -5,7 +5,7 @@ ghost use Rattle.wt_driver_spec.specs.Asking.{MayBeCalled};
 ghost use Rattle.wt_plan.specs.Planned.{planned};
 ghost use Rattle.wt_plan.specs.Table.{KeepsCalls};
 ghost use Rattle.wt_seam_spec.specs.Streams.{peer_bi, peer_uni};
-ghost use Rattle.wt_session.specs.Given.{given_in, poll_reply, with_given};
+ghost use Rattle.wt_session.specs.Given.{given_in, with_given};
 ghost use Rattle.wt_session_acts.specs.Performing.{MayPerform, MaySendAll};
 ghost use Rattle.wt_session_spec.specs.Plan.{perform};
 ghost use Rattle.wt_session_spec.specs.Plan as session;
@@ -23,7 +23,6 @@ use wt_plan::plan::Plan;
 use wt_plan::session_table::SessionTable;
 use wt_turn::action::Action;
 use wt_turn::connection_error::ConnectionError;
-use wt_turn::piece::Piece;
 use wt_turn::poll::Poll;
 use wt_turn::record::Record;
 use wt_turn::reply::Reply;
@@ -64,36 +63,6 @@ fn given_in(answer: &Poll<Result<StreamId, ConnectionError>>) -> Option<StreamId
     }
 }
 
-fn uni_reply(answer: Poll<Result<StreamId, ConnectionError>>) -> Reply
-    ensures { result ≡ poll_reply replies.Uni answer }
-{
-    match answer {
-        Poll::Ready(Ok(id)) => Reply::Uni(id),
-        Poll::Ready(Err(error)) => Reply::Failed(error),
-        Poll::Pending => Reply::Pending,
-    }
-}
-
-fn bi_reply(answer: Poll<Result<StreamId, ConnectionError>>) -> Reply
-    ensures { result ≡ poll_reply replies.Bi answer }
-{
-    match answer {
-        Poll::Ready(Ok(id)) => Reply::Bi(id),
-        Poll::Ready(Err(error)) => Reply::Failed(error),
-        Poll::Pending => Reply::Pending,
-    }
-}
-
-fn datagram_reply(answer: Poll<Result<Piece, ConnectionError>>) -> Reply
-    ensures { result ≡ poll_reply replies.Datagram answer }
-{
-    match answer {
-        Poll::Ready(Ok(payload)) => Reply::Datagram(payload),
-        Poll::Ready(Err(error)) => Reply::Failed(error),
-        Poll::Pending => Reply::Pending,
-    }
-}
-
 /// The session's next unidirectional stream is given.
 fn accept_uni(
     alloc: Global,
@@ -107,7 +76,7 @@ fn accept_uni(
 {
     let answer = acting::accept_uni(alloc, d, session)?;
     settle(s, given_in(&answer))?;
-    Ok(uni_reply(answer))
+    Ok(acting::uni_reply(answer))
 }
 
 /// The session's next bidirectional stream is given.
@@ -123,7 +92,7 @@ fn accept_bi(
 {
     let answer = acting::accept_bi(alloc, d, session)?;
     settle(s, given_in(&answer))?;
-    Ok(bi_reply(answer))
+    Ok(acting::bi_reply(answer))
 }
 
 /// The session's next datagram is given.
@@ -139,7 +108,7 @@ fn receive(
 {
     let answer = acting::receive(alloc, d, session)?;
     settle(s, None)?;
-    Ok(datagram_reply(answer))
+    Ok(acting::datagram_reply(answer))
 }
 
 /// A step, and the session is told.
