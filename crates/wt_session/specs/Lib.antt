@@ -1,7 +1,4 @@
 pub mod ConnectOptions
-pub mod Datagrams
-pub mod Halves
-pub mod Lending
 pub mod Kept
 pub mod MayPlan
 pub mod Keeping

@@ -8,8 +8,8 @@ ghost use Rattle.wt_session.specs.MayPlan.{MayPlan};
 ghost use Rattle.wt_session_spec.specs.Plans.{plan_of};
 
 pub mod facts;
-mod handshake;
-mod heads;
+pub mod handshake;
+pub mod heads;
 mod in_session;
 mod receiving;
 mod sending;

@@ -173,7 +173,7 @@ fn connected(
 }
 
 /// A connect goes on: the connection, then the peer's SETTINGS, then the request and its response.
-fn connect(
+pub fn connect(
     alloc: Global,
     t: &Transport,
     reserved: &Option<Text>,

@@ -1,24 +1,14 @@
-use Rattle.std.proofs.Common.{◌∙◌, subst, sym}
-use Rattle.wt_session.proofs.Gives.{accept_kept, accept_log, accept_told}
+use Rattle.std.proofs.Common.{◌∙◌}
+use Rattle.wt_session.proofs.Gives.{accept_kept}
 use Rattle.wt_session.proofs.perform.accept_uni.Goals as goal
 use Rattle.wt_seam_spec.specs.Streams.{peer_uni}
-use Rattle.wt_driver.specs.Tie.{Follows}
-use Rattle.wt_driver_spec.specs.Due.{accepted}
 use Rattle.wt_turn.specs.declared.reply.Reply.TheVariants as replies
 
 pub returns-clause-reply : goal.returns-clause-reply
-returns-clause-reply c = λ side log taken r.
-    accept_told side replies.Uni (peer_uni side) c.args.session log c.given_by-given.result c.in_ok-reply.reply
-    (c.in_ok-reply.ensures side (accepted side (peer_uni side) log c.args.session).state taken (c.in_ok-accept_uni_id.ensures.log side log taken r))
-    (c.given_by-given.ensures ∙ c.in_ok-accept_uni_id.ensures.given side log taken r)
-
-pub returns-clause-log : goal.returns-clause-log
-returns-clause-log c = λ side log taken r.
-    subst (λ g. Follows side c.settle.new.d g taken) (sym (accept_log side replies.Uni (peer_uni side) c.args.session log))
-    (c.in_ok-settle.ensures.log side (accepted side (peer_uni side) log c.args.session).state taken (c.in_ok-accept_uni_id.ensures.log side log taken r))
+returns-clause-reply c = λ side log taken r. c.uni_reply.ensures ∙ c.in_ok-answer.ensures.reply side log taken r
 
 pub returns-clause-session : goal.returns-clause-session
 returns-clause-session c = λ side log taken r k.
-    accept_kept side replies.Uni (peer_uni side) c.args.session log c.args.s.now c.settle.new.s c.given_by-given.result
-    (c.given_by-given.ensures ∙ c.in_ok-accept_uni_id.ensures.given side log taken r)
-    (λ calls x. c.in_ok-settle.ensures.session calls x) k
+    accept_kept side replies.Uni (peer_uni side) c.args.session log c.args.s.now c.settle.new.s c.given_in.result
+    (c.given_in.ensures ∙ c.in_ok-answer.ensures.given side log taken r)
+    (λ calls x. c.in_ok-settle.ensures calls x) k

@@ -1,10 +1,10 @@
 -- The halves that a stream lends.
 use Rattle.std.specs.Borrow.{Lends, MutBor, Fml}
 use Rattle.std.specs.Prelude.{ℕ}
-use Rattle.wt_session.specs.Halves.{Halves}
-use Rattle.wt_session.specs.contracts.bi_stream.BiStream as both
-use Rattle.wt_session.specs.contracts.bi_stream.RecvStream as recv
-use Rattle.wt_session.specs.contracts.bi_stream.SendStream as send
+use Rattle.wt_connection.specs.Halves.{Halves}
+use Rattle.wt_connection.specs.contracts.bi_stream.BiStream as both
+use Rattle.wt_connection.specs.contracts.recv_stream.RecvStream as recv
+use Rattle.wt_connection.specs.contracts.send_stream.SendStream as send
 
 -- what is last left in the sending half is the stream's then, and the receiving half stays
 abbrev pub LendsSend : MutBor Halves → MutBor ℕ → Fml

@@ -1,6 +1,6 @@
 use Rattle.std.proofs.Common.{◌++◌, ◌∙◌, ◌∷◌, ◌≡◌, ap, subst, sym}
 use Rattle.wt_session.proofs.Gives.{all_out, may_next, one_behind, one_more}
-use Rattle.wt_session.proofs.perform.act_all.Goals as goal
+use Rattle.wt_session.proofs.acting.act_all.Goals as goal
 use Rattle.wt_session_acts.specs.Performing.{MaySendAll}
 use Rattle.wt_driver.specs.Tie.{Follows}
 use Rattle.wt_turn.specs.Log.{with_actions}

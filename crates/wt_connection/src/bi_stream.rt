@@ -1,71 +1,12 @@
-//! The halves of a stream, and both of them as one.
+//! Both halves of a stream as one.
 ghost use Rattle.std.specs.Prelude.{◌≡◌};
 ghost use Rattle.std.specs.Borrow.{sem};
-ghost use Rattle.wt_session.specs.Halves.{Halves};
-ghost use Rattle.wt_session.specs.Lending.{LendsRecv, LendsSend};
+ghost use Rattle.wt_connection.specs.Halves.{Halves};
+ghost use Rattle.wt_connection.specs.Lending.{LendsRecv, LendsSend};
 
+use crate::recv_stream::RecvStream;
+use crate::send_stream::SendStream;
 use std::marker::Model;
-use wt_wire::ids::StreamId;
-
-/// The sending half of a stream. Contracts see the stream's id.
-#[derive(Debug, Drop)]
-pub struct SendStream {
-    id: StreamId,
-}
-
-impl Model for SendStream {
-    ghost use Rattle.std.specs.Prelude.{ℕ};
-
-    ghost Value = { ℕ };
-
-    ghost view = { λ half. half.id };
-}
-
-impl SendStream {
-    /// The sending half of this stream.
-    pub fn new(id: StreamId) -> SendStream
-        ensures { result ≡ id }
-    {
-        SendStream { id }
-    }
-
-    /// The stream's id.
-    pub fn id(&self) -> StreamId
-        ensures { result ≡ self.now }
-    {
-        self.id
-    }
-}
-
-/// The receiving half of a stream. Contracts see the stream's id.
-#[derive(Debug, Drop)]
-pub struct RecvStream {
-    id: StreamId,
-}
-
-impl Model for RecvStream {
-    ghost use Rattle.std.specs.Prelude.{ℕ};
-
-    ghost Value = { ℕ };
-
-    ghost view = { λ half. half.id };
-}
-
-impl RecvStream {
-    /// The receiving half of this stream.
-    pub fn new(id: StreamId) -> RecvStream
-        ensures { result ≡ id }
-    {
-        RecvStream { id }
-    }
-
-    /// The stream's id.
-    pub fn id(&self) -> StreamId
-        ensures { result ≡ self.now }
-    {
-        self.id
-    }
-}
 
 /// A sending and a receiving half as one. Contracts see the ids of both.
 #[derive(Debug, Drop)]
@@ -75,7 +16,7 @@ pub struct BiStream {
 }
 
 impl Model for BiStream {
-    ghost use Rattle.wt_session.specs.Halves.{Halves};
+    ghost use Rattle.wt_connection.specs.Halves.{Halves};
 
     ghost Value = { Halves };
 

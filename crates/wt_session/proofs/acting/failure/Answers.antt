@@ -1,7 +1,7 @@
 use Rattle.std.proofs.Common.{◌∙◌, ap, sym}
 use Rattle.wt_inbox.specs.State.{InboxState}
 use Rattle.wt_session.proofs.Gives.{failed_now}
-use Rattle.wt_session.proofs.perform.pending_or_failed.Goals as goal
+use Rattle.wt_session.proofs.acting.failure.Goals as goal
 
 pub returns : goal.returns
 returns c = λ side log taken f.

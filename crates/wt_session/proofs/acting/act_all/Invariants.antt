@@ -1,5 +1,5 @@
 use Rattle.std.proofs.Common.{◌++◌, ◌≡◌, ℕ}
-use Rattle.wt_session.proofs.perform.act_all.Given as goal
+use Rattle.wt_session.proofs.acting.act_all.Given as goal
 use Rattle.wt_session_acts.specs.Performing.{MaySendAll}
 use Rattle.wt_driver.specs.Tie.{Follows}
 use Rattle.wt_turn.specs.Log.{Log, with_actions}

@@ -1,7 +1,7 @@
 //! The datagrams of a session (RFC 9297, section 2.1).
 ghost use Rattle.std.specs.Prelude.{◌≡◌, ◌/◌, IfErr, IfOk, Ok, length};
 ghost use Rattle.wt_message.specs.Datagram.{datagram_bytes, datagram_of};
-ghost use Rattle.wt_session.specs.Datagrams.{session_datagram};
+ghost use Rattle.wt_connection.specs.Datagrams.{session_datagram};
 ghost use Rattle.wt_wire.specs.Varint.{varint_bytes};
 ghost use Rattle.wt_wire.specs.declared.error.ErrorCode.TheVariants as errors;
 
@@ -23,7 +23,7 @@ pub struct Datagram {
 
 impl Model for Datagram {
     ghost use Rattle.std.specs.Prelude.{◌≡◌, Ok, drop};
-    ghost use Rattle.wt_session.specs.Datagrams.{SessionDatagram, session_datagram};
+    ghost use Rattle.wt_connection.specs.Datagrams.{SessionDatagram, session_datagram};
 
     ghost Value = { SessionDatagram };
 

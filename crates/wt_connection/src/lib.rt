@@ -1,0 +1,11 @@
+//! The public types of a WebTransport session, over a driver: the session that is established, the
+//! streams that it opens and accepts, their halves, and its datagrams.
+#![tactic(auto)]
+
+pub mod bi_stream;
+pub mod connection;
+pub mod datagram;
+pub mod recv_stream;
+pub mod send_stream;
+#[cfg(test)]
+mod tests;
