@@ -6,3 +6,4 @@ pub mod LawsHold
 pub mod ProgramLaws
 pub mod GenerateLaws
 pub mod SummaryLaws
+pub mod CommandLaws

@@ -1,7 +1,8 @@
 -- What the words of the program ask for, and the script that it runs then (this repository's own).
-use Rattle.std.specs.Prelude.{ℕ, ◌&&◌, nat_lt, List, [], ◌∷◌, codes, Option, Some, None, Result, if◌then◌else◌}
+use Rattle.std.specs.Prelude.{ℕ, ◌&&◌, nat_lt, List, [], ◌∷◌, ◌++◌, codes, Option, Some, None, Result, Ok, Err, if◌then◌else◌}
 use Rattle.std.specs.Option.{option_map, option_and_then}
 use Rattle.wt_wire.specs.declared.side.Side.TheVariants.{Server}
+use Rattle.wt_turn.specs.declared.turn.Turn.{Turn}
 use Rattle.wt_script.specs.declared.script.Script.{Script}
 use Rattle.wt_script.specs.declared.script.ScriptRefused.{ScriptRefused}
 use Rattle.wt_script.specs.Numbers.{count_of}
@@ -26,8 +27,17 @@ command_of (word ∷ []) = if is_word word (codes "trace") then Some Trace else 
 command_of (word ∷ streams ∷ []) = if is_word word (codes "large") then option_map Large (streams_of streams) else None
 command_of (word ∷ streams ∷ other ∷ more) = None
 
--- the script that a command makes of an input: the input is a script, or lines of turns that follow the generated ones of a
--- server
+-- the turns that lines spell, none of which tells a side, as a server's script; the first line that spells none refuses it
+abbrev pub server_turns : List ℕ → Result Script ScriptRefused
+server_turns input = with_lines (record { side = Server; turns = [] }) input
+
+-- a script that was read, with these turns before its own
+abbrev pub with_first : List Turn → Result Script ScriptRefused → Result Script ScriptRefused
+with_first first (Err refused) = Err refused
+with_first first (Ok script) = Ok (record { side = script.side; turns = first ++ script.turns })
+
+-- the script that a command makes of an input: of a trace the script that it is, else the generated turns of a server and,
+-- after them, those of its lines
 unfoldable pub command_script : Command → List ℕ → Result Script ScriptRefused
 command_script Trace input = script_of input
-command_script (Large streams) input = with_lines (record { side = Server; turns = generated streams }) input
+command_script (Large streams) input = with_first (generated streams) (server_turns input)

@@ -5,7 +5,7 @@ ghost use Rattle.std.specs.Io.KnownBytes.{Consumes, Appends, Keeps, IsAtEnd};
 ghost use Rattle.wt_spec.specs.Answers.{run};
 ghost use Rattle.wt_trace.specs.Outside.{Rose, AppendsPart, Passes};
 ghost use Rattle.wt_script.specs.Print.{answer_line, print};
-ghost use Rattle.wt_trace.specs.Command.{command_of, command_script};
+ghost use Rattle.wt_trace.specs.Command.{command_of, command_script, server_turns, with_first};
 ghost use Rattle.wt_trace.specs.Summary.{summary_line, summary_of};
 ghost use Rattle.wt_trace.specs.Program.{is_cut_short, is_script_status, is_input_status, is_run_status, script_limit, usage, refused_at, stop_line, finished_text, stopped_text, run_outcome, input_outcome, asked_outcome, outcome, ReadsFew, AnswersInput, AnswersKeepLaws};
 
@@ -18,6 +18,7 @@ use std::alloc::Global;
 use wt_script::print::push_answer;
 use wt_script::script::{Script, ScriptRefused, read_more_turns, read_script};
 use wt_turn::answer::Answer;
+use wt_turn::turn::Turns;
 use wt_wire::error::OutOfMemory;
 use wt_wire::side::Side;
 
@@ -233,7 +234,7 @@ fn answer_input<K: Sink>(
         return Ok(7);
     }
     match script_for(alloc, command, input)? {
-        Ok(script) => answer_script(alloc, command, &script, sink),
+        Ok(script) => answer_script(alloc, &command, &script, sink),
         Err(refused) => {
             write_refusal(alloc, refused.line, sink)?;
             Ok(2)
@@ -253,13 +254,26 @@ fn script_for(
     match command {
         Command::Trace => read_script(alloc, input),
         Command::Large(streams) => {
-            let begun = Script {
-                side: Side::Server,
-                turns: generate(alloc, streams.into_u32())?,
-            };
-            read_more_turns(alloc, begun, input)
+            let generated = generate(alloc, streams.into_u32())?;
+            turns_after(alloc, generated, input)
         }
     }
+}
+
+/// A server's script: these turns, and then those of the lines of the input.
+#[tactic(auto, using(crate::proofs::CommandLaws::first_come_first))]
+fn turns_after(
+    alloc: Global,
+    first: Turns,
+    input: &[u8],
+) -> Result<Result<Script, ScriptRefused>, OutOfMemory>
+    ensures { IfOk result (λ r. r ≡ with_first first (server_turns input.now)) }
+{
+    let begun = Script {
+        side: Side::Server,
+        turns: first,
+    };
+    read_more_turns(alloc, begun, input)
 }
 
 fn write_refusal<K: Sink>(alloc: Global, line: u64, sink: &mut K) -> Result<(), CutShort>
@@ -290,13 +304,13 @@ fn number_line(
 
 fn answer_script<K: Sink>(
     alloc: Global,
-    command: Command,
+    command: &Command,
     script: &Script,
     sink: &mut K,
 ) -> Result<u8, CutShort>
-    ensures status { IfOk result (λ status. status ≡ (run_outcome command (run script.now.side script.now.turns)).status) }
-    ensures text { OnOk result (Appends (K.took sink.old) (K.took sink.new) (run_outcome command (run script.now.side script.now.turns)).text) }
-    ensures part { AppendsPart (K.took sink.old) (K.took sink.new) (run_outcome command (run script.now.side script.now.turns)).text }
+    ensures status { IfOk result (λ status. status ≡ (run_outcome command.now (run script.now.side script.now.turns)).status) }
+    ensures text { OnOk result (Appends (K.took sink.old) (K.took sink.new) (run_outcome command.now (run script.now.side script.now.turns)).text) }
+    ensures part { AppendsPart (K.took sink.old) (K.took sink.new) (run_outcome command.now (run script.now.side script.now.turns)).text }
     ensures told { IfOk result (λ status. IsTrue (is_script_status status)) }
     ensures same { result ≢ Err CutShort.SinkFailed → K.faults sink.new ≡ K.faults sink.old }
     ensures fault { result ≡ Err CutShort.SinkFailed → Rose (K.faults sink.old) (K.faults sink.new) }
@@ -318,12 +332,12 @@ fn answer_script<K: Sink>(
 /// Writes what the command says of the answers to a whole run.
 fn write_finished<K: Sink>(
     alloc: Global,
-    command: Command,
+    command: &Command,
     answers: &[Answer],
     sink: &mut K,
 ) -> Result<(), CutShort>
-    ensures text { OnOk result (Appends (K.took sink.old) (K.took sink.new) (finished_text command answers.now)) }
-    ensures part { AppendsPart (K.took sink.old) (K.took sink.new) (finished_text command answers.now) }
+    ensures text { OnOk result (Appends (K.took sink.old) (K.took sink.new) (finished_text command.now answers.now)) }
+    ensures part { AppendsPart (K.took sink.old) (K.took sink.new) (finished_text command.now answers.now) }
     ensures same { result ≢ Err CutShort.SinkFailed → K.faults sink.new ≡ K.faults sink.old }
     ensures fault { result ≡ Err CutShort.SinkFailed → Rose (K.faults sink.old) (K.faults sink.new) }
     ensures causes { result ≢ Err CutShort.SourceFailed }
@@ -350,14 +364,14 @@ fn write_summary<K: Sink>(alloc: Global, answers: &[Answer], sink: &mut K) -> Re
 /// that turn.
 fn write_stopped<K: Sink>(
     alloc: Global,
-    command: Command,
+    command: &Command,
     answers: &[Answer],
     at: u64,
     sink: &mut K,
 ) -> Result<(), CutShort>
     requires { at ≡ length answers.now }
-    ensures text { OnOk result (Appends (K.took sink.old) (K.took sink.new) (stopped_text command answers.now ++ stop_line answers.now (codes " unlawful\n"))) }
-    ensures part { AppendsPart (K.took sink.old) (K.took sink.new) (stopped_text command answers.now ++ stop_line answers.now (codes " unlawful\n")) }
+    ensures text { OnOk result (Appends (K.took sink.old) (K.took sink.new) (stopped_text command.now answers.now ++ stop_line answers.now (codes " unlawful\n"))) }
+    ensures part { AppendsPart (K.took sink.old) (K.took sink.new) (stopped_text command.now answers.now ++ stop_line answers.now (codes " unlawful\n")) }
     ensures same { result ≢ Err CutShort.SinkFailed → K.faults sink.new ≡ K.faults sink.old }
     ensures fault { result ≡ Err CutShort.SinkFailed → Rose (K.faults sink.old) (K.faults sink.new) }
     ensures causes { result ≢ Err CutShort.SourceFailed }

@@ -72,8 +72,13 @@ pub fn push_number(
 fn streams_accepted(answers: &[Answer]) -> u64
     ensures { result ≡ count_by (λ answer. gives_uni answer.reply) answers.now }
 {
-    let count = answers.iter().filter(|answer| is_stream(&answer.reply)).count();
-    count as u64
+    let mut count: u64 = 0;
+    for answer in answers {
+        if is_stream(&answer.reply) {
+            count += 1;
+        }
+    }
+    count
 }
 
 /// Whether a unidirectional stream was accepted.
