@@ -1,7 +1,8 @@
 //! The program over standard input and output.
 //!
-//! `wt_cli trace` reads a script, and writes a line for each answer to its turns. The exit status
-//! tells how that went: see [`run_program`](wt_trace::run_program).
+//! `wt_cli trace` reads a script, and writes a line for each answer to its turns. `wt_cli large <n>` runs a
+//! generated run with so many streams and then the turns that it reads, and writes a line that sums up the
+//! answers. The exit status tells how that went: see [`run_program`](wt_trace::run_program).
 #![tactic(auto)]
 
 mod ended;

@@ -66,3 +66,7 @@ no_lines = record { side = None; turns = [] }
 -- the side and the turns of a script, or the first line that is refused
 abbrev pub script_of : List ℕ → Result Script ScriptRefused
 script_of script = read_lines 1 no_lines (lines script)
+
+-- a script that has begun, and after its turns those of these lines, which tell no side and count from 1
+abbrev pub with_lines : Script → List ℕ → Result Script ScriptRefused
+with_lines begun input = read_lines 1 (record { side = Some begun.side; turns = begun.turns }) (lines input)

@@ -1,15 +1,15 @@
 //! Scripts: a side and its turns, a line each.
 ghost use Rattle.std.specs.Prelude.{◌≡◌, ◌+◌, ◌<◌, ◌^◌, [], IfOk, Some, None, Ok, if◌then◌else◌};
 ghost use Rattle.std.specs.Option.{option_map};
-ghost use Rattle.wt_script.specs.Words.{lines_from};
-ghost use Rattle.wt_script.specs.Script.{no_lines, read_lines, script_at_end, script_of, side_of, turn_of, with_line, with_side, with_turn};
+ghost use Rattle.wt_script.specs.Words.{lines, lines_from};
+ghost use Rattle.wt_script.specs.Script.{no_lines, read_lines, script_at_end, script_of, side_of, turn_of, with_line, with_lines, with_side, with_turn};
 
 mod addresses;
 mod calls;
 mod events;
 mod headers;
 pub mod lines;
-mod numbers;
+pub mod numbers;
 mod pairs;
 mod words;
 
@@ -143,7 +143,34 @@ pub fn read_script(
 ) -> Result<Result<Script, ScriptRefused>, OutOfMemory>
     ensures { IfOk result (λ r. r ≡ script_of script.now) }
 {
-    let mut draft = Draft::new(alloc);
+    read_on(alloc, Draft::new(alloc), script)
+}
+
+/// Reads lines of turns after a script that has begun: none of them tells the side. They are lines as
+/// those of a script, and count from 1.
+pub fn read_more_turns(
+    alloc: Global,
+    begun: Script,
+    input: &[u8],
+) -> Result<Result<Script, ScriptRefused>, OutOfMemory>
+    ensures { IfOk result (λ r. r ≡ with_lines begun input.now) }
+{
+    let draft = Draft {
+        side: Some(begun.side),
+        turns: begun.turns,
+    };
+    read_on(alloc, draft, input)
+}
+
+/// Reads further lines, the first of which has the number 1.
+fn read_on(
+    alloc: Global,
+    draft: Draft,
+    script: &[u8],
+) -> Result<Result<Script, ScriptRefused>, OutOfMemory>
+    ensures { IfOk result (λ r. r ≡ read_lines 1 draft (lines script.now)) }
+{
+    let mut draft = draft;
     let mut number: u64 = 1;
     let mut start = 0;
     for (at, byte) in script.iter().enumerate() {

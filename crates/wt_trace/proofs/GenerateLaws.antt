@@ -1,9 +1,7 @@
--- How long a run that is made by rule is, and what its answers come to.
+-- How long a run that is made by rule is.
 use Rattle.std.proofs.Common.{◌≡◌, ℕ, suc, zero, ◌+◌, ◌*◌, List, [], ◌∷◌, ◌++◌, length, arith, length-append, refl, sym, ap, ◌∙◌, ◌%◌, append_assoc}
-use Rattle.std.proofs.lemmas.Grind.{common_steps}
 use Rattle.std.proofs.lemmas.List.FromFn.{map-range_with_len_more}
-use Rattle.wt_turn.specs.declared.answer.Answer.{Answer}
-use Rattle.wt_trace.specs.Generate.{all_stream_turns, counted_bytes, generated, session_turns, stream_turns, summary_of}
+use Rattle.wt_trace.specs.Generate.{all_stream_turns, counted_bytes, generated, session_turns, stream_turns}
 
 -- one byte more
 pub bytes_more : (number count : ℕ) (front : List ℕ) →
@@ -22,12 +20,3 @@ pub length_of_generated : (streams : ℕ) → length (generated streams) ≡ 7 +
 length_of_generated streams =
     let streams_are = length_of_streams streams in
     omega (arith, length-append session_turns (all_stream_turns streams))
-
-pub streams_add_up : (first later : List Answer) → (summary_of (first ++ later)).streams ≡ (summary_of first).streams + (summary_of later).streams
-streams_add_up first later = grind (arith, common_steps)
-
-pub bytes_add_up : (first later : List Answer) → (summary_of (first ++ later)).bytes ≡ (summary_of first).bytes + (summary_of later).bytes
-bytes_add_up first later = grind (arith, common_steps)
-
-pub turns_add_up : (first later : List Answer) → (summary_of (first ++ later)).turns ≡ (summary_of first).turns + (summary_of later).turns
-turns_add_up first later = length-append first later

@@ -5,3 +5,5 @@ pub mod CutLaws
 pub mod LawsHold
 pub mod ProgramLaws
 pub mod GenerateLaws
+pub mod SummaryLaws
+pub mod CommandLaws

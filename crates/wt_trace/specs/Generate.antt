@@ -1,14 +1,11 @@
--- A run that is made by rule: a session, and then streams of the peer, each accepted and read to its end; and what its
--- answers come to (this repository's own).
-use Rattle.std.specs.Prelude.{ℕ, zero, suc, ◌+◌, ◌*◌, ◌%◌, Bool, true, false, List, [], ◌∷◌, ◌++◌, length, map, count_by, sum_by, codes, Some}
+-- A run that is made by rule: a session, and then streams of the peer, each accepted and read to its end (this
+-- repository's own).
+use Rattle.std.specs.Prelude.{ℕ, zero, suc, ◌+◌, ◌*◌, ◌%◌, List, [], ◌∷◌, ◌++◌, map, codes}
 use Rattle.std.specs.List.{range_with_len}
 use Rattle.wt_message.specs.FixedBytes.{headers_frame_bytes}
 use Rattle.wt_message.specs.Requests.{request_fields}
-use Rattle.wt_turn.specs.declared.answer.Answer.{Answer}
 use Rattle.wt_turn.specs.declared.call.Call.TheVariants as calls
 use Rattle.wt_turn.specs.declared.datagram_fact.DatagramFact.TheVariants.{Limit}
-use Rattle.wt_turn.specs.declared.reply.Reply.{Reply}
-use Rattle.wt_turn.specs.declared.reply.Reply.TheVariants as replies
 use Rattle.wt_turn.specs.declared.turn.Turn.{Turn}
 use Rattle.wt_turn.specs.declared.turn.Turn.TheVariants as turns
 
@@ -65,27 +62,3 @@ all_stream_turns (suc number) = all_stream_turns number ++ stream_turns number
 -- the whole run with so many streams
 abbrev pub generated : ℕ → List Turn
 generated streams = session_turns ++ all_stream_turns streams
-
--- what answers come to: how many streams were accepted, how many bytes were read, and how many turns were answered
-pub record Summary : Type 0 where
-  pub streams : ℕ
-  pub bytes : ℕ
-  pub turns : ℕ
-
--- the reply gives a unidirectional stream
-abbrev pub gives_uni : Reply → Bool
-gives_uni (replies.Uni id) = true
-gives_uni _ = false
-
--- how many bytes the reply gives
-abbrev pub bytes_given : Reply → ℕ
-bytes_given (replies.Read (Some piece)) = length piece
-bytes_given _ = 0
-
--- the line that sums up the answers to a run
-abbrev pub summary_of : List Answer → Summary
-summary_of answers = record {
-  streams = count_by (λ answer. gives_uni answer.reply) answers;
-  bytes = sum_by (λ answer. bytes_given answer.reply) answers;
-  turns = length answers;
-}

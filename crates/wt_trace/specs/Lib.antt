@@ -1,5 +1,7 @@
 pub mod Outside
 pub mod Trace
 pub mod Laws
-pub mod Program
 pub mod Generate
+pub mod Command
+pub mod Summary
+pub mod Program

@@ -1,5 +1,5 @@
 -- What the program answers to its words and its input: a status and a text (this repository's own).
-use Rattle.std.specs.Prelude.{◌≡◌, ℕ, ◌+◌, ◌≤◌, Bool, false, ◌==◌, ◌||◌, nat_lt, List, [], ◌∷◌, ◌++◌, length, codes, Option, Result, Ok, Err, if◌then◌else◌}
+use Rattle.std.specs.Prelude.{◌≡◌, ℕ, ◌+◌, ◌≤◌, Bool, ◌==◌, ◌||◌, nat_lt, List, [], ◌++◌, length, codes, Option, Some, None, Result, Ok, Err, if◌then◌else◌}
 use Rattle.std.specs.Fmt.{decimal}
 use Rattle.std.specs.Io.KnownBytes.{Appends, Consumes}
 use Rattle.wt_turn.specs.declared.answer.Answer.{Answer}
@@ -8,14 +8,10 @@ use Rattle.wt_script.specs.declared.script.ScriptRefused.{ScriptRefused}
 use Rattle.wt_spec.specs.Answers.{AtUnlawful, Finished, Run, RunEnd, run}
 use Rattle.wt_trace.specs.Laws.{KeepsLaws}
 use Rattle.wt_script.specs.Print.{print}
-use Rattle.wt_script.specs.Script.{script_of}
-use Rattle.wt_script.specs.Words.{is_word}
-
--- the words ask for a trace
-abbrev pub is_trace : List (List ℕ) → Bool
-is_trace [] = false
-is_trace (word ∷ []) = is_word word (codes "trace")
-is_trace (word ∷ other ∷ more) = false
+use Rattle.wt_trace.specs.declared.command.Command.{Command}
+use Rattle.wt_trace.specs.declared.command.Command.TheVariants.{Large, Trace}
+use Rattle.wt_trace.specs.Command.{command_of, command_script}
+use Rattle.wt_trace.specs.Summary.{summary_line, summary_of}
 
 -- a status, and the text that is written
 pub record Outcome : Type 0 where
@@ -28,7 +24,7 @@ script_limit = 16777216
 
 -- how the program is asked: status 1
 abbrev pub usage : Outcome
-usage = record { status = 1; text = codes "usage: trace\n" }
+usage = record { status = 1; text = codes "usage: trace | large <n>\n" }
 
 -- a script above the limit: status 7
 abbrev pub too_long : Outcome
@@ -42,27 +38,42 @@ refused_at line = record { status = 2; text = codes "line " ++ decimal line ++ c
 abbrev pub stop_line : List Answer → List ℕ → List ℕ
 stop_line answers reason = codes "turn " ++ decimal (length answers) ++ reason
 
+-- what a command writes of the answers to a whole run: a line for each, or one that sums them up
+abbrev pub finished_text : Command → List Answer → List ℕ
+finished_text Trace answers = print answers
+finished_text (Large streams) answers = summary_line (summary_of answers)
+
+-- what a command writes of the answers to a run that stopped: a line for each, or nothing
+abbrev pub stopped_text : Command → List Answer → List ℕ
+stopped_text Trace answers = print answers
+stopped_text (Large streams) answers = []
+
 -- a run that ended so after these answers: status 0 or 3
-abbrev pub stop_outcome : RunEnd → List Answer → Outcome
-stop_outcome Finished answers = record { status = 0; text = print answers }
-stop_outcome AtUnlawful answers = record { status = 3; text = print answers ++ stop_line answers (codes " unlawful\n") }
+abbrev pub stop_outcome : Command → RunEnd → List Answer → Outcome
+stop_outcome command Finished answers = record { status = 0; text = finished_text command answers }
+stop_outcome command AtUnlawful answers = record { status = 3; text = stopped_text command answers ++ stop_line answers (codes " unlawful\n") }
 
 -- the outcome of a run
-abbrev pub run_outcome : Run → Outcome
-run_outcome r = stop_outcome r.stop r.answers
+abbrev pub run_outcome : Command → Run → Outcome
+run_outcome command r = stop_outcome command r.stop r.answers
 
 -- a script that is refused is answered by its line, another by its run
-abbrev pub script_outcome : Result Script ScriptRefused → Outcome
-script_outcome (Err refused) = refused_at refused.line
-script_outcome (Ok script) = run_outcome (run script.side script.turns)
+abbrev pub script_outcome : Command → Result Script ScriptRefused → Outcome
+script_outcome command (Err refused) = refused_at refused.line
+script_outcome command (Ok script) = run_outcome command (run script.side script.turns)
 
--- the outcome of an input: too long, or that of its script
-abbrev pub input_outcome : List ℕ → Outcome
-input_outcome input = if nat_lt script_limit (length input) then too_long else script_outcome (script_of input)
+-- the outcome of an input: too long, or that of the script that the command makes of it
+abbrev pub input_outcome : Command → List ℕ → Outcome
+input_outcome command input = if nat_lt script_limit (length input) then too_long else script_outcome command (command_script command input)
+
+-- the outcome of an input for the command that is asked for, the usage line where none is
+abbrev pub asked_outcome : Option Command → List ℕ → Outcome
+asked_outcome None input = usage
+asked_outcome (Some command) input = input_outcome command input
 
 -- the outcome for these words and this input, where nothing outside fails and memory suffices
 abbrev pub outcome : List (List ℕ) → List ℕ → Outcome
-outcome words input = if is_trace words then input_outcome input else usage
+outcome words input = asked_outcome (command_of words) input
 
 -- bytes were read from a source, at most one more than the greatest script has
 pub record ReadsFew (left_before left_now : Option (List ℕ)) : Type 0 where
@@ -71,13 +82,13 @@ pub record ReadsFew (left_before left_now : Option (List ℕ)) : Type 0 where
   pub consumed : Consumes left_before left_now input
 
 -- bytes were read from a source, at most one more than the greatest script has, and the status and the text are those of
--- them; where the source tells its bytes and was read to its end, they are all of them
-pub record AnswersInput (left_before left_now took_before took_now : Option (List ℕ)) (status : ℕ) : Type 0 where
+-- the command for them; where the source tells its bytes and was read to its end, they are all of them
+pub record AnswersInput (command : Command) (left_before left_now took_before took_now : Option (List ℕ)) (status : ℕ) : Type 0 where
   pub input : List ℕ
   pub few : length input ≤ script_limit + 1
   pub consumed : Consumes left_before left_now input
-  pub answered : status ≡ (input_outcome input).status
-  pub written : Appends took_before took_now (input_outcome input).text
+  pub answered : status ≡ (input_outcome command input).status
+  pub written : Appends took_before took_now (input_outcome command input).text
 
 -- reading failed, writing failed, or the program ran out of memory
 abbrev pub is_cut_short : ℕ → Bool
@@ -95,13 +106,12 @@ is_input_status status = is_script_status status || status == 7
 abbrev pub is_run_status : ℕ → Bool
 is_run_status status = status == 0 || status == 3
 
--- the bytes that were read are a script, the answers to its turns stand at the front of the text that was written, and they
--- keep the laws
-pub record AnswersKeepLaws (left_before left_now took_before took_now : Option (List ℕ)) : Type 0 where
+-- the bytes that were read make a script for the command, what it writes of the answers to that script's turns is the text
+-- that was written, and these answers keep the laws
+pub record AnswersKeepLaws (command : Command) (left_before left_now took_before took_now : Option (List ℕ)) : Type 0 where
   pub input : List ℕ
   pub consumed : Consumes left_before left_now input
   pub script : Script
-  pub read : script_of input ≡ Ok script
-  pub last : List ℕ
-  pub written : Appends took_before took_now (print (run script.side script.turns).answers ++ last)
+  pub read : command_script command input ≡ Ok script
+  pub written : Appends took_before took_now (run_outcome command (run script.side script.turns)).text
   pub laws : KeepsLaws script.side script.turns (run script.side script.turns).answers

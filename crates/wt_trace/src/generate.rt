@@ -1,8 +1,6 @@
 //! A run that is made by rule.
-ghost use Rattle.std.specs.Prelude.{◌≡◌, ◌<◌, ◌≤◌, ◌+◌, ◌*◌, ◌++◌, ◌∷◌, [], ℕ, IfOk, List, OnOk, Some, None, length};
-ghost use Rattle.wt_trace.specs.Generate.{generated, request_bytes, session_turns, stream_bytes, stream_turns, summary_of};
-ghost use Rattle.wt_turn.specs.declared.answer.Answer.{Answer};
-ghost use Rattle.wt_turn.specs.declared.reply.Reply.TheVariants as replies;
+ghost use Rattle.std.specs.Prelude.{◌≡◌, ◌<◌, ◌≤◌, ◌+◌, ◌*◌, ◌++◌, ℕ, IfOk, OnOk, length};
+ghost use Rattle.wt_trace.specs.Generate.{generated, request_bytes, session_turns, stream_bytes, stream_turns};
 
 use std::alloc::Global;
 use wt_proto::theorems::byte_strings::request_of_authority_h;
@@ -134,23 +132,4 @@ fn stream_piece(alloc: Global, number: u32) -> Result<Piece, OutOfMemory>
 #[tactic(auto, using(crate::proofs::GenerateLaws::length_of_generated))]
 pub fn length_of_a_run()
     ensures { (streams : ℕ) → length (generated streams) ≡ 7 + 6 * streams }
-{}
-
-/// What the first answers of a run come to adds up with what the others come to.
-#[tactic(auto, using(crate::proofs::GenerateLaws::streams_add_up, crate::proofs::GenerateLaws::bytes_add_up, crate::proofs::GenerateLaws::turns_add_up))]
-pub fn summaries_add_up()
-    ensures streams { (first later : List Answer) → (summary_of (first ++ later)).streams ≡ (summary_of first).streams + (summary_of later).streams }
-    ensures bytes { (first later : List Answer) → (summary_of (first ++ later)).bytes ≡ (summary_of first).bytes + (summary_of later).bytes }
-    ensures turns { (first later : List Answer) → (summary_of (first ++ later)).turns ≡ (summary_of first).turns + (summary_of later).turns }
-{}
-
-/// What five answers come to: a stream is accepted, two bytes of it are read, and then its end.
-pub fn summary_of_five_answers()
-    ensures { (id a b : ℕ) → summary_of (
-        record { reply = replies.Done; actions = [] }
-        ∷ record { reply = replies.Uni id; actions = [] }
-        ∷ record { reply = replies.Pending; actions = [] }
-        ∷ record { reply = replies.Read (Some (a ∷ b ∷ [])); actions = [] }
-        ∷ record { reply = replies.Read None; actions = [] }
-        ∷ []) ≡ record { streams = 1; bytes = 2; turns = 5 } }
 {}

@@ -1,12 +1,14 @@
 //! Traces: a list of turns in, the one answer to each out.
 //!
-//! [`run_trace`] answers a list of turns, [`run_program`] does it for a script of them, and
-//! [`generate::generate`] makes a long list by rule.
+//! [`run_trace`] answers a list of turns, [`run_program`] does it for a script of them,
+//! [`generate::generate`] makes a long list by rule, and [`summary::Summary`] is what its answers come to.
 #![tactic(auto)]
 
+pub mod command;
 pub mod generate;
 pub mod outside;
 pub mod program;
+pub mod summary;
 #[cfg(test)]
 mod tests;
 pub mod trace;

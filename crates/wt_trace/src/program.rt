@@ -1,19 +1,26 @@
-//! The program: a script comes in, the lines of its answers go out.
-ghost use Rattle.std.specs.Prelude.{◌≡◌, ◌+◌, ◌++◌, ◌<◌, ◌≤◌, ℕ, List, Option, map, string_bytes, ◌≢◌, ◌⊎◌, IfOk, IfErr, IsErr, IfSome, IsTrue, MatchResult, OnOk, OnErr, length, codes, false, true};
+//! The program: a script comes in, the lines of its answers go out, or one line that sums them up.
+ghost use Rattle.std.specs.Prelude.{◌≡◌, ◌+◌, ◌++◌, ◌<◌, ◌≤◌, ℕ, List, Option, map, string_bytes, ◌≢◌, ◌⊎◌, IfOk, IfErr, IsErr, IfSome, IsTrue, None, MatchResult, OnOk, OnErr, length, codes, false};
 ghost use Rattle.std.specs.Fmt.{decimal};
 ghost use Rattle.std.specs.Io.KnownBytes.{Consumes, Appends, Keeps, IsAtEnd};
 ghost use Rattle.wt_spec.specs.Answers.{run};
 ghost use Rattle.wt_trace.specs.Outside.{Rose, AppendsPart, Passes};
 ghost use Rattle.wt_script.specs.Print.{answer_line, print};
-ghost use Rattle.wt_trace.specs.Program.{is_trace, is_cut_short, is_script_status, is_input_status, is_run_status, script_limit, usage, refused_at, run_outcome, input_outcome, outcome, ReadsFew, AnswersInput, AnswersKeepLaws};
+ghost use Rattle.wt_trace.specs.Command.{command_of, command_script, server_turns, with_first};
+ghost use Rattle.wt_trace.specs.Summary.{summary_line, summary_of};
+ghost use Rattle.wt_trace.specs.Program.{is_cut_short, is_script_status, is_input_status, is_run_status, script_limit, usage, refused_at, stop_line, finished_text, stopped_text, run_outcome, input_outcome, asked_outcome, outcome, ReadsFew, AnswersInput, AnswersKeepLaws};
 
+use crate::command::{Command, read_command};
+use crate::generate::generate;
 use crate::outside::{Sink, Source};
+use crate::summary::{Summary, push_number};
 use crate::trace::{TraceError, run_trace};
 use std::alloc::Global;
 use wt_script::print::push_answer;
-use wt_script::script::{Script, read_script};
+use wt_script::script::{Script, ScriptRefused, read_more_turns, read_script};
 use wt_turn::answer::Answer;
+use wt_turn::turn::Turns;
 use wt_wire::error::OutOfMemory;
+use wt_wire::side::Side;
 
 /// The greatest script, in bytes.
 const SCRIPT_LIMIT: usize = 16_777_216;
@@ -44,16 +51,18 @@ impl From<OutOfMemory> for CutShort {
     }
 }
 
-/// Runs the program: with the word `trace` it reads a script to its end, runs its turns, and writes a
-/// line for each answer. All text goes to the sink. It reads at most 16,777,217 bytes, whatever the
-/// status: a byte more than the greatest script has.
+/// Runs the program. With the word `trace` it reads a script to its end, runs its turns, and writes a line
+/// for each answer. With `large` and a number from 1 to 10,000 it reads lines of turns to their end, runs
+/// a generated run with so many streams and then these turns, as a server, and writes one line that sums
+/// up the answers. All text goes to the sink. It reads at most 16,777,217 bytes, whatever the status: a
+/// byte more than the greatest script has.
 ///
 /// | status | where | text |
 /// |---|---|---|
-/// | 0 | the run reached its end | the answers |
-/// | 1 | the words are others | the usage line |
+/// | 0 | the run reached its end | the answers, or their summary |
+/// | 1 | the words have no such form | the usage line |
 /// | 2 | line n is the first that isn't in the grammar | `line <n> refused` |
-/// | 3 | the turn at this index isn't lawful | the answers before, `turn <at> unlawful` |
+/// | 3 | the turn at this index isn't lawful | of `trace` the answers before; `turn <at> unlawful` |
 /// | 4 | the source failed | nothing |
 /// | 5 | the sink failed | a first part of the text |
 /// | 6 | the program ran out of memory | a first part of the text |
@@ -66,21 +75,47 @@ pub fn run_program<S: Source, K: Sink>(
 ) -> u8
     ensures status { is_cut_short result ≡ false → IfSome (S.left source.old) (λ input. result ≡ (outcome (map string_bytes words.now) input).status) }
     ensures text { is_cut_short result ≡ false → IfSome (S.left source.old) (λ input. Appends (K.took sink.old) (K.took sink.new) (outcome (map string_bytes words.now) input).text) }
-    ensures input { is_cut_short result ≡ false → is_trace (map string_bytes words.now) ≡ true → AnswersInput (S.left source.old) (S.left source.new) (K.took sink.old) (K.took sink.new) result }
+    ensures input { is_cut_short result ≡ false → IfSome (command_of (map string_bytes words.now)) (λ command. AnswersInput command (S.left source.old) (S.left source.new) (K.took sink.old) (K.took sink.new) result) }
     ensures reads { ReadsFew (S.left source.old) (S.left source.new) }
     ensures part { IfSome (S.left source.old) (λ input. AppendsPart (K.took sink.old) (K.took sink.new) (outcome (map string_bytes words.now) input).text) }
     ensures end { IsTrue (is_script_status result) → IsAtEnd (S.left source.new) }
-    ensures usage { is_trace (map string_bytes words.now) ≡ false → (result ≡ 1) ⊎ (result ≡ 5) }
+    ensures usage { command_of (map string_bytes words.now) ≡ None → (result ≡ 1) ⊎ (result ≡ 5) }
     ensures usage_text { result ≡ 1 → Appends (K.took sink.old) (K.took sink.new) usage.text }
-    ensures trace { is_trace (map string_bytes words.now) ≡ true → result ≢ 1 }
+    ensures command { command_of (map string_bytes words.now) ≢ None → result ≢ 1 }
     ensures read_fault { result ≡ 4 → Rose (S.faults source.old) (S.faults source.new) }
     ensures write_fault { result ≡ 5 → Rose (K.faults sink.old) (K.faults sink.new) }
     ensures nothing { result ≡ 4 → K.took sink.new ≡ K.took sink.old }
     ensures source_same { result ≢ 4 → S.faults source.new ≡ S.faults source.old }
     ensures sink_same { result ≢ 5 → K.faults sink.new ≡ K.faults sink.old }
-    ensures laws { IsTrue (is_run_status result) → AnswersKeepLaws (S.left source.old) (S.left source.new) (K.took sink.old) (K.took sink.new) }
+    ensures laws { IsTrue (is_run_status result) → IfSome (command_of (map string_bytes words.now)) (λ command. AnswersKeepLaws command (S.left source.old) (S.left source.new) (K.took sink.old) (K.took sink.new)) }
 {
-    match answer(alloc, words, source, sink) {
+    run_command(alloc, read_command(words), source, sink)
+}
+
+/// Runs what is asked for, and gives the status.
+fn run_command<S: Source, K: Sink>(
+    alloc: Global,
+    command: Option<Command>,
+    source: &mut S,
+    sink: &mut K,
+) -> u8
+    ensures status { is_cut_short result ≡ false → IfSome (S.left source.old) (λ input. result ≡ (asked_outcome command input).status) }
+    ensures text { is_cut_short result ≡ false → IfSome (S.left source.old) (λ input. Appends (K.took sink.old) (K.took sink.new) (asked_outcome command input).text) }
+    ensures input { is_cut_short result ≡ false → IfSome command (λ command. AnswersInput command (S.left source.old) (S.left source.new) (K.took sink.old) (K.took sink.new) result) }
+    ensures reads { ReadsFew (S.left source.old) (S.left source.new) }
+    ensures part { IfSome (S.left source.old) (λ input. AppendsPart (K.took sink.old) (K.took sink.new) (asked_outcome command input).text) }
+    ensures end { IsTrue (is_script_status result) → IsAtEnd (S.left source.new) }
+    ensures usage { command ≡ None → (result ≡ 1) ⊎ (result ≡ 5) }
+    ensures usage_text { result ≡ 1 → Appends (K.took sink.old) (K.took sink.new) usage.text }
+    ensures command { command ≢ None → result ≢ 1 }
+    ensures read_fault { result ≡ 4 → Rose (S.faults source.old) (S.faults source.new) }
+    ensures write_fault { result ≡ 5 → Rose (K.faults sink.old) (K.faults sink.new) }
+    ensures nothing { result ≡ 4 → K.took sink.new ≡ K.took sink.old }
+    ensures source_same { result ≢ 4 → S.faults source.new ≡ S.faults source.old }
+    ensures sink_same { result ≢ 5 → K.faults sink.new ≡ K.faults sink.old }
+    ensures laws { IsTrue (is_run_status result) → IfSome command (λ command. AnswersKeepLaws command (S.left source.old) (S.left source.new) (K.took sink.old) (K.took sink.new)) }
+{
+    match answer(alloc, command, source, sink) {
         Ok(status) => status,
         Err(CutShort::SourceFailed) => 4,
         Err(CutShort::SinkFailed) => 5,
@@ -90,29 +125,28 @@ pub fn run_program<S: Source, K: Sink>(
 
 fn answer<S: Source, K: Sink>(
     alloc: Global,
-    words: &[String],
+    command: Option<Command>,
     source: &mut S,
     sink: &mut K,
 ) -> Result<u8, CutShort>
-    ensures status { IfOk result (λ status. IfSome (S.left source.old) (λ input. status ≡ (outcome (map string_bytes words.now) input).status)) }
-    ensures text { OnOk result (IfSome (S.left source.old) (λ input. Appends (K.took sink.old) (K.took sink.new) (outcome (map string_bytes words.now) input).text)) }
-    ensures input { is_trace (map string_bytes words.now) ≡ true → IfOk result (AnswersInput (S.left source.old) (S.left source.new) (K.took sink.old) (K.took sink.new)) }
+    ensures status { IfOk result (λ status. IfSome (S.left source.old) (λ input. status ≡ (asked_outcome command input).status)) }
+    ensures text { OnOk result (IfSome (S.left source.old) (λ input. Appends (K.took sink.old) (K.took sink.new) (asked_outcome command input).text)) }
+    ensures input { IfSome command (λ command. IfOk result (AnswersInput command (S.left source.old) (S.left source.new) (K.took sink.old) (K.took sink.new))) }
     ensures reads { ReadsFew (S.left source.old) (S.left source.new) }
-    ensures part { IfSome (S.left source.old) (λ input. AppendsPart (K.took sink.old) (K.took sink.new) (outcome (map string_bytes words.now) input).text) }
+    ensures part { IfSome (S.left source.old) (λ input. AppendsPart (K.took sink.old) (K.took sink.new) (asked_outcome command input).text) }
     ensures end { IfOk result (λ status. IsTrue (is_script_status status) → IsAtEnd (S.left source.new)) }
-    ensures usage { is_trace (map string_bytes words.now) ≡ false → MatchResult result (λ status. status ≡ 1) (λ cut. cut ≡ CutShort.SinkFailed) }
+    ensures usage { command ≡ None → MatchResult result (λ status. status ≡ 1) (λ cut. cut ≡ CutShort.SinkFailed) }
     ensures usage_text { IfOk result (λ status. status ≡ 1 → Appends (K.took sink.old) (K.took sink.new) usage.text) }
-    ensures trace { is_trace (map string_bytes words.now) ≡ true → IfOk result (λ status. IsTrue (is_input_status status)) }
+    ensures told { command ≢ None → IfOk result (λ status. IsTrue (is_input_status status)) }
     ensures source_same { result ≢ Err CutShort.SourceFailed → S.faults source.new ≡ S.faults source.old }
     ensures sink_same { result ≢ Err CutShort.SinkFailed → K.faults sink.new ≡ K.faults sink.old }
     ensures read_fault { result ≡ Err CutShort.SourceFailed → Rose (S.faults source.old) (S.faults source.new) }
     ensures write_fault { result ≡ Err CutShort.SinkFailed → Rose (K.faults sink.old) (K.faults sink.new) }
     ensures nothing { result ≡ Err CutShort.SourceFailed → K.took sink.new ≡ K.took sink.old }
 {
-    if asks_trace(words) {
-        answer_trace(alloc, source, sink)
-    } else {
-        answer_usage(sink)
+    match command {
+        Some(command) => answer_command(alloc, command, source, sink),
+        None => answer_usage(sink),
     }
 }
 
@@ -125,21 +159,22 @@ fn answer_usage<K: Sink>(sink: &mut K) -> Result<u8, CutShort>
     ensures cause { IfErr result (λ cut. cut ≡ CutShort.SinkFailed) }
     ensures fault { IsErr result → Rose (K.faults sink.old) (K.faults sink.new) }
 {
-    write_all(sink, b"usage: trace\n")?;
+    write_all(sink, b"usage: trace | large <n>\n")?;
     Ok(1)
 }
 
 /// Answers what the source has left.
-fn answer_trace<S: Source, K: Sink>(
+fn answer_command<S: Source, K: Sink>(
     alloc: Global,
+    command: Command,
     source: &mut S,
     sink: &mut K,
 ) -> Result<u8, CutShort>
-    ensures status { IfOk result (λ status. IfSome (S.left source.old) (λ input. status ≡ (input_outcome input).status)) }
-    ensures text { OnOk result (IfSome (S.left source.old) (λ input. Appends (K.took sink.old) (K.took sink.new) (input_outcome input).text)) }
-    ensures input { IfOk result (AnswersInput (S.left source.old) (S.left source.new) (K.took sink.old) (K.took sink.new)) }
+    ensures status { IfOk result (λ status. IfSome (S.left source.old) (λ input. status ≡ (input_outcome command input).status)) }
+    ensures text { OnOk result (IfSome (S.left source.old) (λ input. Appends (K.took sink.old) (K.took sink.new) (input_outcome command input).text)) }
+    ensures input { IfOk result (AnswersInput command (S.left source.old) (S.left source.new) (K.took sink.old) (K.took sink.new)) }
     ensures reads { ReadsFew (S.left source.old) (S.left source.new) }
-    ensures part { IfSome (S.left source.old) (λ input. AppendsPart (K.took sink.old) (K.took sink.new) (input_outcome input).text) }
+    ensures part { IfSome (S.left source.old) (λ input. AppendsPart (K.took sink.old) (K.took sink.new) (input_outcome command input).text) }
     ensures end { IfOk result (λ status. IsTrue (is_script_status status) → IsAtEnd (S.left source.new)) }
     ensures told { IfOk result (λ status. IsTrue (is_input_status status)) }
     ensures source_same { result ≢ Err CutShort.SourceFailed → S.faults source.new ≡ S.faults source.old }
@@ -149,16 +184,7 @@ fn answer_trace<S: Source, K: Sink>(
     ensures nothing { result ≡ Err CutShort.SourceFailed → K.took sink.new ≡ K.took sink.old }
 {
     let input = read_input(alloc, source)?;
-    answer_input(alloc, input.as_slice(), sink)
-}
-
-fn asks_trace(words: &[String]) -> bool
-    ensures { result ≡ is_trace (map string_bytes words.now) }
-{
-    match words {
-        [word] => word.as_bytes() == b"trace".as_slice(),
-        _ => false,
-    }
+    answer_input(alloc, command, input.as_slice(), sink)
 }
 
 /// All bytes that the source has left, or one more than a script may have.
@@ -188,10 +214,15 @@ fn read_input<S: Source>(alloc: Global, source: &mut S) -> Result<Vec<u8>, CutSh
     Ok(bytes)
 }
 
-fn answer_input<K: Sink>(alloc: Global, input: &[u8], sink: &mut K) -> Result<u8, CutShort>
-    ensures status { IfOk result (λ status. status ≡ (input_outcome input.now).status) }
-    ensures text { OnOk result (Appends (K.took sink.old) (K.took sink.new) (input_outcome input.now).text) }
-    ensures part { AppendsPart (K.took sink.old) (K.took sink.new) (input_outcome input.now).text }
+fn answer_input<K: Sink>(
+    alloc: Global,
+    command: Command,
+    input: &[u8],
+    sink: &mut K,
+) -> Result<u8, CutShort>
+    ensures status { IfOk result (λ status. status ≡ (input_outcome command input.now).status) }
+    ensures text { OnOk result (Appends (K.took sink.old) (K.took sink.new) (input_outcome command input.now).text) }
+    ensures part { AppendsPart (K.took sink.old) (K.took sink.new) (input_outcome command input.now).text }
     ensures told { IfOk result (λ status. IsTrue (is_input_status status)) }
     ensures within { IfOk result (λ status. IsTrue (is_script_status status) → length input.now ≤ script_limit) }
     ensures same { result ≢ Err CutShort.SinkFailed → K.faults sink.new ≡ K.faults sink.old }
@@ -202,13 +233,47 @@ fn answer_input<K: Sink>(alloc: Global, input: &[u8], sink: &mut K) -> Result<u8
         write_all(sink, b"script too long\n")?;
         return Ok(7);
     }
-    match read_script(alloc, input)? {
-        Ok(script) => answer_script(alloc, &script, sink),
+    match script_for(alloc, command, input)? {
+        Ok(script) => answer_script(alloc, &command, &script, sink),
         Err(refused) => {
             write_refusal(alloc, refused.line, sink)?;
             Ok(2)
         }
     }
+}
+
+/// The script that a command makes of its input.
+#[tactic(auto, unfolding(crate::specs::Command::command_script))]
+fn script_for(
+    alloc: Global,
+    command: Command,
+    input: &[u8],
+) -> Result<Result<Script, ScriptRefused>, OutOfMemory>
+    ensures { IfOk result (λ r. r ≡ command_script command input.now) }
+{
+    match command {
+        Command::Trace => read_script(alloc, input),
+        Command::Large(streams) => {
+            let generated = generate(alloc, streams.into_u32())?;
+            turns_after(alloc, generated, input)
+        }
+    }
+}
+
+/// A server's script: these turns, and then those of the lines of the input.
+#[tactic(auto, using(crate::proofs::CommandLaws::first_come_first))]
+fn turns_after(
+    alloc: Global,
+    first: Turns,
+    input: &[u8],
+) -> Result<Result<Script, ScriptRefused>, OutOfMemory>
+    ensures { IfOk result (λ r. r ≡ with_first first (server_turns input.now)) }
+{
+    let begun = Script {
+        side: Side::Server,
+        turns: first,
+    };
+    read_more_turns(alloc, begun, input)
 }
 
 fn write_refusal<K: Sink>(alloc: Global, line: u64, sink: &mut K) -> Result<(), CutShort>
@@ -232,16 +297,20 @@ fn number_line(
     ensures { IfOk result (λ text. string_bytes text ≡ before.now ++ decimal number ++ behind.now) }
 {
     let mut text = String::new(alloc);
-    text.push_str(before)?;
-    text.push_str(number.to_string(alloc)?.as_str())?;
+    push_number(alloc, &mut text, before, number)?;
     text.push_str(behind)?;
     Ok(text)
 }
 
-fn answer_script<K: Sink>(alloc: Global, script: &Script, sink: &mut K) -> Result<u8, CutShort>
-    ensures status { IfOk result (λ status. status ≡ (run_outcome (run script.now.side script.now.turns)).status) }
-    ensures text { OnOk result (Appends (K.took sink.old) (K.took sink.new) (run_outcome (run script.now.side script.now.turns)).text) }
-    ensures part { AppendsPart (K.took sink.old) (K.took sink.new) (run_outcome (run script.now.side script.now.turns)).text }
+fn answer_script<K: Sink>(
+    alloc: Global,
+    command: &Command,
+    script: &Script,
+    sink: &mut K,
+) -> Result<u8, CutShort>
+    ensures status { IfOk result (λ status. status ≡ (run_outcome command.now (run script.now.side script.now.turns)).status) }
+    ensures text { OnOk result (Appends (K.took sink.old) (K.took sink.new) (run_outcome command.now (run script.now.side script.now.turns)).text) }
+    ensures part { AppendsPart (K.took sink.old) (K.took sink.new) (run_outcome command.now (run script.now.side script.now.turns)).text }
     ensures told { IfOk result (λ status. IsTrue (is_script_status status)) }
     ensures same { result ≢ Err CutShort.SinkFailed → K.faults sink.new ≡ K.faults sink.old }
     ensures fault { result ≡ Err CutShort.SinkFailed → Rose (K.faults sink.old) (K.faults sink.new) }
@@ -249,33 +318,69 @@ fn answer_script<K: Sink>(alloc: Global, script: &Script, sink: &mut K) -> Resul
 {
     match run_trace(alloc, script.side, script.turns.as_slice()) {
         Ok(answers) => {
-            write_answers(alloc, answers.as_slice(), "", sink)?;
+            write_finished(alloc, command, answers.as_slice(), sink)?;
             Ok(0)
         }
         Err(TraceError::Unlawful { at, answers }) => {
-            write_stopped(alloc, answers.as_slice(), at, " unlawful\n", sink)?;
+            write_stopped(alloc, command, answers.as_slice(), at, sink)?;
             Ok(3)
         }
         Err(TraceError::OutOfMemory) => Err(CutShort::OutOfMemory),
     }
 }
 
-/// Writes the answers before the turn at this index, and that there is none to it.
-fn write_stopped<K: Sink>(
+/// Writes what the command says of the answers to a whole run.
+fn write_finished<K: Sink>(
     alloc: Global,
+    command: &Command,
     answers: &[Answer],
-    at: u64,
-    reason: &str,
     sink: &mut K,
 ) -> Result<(), CutShort>
-    ensures text { OnOk result (Appends (K.took sink.old) (K.took sink.new) (print answers.now ++ (codes "turn " ++ decimal at ++ reason.now))) }
-    ensures part { AppendsPart (K.took sink.old) (K.took sink.new) (print answers.now ++ (codes "turn " ++ decimal at ++ reason.now)) }
+    ensures text { OnOk result (Appends (K.took sink.old) (K.took sink.new) (finished_text command.now answers.now)) }
+    ensures part { AppendsPart (K.took sink.old) (K.took sink.new) (finished_text command.now answers.now) }
     ensures same { result ≢ Err CutShort.SinkFailed → K.faults sink.new ≡ K.faults sink.old }
     ensures fault { result ≡ Err CutShort.SinkFailed → Rose (K.faults sink.old) (K.faults sink.new) }
     ensures causes { result ≢ Err CutShort.SourceFailed }
 {
-    let stop = number_line(alloc, "turn ", at, reason)?;
-    write_answers(alloc, answers, stop.as_str(), sink)
+    match command {
+        Command::Trace => write_answers(alloc, answers, "", sink),
+        Command::Large(_) => write_summary(alloc, answers, sink),
+    }
+}
+
+/// Writes the line that sums up the answers.
+fn write_summary<K: Sink>(alloc: Global, answers: &[Answer], sink: &mut K) -> Result<(), CutShort>
+    ensures text { OnOk result (Appends (K.took sink.old) (K.took sink.new) (summary_line (summary_of answers.now))) }
+    ensures part { AppendsPart (K.took sink.old) (K.took sink.new) (summary_line (summary_of answers.now)) }
+    ensures same { result ≢ Err CutShort.SinkFailed → K.faults sink.new ≡ K.faults sink.old }
+    ensures fault { result ≡ Err CutShort.SinkFailed → Rose (K.faults sink.old) (K.faults sink.new) }
+    ensures causes { result ≢ Err CutShort.SourceFailed }
+{
+    let line = Summary::of(answers)?.line(alloc)?;
+    write_all(sink, line.as_bytes())
+}
+
+/// Writes what the command says of the answers before the turn at this index, and that there is none to
+/// that turn.
+fn write_stopped<K: Sink>(
+    alloc: Global,
+    command: &Command,
+    answers: &[Answer],
+    at: u64,
+    sink: &mut K,
+) -> Result<(), CutShort>
+    requires { at ≡ length answers.now }
+    ensures text { OnOk result (Appends (K.took sink.old) (K.took sink.new) (stopped_text command.now answers.now ++ stop_line answers.now (codes " unlawful\n"))) }
+    ensures part { AppendsPart (K.took sink.old) (K.took sink.new) (stopped_text command.now answers.now ++ stop_line answers.now (codes " unlawful\n")) }
+    ensures same { result ≢ Err CutShort.SinkFailed → K.faults sink.new ≡ K.faults sink.old }
+    ensures fault { result ≡ Err CutShort.SinkFailed → Rose (K.faults sink.old) (K.faults sink.new) }
+    ensures causes { result ≢ Err CutShort.SourceFailed }
+{
+    let stop = number_line(alloc, "turn ", at, " unlawful\n")?;
+    match command {
+        Command::Trace => write_answers(alloc, answers, stop.as_str(), sink),
+        Command::Large(_) => write_all(sink, stop.as_bytes()),
+    }
 }
 
 /// Writes a line for each answer and then this text, gathered into pieces.

@@ -158,13 +158,49 @@ fn ends(
     assert_eq!(rt; sink.taken(), text.as_bytes());
 }
 
+const USAGE: &str = "usage: trace | large <n>\n";
+
 #[test]
 fn other_words_get_the_usage_line(rt: HostRuntime) {
     let alloc = rt.alloc();
-    let cases: [&[&str]; 4] = [&[], &["traces"], &["trace", "trace"], &["large", "1"]];
+    let cases: [&[&str]; 5] = [
+        &[],
+        &["traces"],
+        &["trace", "trace"],
+        &["large"],
+        &["large", "1", "1"],
+    ];
     for words in cases {
-        ends(&rt, alloc, words, Vec::new(alloc), &[], 1, "usage: trace\n");
+        ends(&rt, alloc, words, Vec::new(alloc), &[], 1, USAGE);
     }
+    for number in ["", "0", "01", "+1", "1a", "10001", "18446744073709551617"] {
+        let words = ["large", number];
+        ends(&rt, alloc, &words, Vec::new(alloc), &[], 1, USAGE);
+    }
+}
+
+/// What the program answers to `large` with this number and this input.
+fn sums_up(rt: &impl Abort, alloc: Global, number: &str, input: &str, status: u8, text: &str) {
+    let input = joined(rt, alloc, &[input]);
+    ends(rt, alloc, &["large", number], input, &[], status, text);
+}
+
+#[test]
+fn a_generated_run_is_summed_up(rt: HostRuntime) {
+    let alloc = rt.alloc();
+    sums_up(&rt, alloc, "1", "", 0, "streams 1 bytes 1 turns 13\n");
+    sums_up(&rt, alloc, "100", "", 0, "streams 100 bytes 5050 turns 607\n");
+    sums_up(&rt, alloc, "1", "# none\n\n", 0, "streams 1 bytes 1 turns 13\n");
+}
+
+#[test]
+fn turns_follow_the_generated_ones(rt: HostRuntime) {
+    let alloc = rt.alloc();
+    let stream = "peer_uni\nbytes 10 4054006869\naccept_uni\nread 10 9\n";
+    sums_up(&rt, alloc, "1", stream, 0, "streams 2 bytes 3 turns 17\n");
+    sums_up(&rt, alloc, "1", "max_uni 8\n", 3, "turn 13 unlawful\n");
+    sums_up(&rt, alloc, "1", "foo\n", 2, "line 1 refused\n");
+    sums_up(&rt, alloc, "1", "closed\nserver\n", 2, "line 2 refused\n");
 }
 
 #[test]
@@ -175,6 +211,8 @@ fn a_source_may_fail(rt: HostRuntime) {
     for read in 0..4 {
         let script = joined(&rt, alloc, &lines);
         ends(&rt, alloc, &["trace"], script, &[read], 4, "");
+        let script = joined(&rt, alloc, &lines);
+        ends(&rt, alloc, &["large", "1"], script, &[read], 4, "");
     }
     let script = joined(&rt, alloc, &lines);
     ends(
@@ -258,6 +296,14 @@ fn a_script_has_a_greatest_length(rt: HostRuntime) {
     ends(&rt, alloc, &["trace"], longest, &[], 2, "line 2 refused\n");
     let longer = comment(&rt, alloc, 16_777_217);
     ends(&rt, alloc, &["trace"], longer, &[], 7, "script too long\n");
+}
+
+#[test]
+fn lines_of_turns_have_a_greatest_length(rt: HostRuntime) {
+    let alloc = rt.alloc();
+    let longer = comment(&rt, alloc, 16_777_217);
+    let text = "script too long\n";
+    ends(&rt, alloc, &["large", "1"], longer, &[], 7, text);
 }
 
 #[test]

@@ -2,8 +2,8 @@ use Rattle.std.proofs.Common.{◌+◌, ◌-◌, [], take, drop, ap, sym, ◌∙�
 use Rattle.wt_script.specs.Words.{lines_from}
 use Rattle.wt_script.specs.Script.{read_lines}
 use Rattle.wt_script.proofs.ScriptLaws.{at_line_end, in_line, next_line, refused_here}
-use Rattle.wt_script.proofs.script.read_script.Goals as goal
-use Rattle.wt_script.proofs.script.read_script.Goals.{then-byte-eq10+in_ok-take_line+else-not-branch, else-byte-eq10}
+use Rattle.wt_script.proofs.script.read_on.Goals as goal
+use Rattle.wt_script.proofs.script.read_on.Goals.{then-byte-eq10+in_ok-take_line+else-not-branch, else-byte-eq10}
 
 pub returns-then-not-branch : goal.returns-then-not-branch
 returns-then-not-branch c =

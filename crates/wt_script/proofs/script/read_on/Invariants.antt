@@ -1,0 +1,11 @@
+use Rattle.std.proofs.Common.{◌≡◌, ◌≤◌, ◌+◌, ◌-◌, take, drop}
+use Rattle.wt_script.specs.Words.{lines, lines_from}
+use Rattle.wt_script.specs.Script.{read_lines}
+use Rattle.wt_script.proofs.script.read_on.Given as goal
+
+abbrev pub invariant-loop-at : goal.invariant-loop-at
+invariant-loop-at l = record {
+  joined : read_lines l.number l.draft (lines_from (take (l.at - l.start) (drop l.start l.script)) (drop l.at l.script)) ≡ read_lines 1 l.fn.draft (lines l.script);
+  begun : l.start ≤ l.at;
+  counted : l.number ≤ l.at + 1;
+}
