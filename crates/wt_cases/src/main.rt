@@ -1,6 +1,6 @@
 //! Recorded cases, each run by the program's own call and compared.
 //!
-//! `wt_cases FILE` reads scripts with the text and the status that two independent models agree on. The
+//! `wt_cases FILE..` reads scripts with the text and the status that two independent models agree on. The
 //! last line says how many there are and how many differ; the exit status is 0 where none does.
 #![tactic(auto)]
 
@@ -24,13 +24,23 @@ fn print_differing(rt: &HostRuntime, cases: &[Case]) -> io::Result<bool> {
     Ok(numbers.is_empty())
 }
 
+/// Adds the cases of a file.
+fn add_cases(rt: &HostRuntime, file: &str, cases: &mut Vec<Case>) -> io::Result<()> {
+    let text = fs::read_to_string(rt, file)?;
+    for case in read_cases(rt.alloc(), text.as_str())? {
+        cases.push(case)?;
+    }
+    Ok(())
+}
+
 fn main(rt: HostRuntime) -> io::Result<ExitCode> {
-    let mut words = env::args(&rt)?.skip(1);
-    let (Some(file), None) = (words.next(), words.next()) else {
+    let mut cases = Vec::new(rt.alloc());
+    for file in env::args(&rt)?.skip(1) {
+        add_cases(&rt, file.as_str(), &mut cases)?;
+    }
+    if cases.is_empty() {
         return Err(Error::from(ErrorKind::InvalidInput));
-    };
-    let text = fs::read_to_string(&rt, file.as_str())?;
-    let cases = read_cases(rt.alloc(), text.as_str())?;
+    }
     if print_differing(&rt, cases.as_slice())? {
         Ok(ExitCode::SUCCESS)
     } else {
