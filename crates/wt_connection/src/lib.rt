@@ -3,8 +3,10 @@
 #![tactic(auto)]
 
 pub mod bi_stream;
+mod calling;
 pub mod connection;
 pub mod datagram;
+pub mod opening;
 pub mod recv_stream;
 pub mod send_stream;
 #[cfg(test)]

@@ -1,0 +1,4 @@
+pub mod Told
+pub mod Sending
+pub mod Receiving
+pub mod Sessions
