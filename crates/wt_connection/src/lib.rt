@@ -2,10 +2,16 @@
 //! streams that it opens and accepts, their halves, and its datagrams.
 #![tactic(auto)]
 
+pub mod accepting;
 pub mod bi_stream;
+pub mod connecting;
 pub mod connection;
 pub mod datagram;
+pub mod incoming;
+mod performing;
 pub mod recv_stream;
+pub mod rejecting;
+mod response;
 pub mod send_stream;
 #[cfg(test)]
 mod tests;

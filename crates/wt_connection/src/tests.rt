@@ -1,4 +1,6 @@
 //! Halves and datagrams.
+mod handshakes;
+
 use crate::bi_stream::BiStream;
 use crate::datagram::Datagram;
 use crate::recv_stream::RecvStream;
