@@ -2,12 +2,18 @@
 //! streams that it opens and accepts, their halves, and its datagrams.
 #![tactic(auto)]
 
+pub mod accepting;
 pub mod bi_stream;
 mod calling;
+pub mod connecting;
 pub mod connection;
 pub mod datagram;
+pub mod incoming;
 pub mod opening;
+mod performing;
 pub mod recv_stream;
+pub mod rejecting;
+mod response;
 pub mod send_stream;
 #[cfg(test)]
 mod tests;
