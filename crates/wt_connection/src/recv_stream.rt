@@ -1,5 +1,5 @@
 //! The receiving half of a stream (RFC 9000, sections 2.4 and 3.2).
-ghost use Rattle.std.specs.Prelude.{◌≡◌, ◌≤◌, IfOk, OnOk, drop, length, min, true, ℕ};
+ghost use Rattle.std.specs.Prelude.{◌≡◌, IfOk, Ok, OnOk, Some, drop, length, true, ℕ};
 ghost use Rattle.wt_connection.specs.Replies.{exact_reply, exactly_read, read_into, records_exact};
 ghost use Rattle.wt_driver.specs.Tie.{Follows};
 ghost use Rattle.wt_laws.specs.Reachable.{IsReachable};
@@ -9,6 +9,7 @@ ghost use Rattle.wt_spec.specs.Halves.{has_receiving_half};
 ghost use Rattle.wt_turn.specs.Log.{Log};
 ghost use Rattle.wt_turn.specs.Records.{record_of};
 ghost use Rattle.wt_turn.specs.declared.call.Call.TheVariants as calls;
+ghost use Rattle.wt_turn.specs.declared.poll.Poll.TheVariants.{Ready};
 ghost use Rattle.wt_turn.specs.declared.reply.Reply.TheVariants as replies;
 ghost use Rattle.wt_wire.specs.declared.side.Side.{Side};
 
@@ -114,6 +115,7 @@ impl RecvStream {
         ensures log { (side : Side) (log : Log) (taken : ℕ) → Follows side d.old log taken → IsReachable side log → has_receiving_half side log self.old ≡ true
             → OnOk result (Follows side d.new (call_effect side log (calls.Read self.old (length buf.old))).log taken) }
         ensures rest { IfOk result (λ a. drop (read_into a) buf.new ≡ drop (read_into a) buf.old) }
+        ensures empty { length buf.old ≡ 0 → IfOk result (λ a. a ≡ Ready (Ok (Some 0))) }
         ensures same { self.new ≡ self.old }
     {
         let t = transport(d);

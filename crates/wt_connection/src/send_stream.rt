@@ -76,8 +76,8 @@ impl SendStream {
 
     // ---- writing
 
-    /// Writes as many of the bytes as credit is left for, and answers how many. No bytes are written to
-    /// an empty buffer's end at once; without credit the call is pending.
+    /// Writes as many of the bytes as credit is left for, and answers how many: 0 of an empty buffer.
+    /// Without credit the call is pending.
     ///
     /// The error is `NotConnected` where the connection isn't open, `Closed` where this end finished or
     /// reset the half, and `Stopped` with the peer's code where it stopped it.

@@ -5,8 +5,10 @@ use std::alloc::Global;
 use std::process::Abort;
 use wt_driver::driver::Driver;
 use wt_turn::action::Action;
+use wt_turn::connection_error::ConnectionError;
 use wt_turn::datagram_fact::DatagramFact;
 use wt_turn::piece::Piece;
+use wt_turn::poll::Poll;
 use wt_turn::record::Record;
 use wt_turn::turn::Turn;
 use wt_wire::ids::{SessionId, StreamId};
@@ -110,6 +112,14 @@ pub fn with_session(rt: &impl Abort, alloc: Global) -> Driver {
 /// The session of stream 0.
 pub fn connection(rt: &impl Abort) -> Connection {
     Connection::new(session(rt, 0))
+}
+
+/// What an answer gives.
+pub fn given<T: Drop>(rt: &impl Abort, answer: Poll<Result<T, ConnectionError>>) -> T {
+    match answer {
+        Poll::Ready(Ok(item)) => item,
+        Poll::Ready(Err(_)) | Poll::Pending => panic!(rt; "nothing is given"),
+    }
 }
 
 /// An action, as a test writes it.

@@ -1,6 +1,6 @@
 //! One call of each method of a half, with its answer.
 use super::drivers::{
-    Out, acknowledge, bytes, connection, end, expect, number, peer_bi, stream, with_session,
+    Out, acknowledge, bytes, connection, end, expect, given, number, peer_bi, stream, with_session,
 };
 use crate::recv_stream::RecvStream;
 use crate::send_stream::SendStream;
@@ -21,10 +21,7 @@ fn accepted(
     bytes(rt, alloc, driver, 4, &[0x40, 0x41, 0x00]);
     bytes(rt, alloc, driver, 4, came);
     let mut session = connection(rt);
-    match session.accept_bi(alloc, driver).expect(rt, "no memory") {
-        Poll::Ready(Ok(halves)) => halves,
-        _ => panic!(rt; "no stream"),
-    }
+    given(rt, session.accept_bi(alloc, driver).expect(rt, "no memory"))
 }
 
 fn write(rt: &impl Abort, alloc: Global, driver: &mut Driver, half: &mut SendStream) {

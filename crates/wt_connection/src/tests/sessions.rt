@@ -1,6 +1,6 @@
 //! One call of each method of a session and of an opening, with its answer.
 use super::drivers::{
-    Out, bytes, connection, datagram, expect, number, peer_uni, stream, with_session,
+    Out, bytes, connection, datagram, expect, given, number, peer_uni, stream, with_session,
 };
 use crate::connection::Connection;
 use crate::opening::{OpeningBiStream, OpeningUniStream};
@@ -16,21 +16,18 @@ fn accept_uni(rt: &impl Abort, alloc: Global, driver: &mut Driver, session: &mut
     assert!(rt; matches!(none, Poll::Pending));
     peer_uni(rt, driver);
     bytes(rt, alloc, driver, 6, &[0x40, 0x54, 0x00]);
-    match session.accept_uni(alloc, driver).expect(rt, "no memory") {
-        Poll::Ready(Ok(half)) => assert!(rt; half.id() == stream(6)),
-        _ => panic!(rt; "no stream"),
-    }
+    let answer = session.accept_uni(alloc, driver).expect(rt, "no memory");
+    let half = given(rt, answer);
+    assert!(rt; half.id() == stream(6));
 }
 
 fn receive(rt: &impl Abort, alloc: Global, driver: &mut Driver, session: &mut Connection) {
     datagram(rt, alloc, driver, &[0x00, 0x68, 0x69]);
-    match session
+    let answer = session
         .receive_datagram(alloc, driver)
-        .expect(rt, "no memory")
-    {
-        Poll::Ready(Ok(datagram)) => assert!(rt; datagram.payload() == b"hi".as_slice()),
-        _ => panic!(rt; "no datagram"),
-    }
+        .expect(rt, "no memory");
+    let datagram = given(rt, answer);
+    assert!(rt; datagram.payload() == b"hi".as_slice());
 }
 
 fn send(rt: &impl Abort, alloc: Global, driver: &mut Driver, session: &mut Connection) {
@@ -59,29 +56,24 @@ fn streams_and_datagrams_are_given(rt: HostRuntime) {
 }
 
 fn begin_uni(rt: &impl Abort, alloc: Global, driver: &mut Driver) -> OpeningUniStream {
-    match connection(rt)
+    let answer = connection(rt)
         .open_uni(alloc, driver)
-        .expect(rt, "no memory")
-    {
-        Poll::Ready(Ok(opening)) => opening,
-        _ => panic!(rt; "no stream"),
-    }
+        .expect(rt, "no memory");
+    given(rt, answer)
 }
 
 fn begin_bi(rt: &impl Abort, alloc: Global, driver: &mut Driver) -> OpeningBiStream {
-    match connection(rt)
+    let answer = connection(rt)
         .open_bi(alloc, driver)
-        .expect(rt, "no memory")
-    {
-        Poll::Ready(Ok(opening)) => opening,
-        _ => panic!(rt; "no stream"),
-    }
+        .expect(rt, "no memory");
+    given(rt, answer)
 }
 
 fn open_uni(rt: &impl Abort, alloc: Global, driver: &mut Driver) {
     let mut opening = begin_uni(rt, alloc, driver);
     expect(rt, driver, &[Out::Opened(7)]);
-    match opening.poll(alloc, driver).expect(rt, "no memory") {
+    let answer = opening.poll(alloc, driver).expect(rt, "no memory");
+    match answer {
         Poll::Ready(Ok(half)) => assert!(rt; half.id() == stream(7)),
         _ => panic!(rt; "no stream"),
     }
@@ -91,7 +83,8 @@ fn open_uni(rt: &impl Abort, alloc: Global, driver: &mut Driver) {
 fn open_bi(rt: &impl Abort, alloc: Global, driver: &mut Driver) {
     let mut opening = begin_bi(rt, alloc, driver);
     expect(rt, driver, &[Out::Opened(1)]);
-    match opening.poll(alloc, driver).expect(rt, "no memory") {
+    let answer = opening.poll(alloc, driver).expect(rt, "no memory");
+    match answer {
         Poll::Ready(Ok((send, recv))) => {
             assert!(rt; send.id() == stream(1));
             assert!(rt; recv.id() == stream(1));
