@@ -21,10 +21,7 @@ fn accepted(
     bytes(rt, alloc, driver, 4, &[0x40, 0x41, 0x00]);
     bytes(rt, alloc, driver, 4, came);
     let mut session = connection(rt);
-    given(
-        rt,
-        session.accept_bi(alloc, driver).expect(rt, "no memory"),
-    )
+    given(rt, session.accept_bi(alloc, driver).expect(rt, "no memory"))
 }
 
 fn write(rt: &impl Abort, alloc: Global, driver: &mut Driver, half: &mut SendStream) {
@@ -38,7 +35,9 @@ fn write(rt: &impl Abort, alloc: Global, driver: &mut Driver, half: &mut SendStr
 fn write_all(rt: &impl Abort, alloc: Global, driver: &mut Driver, half: &mut SendStream) {
     let all = half.write_all(alloc, driver, b"ho").expect(rt, "no memory");
     assert!(rt; matches!(all, Ok(WriteAll::Done)));
-    let rest = half.write_all(alloc, driver, &[7; 100]).expect(rt, "no memory");
+    let rest = half
+        .write_all(alloc, driver, &[7; 100])
+        .expect(rt, "no memory");
     assert!(rt; matches!(rest, Ok(WriteAll::Count(96))));
     let full = half.write(alloc, driver, b"hi").expect(rt, "no memory");
     assert!(rt; matches!(full, Poll::Pending));
@@ -108,12 +107,19 @@ fn read_exact(rt: &impl Abort, driver: &mut Driver, half: &mut RecvStream) {
     let few = half.read_exact(driver, &mut buffer).expect(rt, "no memory");
     assert!(rt; matches!(few, Poll::Pending));
     assert!(rt; buffer == [9, 9, 9, 9]);
-    let enough = half.read_exact(driver, &mut buffer[..1]).expect(rt, "no memory");
+    let enough = half
+        .read_exact(driver, &mut buffer[..1])
+        .expect(rt, "no memory");
     assert!(rt; matches!(enough, Poll::Ready(Ok(_))));
     assert!(rt; buffer == [0x63, 9, 9, 9]);
     end(rt, driver, 4);
     let early = half.read_exact(driver, &mut buffer).expect(rt, "no memory");
-    assert!(rt; matches!(early, Poll::Ready(Err(StreamReadExactError::FinishedEarly(1)))));
+    assert!(rt;
+        matches!(
+            early,
+            Poll::Ready(Err(StreamReadExactError::FinishedEarly(1)))
+        )
+    );
     assert!(rt; buffer == [0x64, 9, 9, 9]);
     let over = half.read(driver, &mut buffer).expect(rt, "no memory");
     assert!(rt; matches!(over, Poll::Ready(Ok(None))));

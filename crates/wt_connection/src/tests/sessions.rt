@@ -1,5 +1,7 @@
 //! One call of each method of a session and of an opening, with its answer.
-use super::drivers::{Out, bytes, connection, datagram, expect, given, number, peer_uni, stream, with_session};
+use super::drivers::{
+    Out, bytes, connection, datagram, expect, given, number, peer_uni, stream, with_session,
+};
 use crate::connection::Connection;
 use crate::opening::{OpeningBiStream, OpeningUniStream};
 use std::alloc::Global;
@@ -21,7 +23,9 @@ fn accept_uni(rt: &impl Abort, alloc: Global, driver: &mut Driver, session: &mut
 
 fn receive(rt: &impl Abort, alloc: Global, driver: &mut Driver, session: &mut Connection) {
     datagram(rt, alloc, driver, &[0x00, 0x68, 0x69]);
-    let answer = session.receive_datagram(alloc, driver).expect(rt, "no memory");
+    let answer = session
+        .receive_datagram(alloc, driver)
+        .expect(rt, "no memory");
     let datagram = given(rt, answer);
     assert!(rt; datagram.payload() == b"hi".as_slice());
 }
@@ -29,10 +33,14 @@ fn receive(rt: &impl Abort, alloc: Global, driver: &mut Driver, session: &mut Co
 fn send(rt: &impl Abort, alloc: Global, driver: &mut Driver, session: &mut Connection) {
     let size = session.max_datagram_size(driver).expect(rt, "no memory");
     assert!(rt; size == Some(1199));
-    let sent = session.send_datagram(alloc, driver, b"hi").expect(rt, "no memory");
+    let sent = session
+        .send_datagram(alloc, driver, b"hi")
+        .expect(rt, "no memory");
     assert!(rt; sent.is_ok());
     expect(rt, driver, &[Out::Datagram(&[0x00, 0x68, 0x69])]);
-    let long = session.send_datagram(alloc, driver, &[0; 1200]).expect(rt, "no memory");
+    let long = session
+        .send_datagram(alloc, driver, &[0; 1200])
+        .expect(rt, "no memory");
     assert!(rt; matches!(long, Err(SendDatagramError::TooLarge)));
 }
 
@@ -97,7 +105,9 @@ fn streams_are_opened(rt: HostRuntime) {
 fn close(rt: &impl Abort, alloc: Global, driver: &mut Driver, session: &mut Connection) {
     let open = session.closed(alloc, driver).expect(rt, "no memory");
     assert!(rt; matches!(open, Poll::Pending));
-    session.close(alloc, driver, number(8), b"bye").expect(rt, "no memory");
+    session
+        .close(alloc, driver, number(8), b"bye")
+        .expect(rt, "no memory");
     expect(rt, driver, &[Out::Close(8, b"bye")]);
     let closed = session.closed(alloc, driver).expect(rt, "no memory");
     assert!(rt; matches!(closed, Poll::Ready(ConnectionError::LocallyClosed)));
