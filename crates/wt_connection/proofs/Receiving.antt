@@ -1,5 +1,5 @@
 -- The calls on a receiving half that the application has: their plans are those by the log.
-use Rattle.std.specs.Prelude.{[], ◌++◌, ◌==◌, ◌∷◌, ◌≡◌, ◌≤◌, Bool, Err, List, None, Ok, Option, Result, Some, drop, false, if◌then◌else◌, length, min, nat_lt, take, true, ℕ}
+use Rattle.std.specs.Prelude.{[], ◌++◌, ◌==◌, ◌∷◌, ◌≡◌, ◌≤◌, Bool, Err, List, Ok, Option, Result, Some, drop, false, if◌then◌else◌, length, min, nat_lt, take, true, ℕ}
 use Rattle.std.proofs.Common.{◌∙◌, ap, append-nil, arith, refl, sym}
 use Rattle.std.proofs.Math.ListN.{drop_of_length-le}
 use Rattle.std.proofs.Math.Seq.{take-append_seam, take-length}

@@ -1,6 +1,6 @@
 -- The calls on a sending half that the application has: their plans are those by the log.
 use Rattle.std.specs.Prelude.{[], ◌∷◌, ◌≡◌, Bool, Err, List, Ok, Result, false, if◌then◌else◌, true, ℕ, ℤ}
-use Rattle.std.proofs.Common.{◌∙◌, ap, refl, subst, sym}
+use Rattle.std.proofs.Common.{◌∙◌, ap, refl, sym}
 use Rattle.wt_connection.specs.Replies.{reset_reply}
 use Rattle.wt_connection.proofs.Told.{facts_told, leads, tells, told}
 use Rattle.wt_driver.specs.DriverValue.{DriverValue}

@@ -1,7 +1,7 @@
 -- The calls on the established session: their plans are those by the log, and what their replies may be.
 use Rattle.std.specs.Prelude.{[], ◌/◌, ◌∷◌, ◌≡◌, Bool, List, None, Option, Some, false, if◌then◌else◌, length, nat_lt, not, true, ℕ}
 use Rattle.std.proofs.Common.{◌∙◌, ap, refl, subst, sym}
-use Rattle.wt_connection.proofs.Told.{facts_told, leads, tells, told}
+use Rattle.wt_connection.proofs.Told.{facts_told, leads, told}
 use Rattle.wt_connection.specs.Openings.{IsOpening, OpeningStream, opening_in, ready_in}
 use Rattle.wt_connection.specs.Replies.{closed_in, closed_reply, ready_reply, sent_in, sent_reply}
 use Rattle.wt_connection.specs.Standing.{IsEstablished}
@@ -17,19 +17,18 @@ use Rattle.wt_seam_spec.specs.Streams.{local_bi, local_uni, peer_bi, peer_uni}
 use Rattle.wt_session.specs.Given.{poll_reply}
 use Rattle.wt_session_spec.proofs.Uses.{same-opening}
 use Rattle.wt_session_spec.specs.CallFacts.{CallFacts, facts_of}
-use Rattle.wt_session_spec.specs.ConnectionPlans.{close_plan, closed_plan, datagram_by, datagram_if, datagram_plan, header_left, header_sent, opening_plan, poll_plan}
+use Rattle.wt_session_spec.specs.ConnectionPlans.{close_plan, closed_plan, datagram_if, datagram_plan, header_left, header_sent, opening_plan, poll_plan}
 use Rattle.wt_session_spec.specs.HandshakePlans.{AllOut, Ended, HeadProgress, Refused, Short, actions_of_head, left_of, progress_of}
 use Rattle.wt_session_spec.specs.Plan.{Plan, Step, only_reply, perform, send_and_reply}
 use Rattle.wt_session_spec.specs.Plans.{in_session_now, plan_of, with_session}
 use Rattle.wt_session_spec.specs.SessionState.{session_state}
 use Rattle.wt_spec.specs.Answers.{call_effect, in_session, may_call}
-use Rattle.wt_spec.specs.Connection.{accept_stream, opened_reply, payload_limit, receive_datagram, stream_header}
+use Rattle.wt_spec.specs.Connection.{accept_stream, payload_limit, receive_datagram, stream_header}
 use Rattle.wt_spec.specs.Effect.{Effect, poll_only}
 use Rattle.wt_turn.specs.Log.{Log, OpeningStarted}
 use Rattle.wt_turn.specs.declared.action.Action.{Action}
 use Rattle.wt_turn.specs.declared.action.Action.TheVariants as actions
 use Rattle.wt_turn.specs.declared.call.Call.TheVariants as calls
-use Rattle.wt_turn.specs.declared.connection_error.ConnectionError.{ConnectionError}
 use Rattle.wt_turn.specs.declared.datagram_fact.DatagramFact.{DatagramFact}
 use Rattle.wt_turn.specs.declared.datagram_fact.DatagramFact.TheVariants as facts
 use Rattle.wt_turn.specs.declared.reply.Reply.{Reply}

@@ -1,9 +1,7 @@
 use Rattle.std.proofs.Common.{◌∙◌, ap, subst}
 use Rattle.wt_connection.proofs.Sessions.{accept_bi_is}
 use Rattle.wt_driver.specs.Tie.{Follows}
-use Rattle.wt_session.specs.Given.{poll_reply}
 use Rattle.wt_spec.specs.Effect.{Effect}
-use Rattle.wt_turn.specs.declared.reply.Reply.TheVariants as replies
 use Rattle.wt_connection.proofs.connection.Connection.accept_bi.Goals as goal
 
 pub returns-clause-reply : goal.returns-clause-reply

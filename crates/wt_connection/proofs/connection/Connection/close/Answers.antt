@@ -1,4 +1,4 @@
-use Rattle.std.proofs.Common.{◌∙◌, ◌≡◌, List, subst, ℕ}
+use Rattle.std.proofs.Common.{◌≡◌, List, subst, ℕ}
 use Rattle.wt_connection.proofs.Sessions.{close_planned, close_replies, may_use}
 use Rattle.wt_connection.proofs.Told.{always}
 use Rattle.wt_plan.specs.Planned.{planned}
