@@ -1,5 +1,9 @@
+pub mod Told
+pub mod Sending
+pub mod Receiving
+pub mod Sessions
+pub mod Over
 pub mod Beginning
-pub mod Performed
 pub mod Delivering
 pub mod Responding
 pub mod Connects

@@ -1,14 +1,15 @@
-//! The public types of a WebTransport session, over a driver: the session that is established, the
-//! streams that it opens and accepts, their halves, and its datagrams.
+//! The public types of a WebTransport session, over a driver: the handshakes of both sides, the session
+//! that is established, the streams that it opens and accepts, their halves, and its datagrams.
 #![tactic(auto)]
 
 pub mod accepting;
 pub mod bi_stream;
+mod calling;
 pub mod connecting;
 pub mod connection;
 pub mod datagram;
 pub mod incoming;
-mod performing;
+pub mod opening;
 pub mod recv_stream;
 pub mod rejecting;
 mod response;

@@ -1,0 +1,135 @@
+//! One call of each method of a session and of an opening, with its answer.
+use super::drivers::{
+    Out, bytes, connection, datagram, expect, number, peer_uni, stream, with_session,
+};
+use crate::connection::Connection;
+use crate::opening::{OpeningBiStream, OpeningUniStream};
+use std::alloc::Global;
+use std::process::Abort;
+use wt_driver::driver::Driver;
+use wt_turn::connection_error::ConnectionError;
+use wt_turn::poll::Poll;
+use wt_turn::stream_error::SendDatagramError;
+
+fn accept_uni(rt: &impl Abort, alloc: Global, driver: &mut Driver, session: &mut Connection) {
+    let none = session.accept_uni(alloc, driver).expect(rt, "no memory");
+    assert!(rt; matches!(none, Poll::Pending));
+    peer_uni(rt, driver);
+    bytes(rt, alloc, driver, 6, &[0x40, 0x54, 0x00]);
+    match session.accept_uni(alloc, driver).expect(rt, "no memory") {
+        Poll::Ready(Ok(half)) => assert!(rt; half.id() == stream(6)),
+        _ => panic!(rt; "no stream"),
+    }
+}
+
+fn receive(rt: &impl Abort, alloc: Global, driver: &mut Driver, session: &mut Connection) {
+    datagram(rt, alloc, driver, &[0x00, 0x68, 0x69]);
+    match session
+        .receive_datagram(alloc, driver)
+        .expect(rt, "no memory")
+    {
+        Poll::Ready(Ok(datagram)) => assert!(rt; datagram.payload() == b"hi".as_slice()),
+        _ => panic!(rt; "no datagram"),
+    }
+}
+
+fn send(rt: &impl Abort, alloc: Global, driver: &mut Driver, session: &mut Connection) {
+    let size = session.max_datagram_size(driver).expect(rt, "no memory");
+    assert!(rt; size == Some(1199));
+    let sent = session
+        .send_datagram(alloc, driver, b"hi")
+        .expect(rt, "no memory");
+    assert!(rt; sent.is_ok());
+    expect(rt, driver, &[Out::Datagram(&[0x00, 0x68, 0x69])]);
+    let long = session
+        .send_datagram(alloc, driver, &[0; 1200])
+        .expect(rt, "no memory");
+    assert!(rt; matches!(long, Err(SendDatagramError::TooLarge)));
+}
+
+#[test]
+fn streams_and_datagrams_are_given(rt: HostRuntime) {
+    let alloc = rt.alloc();
+    let mut driver = with_session(&rt, alloc);
+    let mut session = connection(&rt);
+    assert!(rt; session.session_id().session_stream() == stream(0));
+    accept_uni(&rt, alloc, &mut driver, &mut session);
+    receive(&rt, alloc, &mut driver, &mut session);
+    send(&rt, alloc, &mut driver, &mut session);
+}
+
+fn begin_uni(rt: &impl Abort, alloc: Global, driver: &mut Driver) -> OpeningUniStream {
+    match connection(rt)
+        .open_uni(alloc, driver)
+        .expect(rt, "no memory")
+    {
+        Poll::Ready(Ok(opening)) => opening,
+        _ => panic!(rt; "no stream"),
+    }
+}
+
+fn begin_bi(rt: &impl Abort, alloc: Global, driver: &mut Driver) -> OpeningBiStream {
+    match connection(rt)
+        .open_bi(alloc, driver)
+        .expect(rt, "no memory")
+    {
+        Poll::Ready(Ok(opening)) => opening,
+        _ => panic!(rt; "no stream"),
+    }
+}
+
+fn open_uni(rt: &impl Abort, alloc: Global, driver: &mut Driver) {
+    let mut opening = begin_uni(rt, alloc, driver);
+    expect(rt, driver, &[Out::Opened(7)]);
+    match opening.poll(alloc, driver).expect(rt, "no memory") {
+        Poll::Ready(Ok(half)) => assert!(rt; half.id() == stream(7)),
+        _ => panic!(rt; "no stream"),
+    }
+    expect(rt, driver, &[Out::Send(7, &[0x40, 0x54, 0x00])]);
+}
+
+fn open_bi(rt: &impl Abort, alloc: Global, driver: &mut Driver) {
+    let mut opening = begin_bi(rt, alloc, driver);
+    expect(rt, driver, &[Out::Opened(1)]);
+    match opening.poll(alloc, driver).expect(rt, "no memory") {
+        Poll::Ready(Ok((send, recv))) => {
+            assert!(rt; send.id() == stream(1));
+            assert!(rt; recv.id() == stream(1));
+        }
+        _ => panic!(rt; "no stream"),
+    }
+    expect(rt, driver, &[Out::Send(1, &[0x40, 0x41, 0x00])]);
+}
+
+#[test]
+fn streams_are_opened(rt: HostRuntime) {
+    let alloc = rt.alloc();
+    let mut driver = with_session(&rt, alloc);
+    open_uni(&rt, alloc, &mut driver);
+    open_bi(&rt, alloc, &mut driver);
+}
+
+fn close(rt: &impl Abort, alloc: Global, driver: &mut Driver, session: &mut Connection) {
+    let open = session.closed(alloc, driver).expect(rt, "no memory");
+    assert!(rt; matches!(open, Poll::Pending));
+    session
+        .close(alloc, driver, number(8), b"bye")
+        .expect(rt, "no memory");
+    expect(rt, driver, &[Out::Close(8, b"bye")]);
+    let closed = session.closed(alloc, driver).expect(rt, "no memory");
+    assert!(rt; matches!(closed, Poll::Ready(ConnectionError::LocallyClosed)));
+}
+
+fn open_late(rt: &impl Abort, alloc: Global, driver: &mut Driver, session: &mut Connection) {
+    let late = session.open_uni(alloc, driver).expect(rt, "no memory");
+    assert!(rt; matches!(late, Poll::Ready(Err(ConnectionError::LocallyClosed))));
+}
+
+#[test]
+fn a_session_is_closed(rt: HostRuntime) {
+    let alloc = rt.alloc();
+    let mut driver = with_session(&rt, alloc);
+    let mut session = connection(&rt);
+    close(&rt, alloc, &mut driver, &mut session);
+    open_late(&rt, alloc, &mut driver, &mut session);
+}
