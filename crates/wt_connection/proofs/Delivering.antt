@@ -1,7 +1,8 @@
 -- What a server's call for a request leads to, by what a driver tells.
-use Rattle.std.specs.Prelude.{[], ◌∷◌, ◌≡◌, Bool, Err, IfOk, List, None, Ok, Option, Result, Some, false, if◌then◌else◌, true, ℕ}
+use Rattle.std.specs.Prelude.{[], ◌&&◌, ◌∷◌, ◌≡◌, Bool, Err, IfOk, List, None, Ok, Option, Result, Some, false, if◌then◌else◌, not, true, ℕ}
 use Rattle.std.proofs.Common.{◌∙◌, ap, refl, subst, sym}
-use Rattle.wt_connection.specs.Incoming.{GivesUnanswered, IsUnanswered, Request, incoming_reply, told_of}
+use Rattle.std.proofs.lemmas.Bool.{and_parts}
+use Rattle.wt_connection.specs.Incoming.{IsUnanswered, Request, StandsWith, incoming_reply, told_of}
 use Rattle.wt_driver.specs.DriverValue.{DriverValue}
 use Rattle.wt_driver.specs.Results.{requests_now}
 use Rattle.wt_dispatch.specs.Requests.{first_request, request_in}
@@ -18,13 +19,14 @@ use Rattle.wt_session_spec.specs.HandshakePlans.{delivery}
 use Rattle.wt_session_spec.specs.Plan.{Plan, Step}
 use Rattle.wt_session_spec.specs.Plans.{plan_of}
 use Rattle.wt_session_spec.specs.SessionState.{session_state}
-use Rattle.wt_spec.specs.Answers.{call_effect, may_call}
+use Rattle.wt_spec.specs.Answers.{call_effect, is_client, is_first, may_call}
 use Rattle.wt_spec.specs.Effect.{Effect, driver_error, log_call, reply_with}
-use Rattle.wt_spec.specs.Handshake.{deliver, handshake_state, queued_requests, request_fields_of, requested}
+use Rattle.wt_spec.specs.Handshake.{awaits_request, deliver, handshake_state, queued_requests, request_fields_of, requested}
 use Rattle.wt_spec.specs.StreamTable.{Classified}
 use Rattle.wt_told.proofs.DriverTheorems.{driver_error_theorem, requests_theorem, told_end_theorem, transport_open_theorem}
 use Rattle.wt_told.proofs.Theorems.{logged_theorem}
-use Rattle.wt_turn.specs.Log.{CallRecord, HandshakeOver, Log, Polled, RequestDelivered, calls_of}
+use Rattle.wt_told.proofs.Turns.{entry-first}
+use Rattle.wt_turn.specs.Log.{CallRecord, Called, HandshakeOver, Log, Polled, RequestDelivered, calls_of}
 use Rattle.wt_turn.specs.declared.connection_error.ConnectionError.{ConnectionError}
 use Rattle.wt_turn.specs.declared.call.Call.TheVariants as calls
 use Rattle.wt_turn.specs.declared.poll.Poll.{Poll}
@@ -117,10 +119,10 @@ module _ (side : Side) (d : DriverValue) (log : Log) (taken : ℕ) (f : Follows 
           if-ok (λ x. x ≡ Ready (Ok r)) (λ x. incoming_reply x ≡ (call_effect side log calls.Incoming).reply) p
           (λ x e. ap incoming_reply e ∙ sym (ap (λ (y : Effect). y.reply) delivered_effect)) given
 
-      pub given_stands : IfOk p (λ x. GivesUnanswered side (call_effect side log calls.Incoming).log x)
+      pub given_stands : IfOk p (λ x. StandsWith side (call_effect side log calls.Incoming).log x)
       given_stands =
-          if-ok (λ x. x ≡ Ready (Ok r)) (λ x. GivesUnanswered side (call_effect side log calls.Incoming).log x) p
-          (λ x e. subst (GivesUnanswered side (call_effect side log calls.Incoming).log) (sym e) delivered_stands) given
+          if-ok (λ x. x ≡ Ready (Ok r)) (λ x. StandsWith side (call_effect side log calls.Incoming).log x) p
+          (λ x e. subst (StandsWith side (call_effect side log calls.Incoming).log) (sym e) delivered_stands) given
 
   -- ---- none is told
 
@@ -133,6 +135,20 @@ module _ (side : Side) (d : DriverValue) (log : Log) (taken : ℕ) (f : Follows 
   undelivered_effect e = effect-is ∙ ap (deliver side log) (none-by (requests_now d.state) first_is_request e)
 
 -- ---- without a request
+
+all-three : (a b c : Bool) → a ≡ true → b ≡ true → c ≡ true → (a && b && c) ≡ true
+all-three true true true x y z = refl
+all-three true true false x y z = absurd cc
+all-three true false c x y z = absurd cc
+all-three false b c x y z = absurd cc
+
+-- behind a poll the call still may come
+may-again : (side : Side) (log : Log) → may_call side log calls.Incoming ≡ true → may_call side (log_call side log [] Polled) calls.Incoming ≡ true
+may-again side log may =
+    let parts = and_parts (not (is_client side) && not (is_first log)) (awaits_request (handshake_state (calls_of log))) may in
+    let made : calls_of (log_call side log [] Polled) ≡ Polled ∷ calls_of log = logged_theorem side log [] Polled in
+    all-three (not (is_client side)) (not (is_first (log_call side log [] Polled))) (awaits_request (handshake_state (calls_of (log_call side log [] Polled)))) (and_parts (not (is_client side)) (not (is_first log)) parts.0).0
+    (ap not (entry-first side (Called Polled) log)) (ap (λ (rs : List CallRecord). awaits_request (handshake_state rs)) made ∙ parts.1)
 
 module _ (side : Side) (d : DriverValue) (log : Log) (taken : ℕ) (f : Follows side d log taken) where
   abbrev undelivered : Bool → ConnectionError → Effect
@@ -166,9 +182,13 @@ module _ (side : Side) (d : DriverValue) (log : Log) (taken : ℕ) (f : Follows 
         if-ok (λ x. x ≡ Ready (Err error)) (λ x. incoming_reply x ≡ (deliver side log []).reply) p
         (λ x e. ap incoming_reply e ∙ sym (ap (λ (y : Effect). y.reply) (undelivered_over b same o error is))) given
 
--- neither gives a request
-pub waiting_stands : (p : Result (Poll (Result Request ConnectionError)) OutOfMemory) (side : Side) (log : Log) → IfOk p (λ x. x ≡ Pending) → IfOk p (λ x. GivesUnanswered side log x)
-waiting_stands p side log given = if-ok (λ x. x ≡ Pending) (λ x. GivesUnanswered side log x) p (λ x e. subst (GivesUnanswered side log) (sym e) tt) given
+    -- it still may be made while it waits
+    pub waiting_stands : (b : Bool) → b ≡ d.inbox.transport.is_open → b ≡ true → may_call side log calls.Incoming ≡ true → IfOk p (λ x. x ≡ Pending) → IfOk p (λ x. StandsWith side (deliver side log []).log x)
+    waiting_stands b same o may given =
+        if-ok (λ x. x ≡ Pending) (λ x. StandsWith side (deliver side log []).log x) p
+        (λ x e. subst (StandsWith side (deliver side log []).log) (sym e) (subst (λ (y : Effect). may_call side y.log calls.Incoming ≡ true) (sym (undelivered_open b same o)) (may-again side log may))) given
 
-pub failing_stands : (p : Result (Poll (Result Request ConnectionError)) OutOfMemory) (side : Side) (log : Log) (error : ConnectionError) → IfOk p (λ x. x ≡ Ready (Err error)) → IfOk p (λ x. GivesUnanswered side log x)
-failing_stands p side log error given = if-ok (λ x. x ≡ Ready (Err error)) (λ x. GivesUnanswered side log x) p (λ x e. subst (GivesUnanswered side log) (sym e) tt) given
+    -- and a failure leaves nothing
+    pub failing_stands : (error : ConnectionError) → IfOk p (λ x. x ≡ Ready (Err error)) → IfOk p (λ x. StandsWith side (deliver side log []).log x)
+    failing_stands error given =
+        if-ok (λ x. x ≡ Ready (Err error)) (λ x. StandsWith side (deliver side log []).log x) p (λ x e. subst (StandsWith side (deliver side log []).log) (sym e) tt) given

@@ -2,8 +2,8 @@ pub mod Told
 pub mod Sending
 pub mod Receiving
 pub mod Sessions
+pub mod Over
 pub mod Beginning
-pub mod Performed
 pub mod Delivering
 pub mod Responding
 pub mod Connects

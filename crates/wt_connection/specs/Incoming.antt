@@ -1,9 +1,11 @@
 -- The request that a server is given (RFC 9220, section 3), and what a poll for it replies.
-use Rattle.std.specs.Prelude.{◌≡◌, Err, List, None, Ok, Option, Result, Some, false, ℕ}
+use Rattle.std.specs.Prelude.{◌≡◌, Err, List, None, Ok, Option, Result, Some, false, true, ℕ}
 use Rattle.wt_connection.specs.Responding.{Response}
 use Rattle.wt_plan.specs.Tells.{KeepsRequestEnd}
+use Rattle.wt_spec.specs.Answers.{may_call}
 use Rattle.wt_spec.specs.Handshake.{Requested, handshake_state, requested}
 use Rattle.wt_turn.specs.Log.{Log, calls_of}
+use Rattle.wt_turn.specs.declared.call.Call.TheVariants as calls
 use Rattle.wt_turn.specs.declared.connection_error.ConnectionError.{ConnectionError}
 use Rattle.wt_turn.specs.declared.poll.Poll.{Poll}
 use Rattle.wt_turn.specs.declared.poll.Poll.TheVariants.{Pending, Ready}
@@ -39,7 +41,8 @@ incoming_reply Pending = replies.Pending
 incoming_reply (Ready (Ok r)) = replies.Request r.id r.fields
 incoming_reply (Ready (Err e)) = replies.Failed e
 
--- the request that a poll gives is that of the log
-abbrev pub GivesUnanswered : Side → Log → Poll (Result Request ConnectionError) → Type 0
-GivesUnanswered side log (Ready (Ok r)) = IsUnanswered side log r
-GivesUnanswered side log _ = Unit {0}
+-- what stands with an answer: the request that it gives, and while it waits the wait itself
+abbrev pub StandsWith : Side → Log → Poll (Result Request ConnectionError) → Type 0
+StandsWith side log Pending = may_call side log calls.Incoming ≡ true
+StandsWith side log (Ready (Ok r)) = IsUnanswered side log r
+StandsWith side log (Ready (Err e)) = Unit {0}

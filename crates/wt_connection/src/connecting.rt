@@ -21,8 +21,8 @@ ghost use Rattle.wt_turn.specs.declared.action.Action.TheVariants as actions;
 ghost use Rattle.wt_turn.specs.declared.call.Call.TheVariants as calls;
 ghost use Rattle.wt_wire.specs.declared.side.Side.{Side};
 
+use crate::calling::perform;
 use crate::connection::Connection;
-use crate::performing::answer;
 use std::alloc::Global;
 use std::marker::Model;
 use wt_connect::connect_request::{request_head, reserved_name};
@@ -223,7 +223,7 @@ impl Connecting {
     {
         let walk = response(d)?;
         let plan = self.plan(alloc, d, walk)?;
-        let reply = answer(alloc, d, plan)?;
+        let reply = perform(alloc, d, plan)?;
         Ok(connected(reply))
     }
 }

@@ -1,7 +1,7 @@
 //! The request for a session that a server is given (RFC 9220, section 3).
 ghost use Rattle.std.specs.Option.{option_copied};
 ghost use Rattle.std.specs.Prelude.{◌≡◌, [], ◌∷◌, IfOk, OnOk, Err, Ok, Some, codes, false, true, ℕ};
-ghost use Rattle.wt_connection.specs.Incoming.{GivesUnanswered, IsUnanswered, incoming_reply, told_of, unbegun};
+ghost use Rattle.wt_connection.specs.Incoming.{IsUnanswered, StandsWith, incoming_reply, told_of, unbegun};
 ghost use Rattle.wt_connection.specs.Responding.{IsPollOf, IsResponse};
 ghost use Rattle.wt_driver.specs.Results.{requests_now};
 ghost use Rattle.wt_dispatch.specs.Requests.{first_request};
@@ -107,7 +107,7 @@ fn fail(d: &mut Driver, error: ConnectionError) -> Result<Given, OutOfMemory>
 fn wait(alloc: Global, d: &mut Driver) -> Result<Given, OutOfMemory>
     ensures reply { (side : Side) (log : Log) (taken : ℕ) → Follows side d.old log taken → IfOk result (λ p. incoming_reply p ≡ (handshake.deliver side log []).reply) }
     ensures log { (side : Side) (log : Log) (taken : ℕ) → Follows side d.old log taken → OnOk result (Follows side d.new (handshake.deliver side log []).log taken) }
-    ensures stands { (side : Side) (log : Log) → IfOk result (λ p. GivesUnanswered side log p) }
+    ensures stands { (side : Side) (log : Log) (taken : ℕ) → Follows side d.old log taken → may_call side log calls.Incoming ≡ true → IfOk result (λ p. StandsWith side (handshake.deliver side log []).log p) }
 {
     let t = d.inbox().transport();
     if t.is_open() {
@@ -154,7 +154,7 @@ impl IncomingSessionFuture {
         ensures log { (side : Side) (log : Log) (taken : ℕ) → Follows side d.old log taken → IsReachable side log → may_call side log calls.Incoming ≡ true
             → OnOk result (Follows side d.new (call_effect side log calls.Incoming).log taken) }
         ensures stands { (side : Side) (log : Log) (taken : ℕ) → Follows side d.old log taken → IsReachable side log → may_call side log calls.Incoming ≡ true
-            → IfOk result (λ p. GivesUnanswered side (call_effect side log calls.Incoming).log p) }
+            → IfOk result (λ p. StandsWith side (call_effect side log calls.Incoming).log p) }
     {
         let request = queued_request(d)?;
         match request {

@@ -1,5 +1,5 @@
-//! The public types of a WebTransport session, over a driver: the session that is established, the
-//! streams that it opens and accepts, their halves, and its datagrams.
+//! The public types of a WebTransport session, over a driver: the handshakes of both sides, the session
+//! that is established, the streams that it opens and accepts, their halves, and its datagrams.
 #![tactic(auto)]
 
 pub mod accepting;
@@ -10,7 +10,6 @@ pub mod connection;
 pub mod datagram;
 pub mod incoming;
 pub mod opening;
-mod performing;
 pub mod recv_stream;
 pub mod rejecting;
 mod response;

@@ -14,7 +14,7 @@ ghost use Rattle.wt_turn.specs.Records.{record_of};
 ghost use Rattle.wt_turn.specs.declared.call.Call.{Call};
 ghost use Rattle.wt_wire.specs.declared.side.Side.{Side};
 
-use crate::performing::answer;
+use crate::calling::perform;
 use std::alloc::Global;
 use std::marker::Model;
 use wt_driver::driver::Driver;
@@ -108,7 +108,7 @@ impl Response {
             → IfOk result (λ r. StandsWith side (call_effect side log call).log accepts self.new r) }
     {
         let plan = self.plan(alloc, d, accepts)?;
-        let reply = answer(alloc, d, plan)?;
+        let reply = perform(alloc, d, plan)?;
         self.has_begun = true;
         Ok(reply)
     }

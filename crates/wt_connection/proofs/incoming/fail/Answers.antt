@@ -1,4 +1,4 @@
-use Rattle.wt_connection.proofs.Performed.{over_may}
+use Rattle.wt_connection.proofs.Over.{over_may}
 use Rattle.wt_connection.proofs.incoming.fail.Goals as goal
 
 pub returns-clause-log : goal.returns-clause-log

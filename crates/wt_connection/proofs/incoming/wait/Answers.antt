@@ -19,7 +19,9 @@ returns-then-is_open-clause-log c = λ side log taken f.
     (sym (undelivered_open side c.args.d.now log taken f c.is_open.result (c.is_open.ensures.now ∙ ap (λ (x : TransportState). x.is_open) there) c.if-is_open.true)) (c.wait_on.ensures.log side log taken f)
 
 pub returns-then-is_open-clause-stands : goal.returns-then-is_open-clause-stands
-returns-then-is_open-clause-stands c = λ side log. waiting_stands c.wait_on.result side log c.wait_on.ensures.given
+returns-then-is_open-clause-stands c = λ side log taken f may.
+    let there = c.transport-t.ensures ∙ ap (λ (x : InboxState). x.transport) c.inbox.ensures in
+    waiting_stands side c.args.d.now log taken f c.wait_on.result c.is_open.result (c.is_open.ensures.now ∙ ap (λ (x : TransportState). x.is_open) there) c.if-is_open.true may c.wait_on.ensures.given
 
 pub returns-clause-reply : goal.returns-clause-reply
 returns-clause-reply c = λ side log taken f.
@@ -35,4 +37,4 @@ returns-clause-log c = λ side log taken f.
     (c.in_ok-error.ensures ∙ ap (λ (x : TransportState). error_now x c.args.d.now.state.progress.ending) there))) (c.fail.ensures.log side log taken f)
 
 pub returns-clause-stands : goal.returns-clause-stands
-returns-clause-stands c = λ side log. failing_stands c.fail.result side log c.in_ok-error.error c.fail.ensures.given
+returns-clause-stands c = λ side log taken f may. failing_stands side c.args.d.now log taken f c.fail.result c.in_ok-error.error c.fail.ensures.given

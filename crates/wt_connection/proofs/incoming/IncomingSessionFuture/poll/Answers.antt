@@ -1,7 +1,7 @@
 use Rattle.std.proofs.Common.{◌∙◌, ◌≡◌, IfOk, OnOk, ap, subst, sym}
 use Rattle.wt_connection.proofs.Delivering.{delivered_effect, first_is_request, given_reply, given_stands, may_deliver, undelivered_effect}
 use Rattle.wt_connection.proofs.incoming.IncomingSessionFuture.poll.Goals as goal
-use Rattle.wt_connection.specs.Incoming.{incoming_reply, told_of}
+use Rattle.wt_connection.specs.Incoming.{StandsWith, incoming_reply, told_of}
 use Rattle.wt_driver.specs.Tie.{Follows}
 use Rattle.wt_spec.specs.Answers.{call_effect}
 use Rattle.wt_spec.specs.Effect.{Effect}
@@ -34,4 +34,6 @@ returns-in-None-clause-log c = λ side log taken f reach may.
     subst (λ (x : Effect). OnOk c.wait.result (Follows side c.wait.new.d x.log taken)) (sym (undelivered_effect side c.args.d.now log taken f reach may none)) (c.wait.ensures.log side log taken f)
 
 pub returns-in-None-clause-stands : goal.returns-in-None-clause-stands
-returns-in-None-clause-stands c = λ side log taken f reach may. c.wait.ensures.stands side (call_effect side log calls.Incoming).log
+returns-in-None-clause-stands c = λ side log taken f reach may.
+    let none = sym (ap told_of c.in-None.is) ∙ c.in_ok-request.ensures (first_is_request side c.args.d.now log taken f reach may) in
+    subst (λ (x : Effect). IfOk c.wait.result (λ p. StandsWith side x.log p)) (sym (undelivered_effect side c.args.d.now log taken f reach may none)) (c.wait.ensures.stands side log taken f may)
