@@ -6,7 +6,7 @@ use Rattle.wt_driver.proofs.AcceptLooks.{LooksOn, enough-looks, none-due, one-lo
 use Rattle.wt_driver.proofs.AcceptUses.{MayPass, datagram-kept, due-kept, due-parts, may-give, may-pass-due, may-settle, other-open, passed-less}
 use Rattle.wt_driver.specs.DriverValue.{DriverValue}
 use Rattle.wt_dispatch.specs.Found.{due_as}
-use Rattle.wt_driver.specs.Given.{given_by, is_own, next_datagram_now, payload_by, payload_in}
+use Rattle.wt_driver.specs.Given.{ended_or_pending, given_by, is_own, next_datagram_now, payload_by, payload_in}
 use Rattle.wt_driver.specs.Moving.{front_of}
 use Rattle.wt_driver.specs.Tie.{Follows, unsettled}
 use Rattle.wt_driver_spec.specs.Asking.{MayBeCalled}
@@ -121,6 +121,17 @@ received-is side log taken session looks d f all =
     (omega (arith, length-drop (settled_datagrams (calls_of log)) (datagrams_of (events_of log))))
     (let same : length d.queue ≡ length (unsettled log) = ap (λ (q : List (List ℕ)). length q) f.refines.queue_is in omega arith)
 
+-- one that is due has a payload
+pub front-paid : (session : ℕ) (d : DriverValue) (o : Option Bool) (own : Bool) (piece : Option (List ℕ)) → o ≡ is_own session (next_datagram_now d) → o ≡ Some own → piece ≡ front_of d.queue
+    → payload_in (read_datagram piece) ≡ None → piece ≡ None
+front-paid session d o own piece found is front none =
+    absurd (by (nat_lt d.state.datagrams d.state.progress.datagrams) (read_datagram (front_of d.queue)) (sym found ∙ is) (sym (ap (λ (x : Option (List ℕ)). payload_in (read_datagram x)) front) ∙ none))
+  where
+    by : (b : Bool) (x : Option (ℕ × List ℕ)) → is_own session (if b then x else None) ≡ Some own → payload_in x ≡ None → ⊥
+    by false x g n = cc
+    by true None g n = cc
+    by true (Some x) g n = cc
+
 module _ (side : Side) (taken session left : ℕ) (whole : Outcome Log (List ℕ)) (d : DriverValue) (s : LooksOn side taken (log_datagrams side session) whole left d)
     (o : Option Bool) (found : o ≡ is_own session (next_datagram_now d)) where
   kept : next_datagram side s.log_now ≡ next_datagram_now d
@@ -181,11 +192,22 @@ pub always-ok : {T E P : Type 0} (r : Result T E) → P → OnOk r P
 always-ok (Ok x) p = p
 always-ok (Err e) p = tt
 
--- nothing is given
-pub nothing-by : {T : Type 0} (r : Result (Poll (Result T DriverError)) OutOfMemory) (o : Option T) → None ≡ o → IfOk r (λ p. given_by p ≡ None) → IfOk r (λ p. given_by p ≡ o)
-nothing-by (Ok p) o e f = f ∙ e
-nothing-by (Err x) o e f = f
+-- the end and the wait give nothing
+gives-none : {T : Type 0} (end : Option DriverError) → given_by {T = T} (ended_or_pending end) ≡ None
+gives-none None = refl
+gives-none (Some error) = refl
 
-pub nothing-paid : (r : Result (Poll (Result (List ℕ) DriverError)) OutOfMemory) (o : Option (List ℕ)) → None ≡ o → IfOk r (λ p. given_by p ≡ None) → IfOk r (λ p. payload_by p ≡ o)
-nothing-paid (Ok p) o e f = ap (λ (x : Option (List ℕ)). payload_in (read_datagram x)) f ∙ e
-nothing-paid (Err x) o e f = f
+-- nothing is given
+pub nothing-by : {T : Type 0} (r : Result (Poll (Result T DriverError)) OutOfMemory) (o : Option T) (end : Option DriverError) → None ≡ o → IfOk r (λ p. p ≡ ended_or_pending end) → IfOk r (λ p. given_by p ≡ o)
+nothing-by {T} (Ok p) o end e f = ap (λ (x : Poll (Result T DriverError)). given_by x) f ∙ gives-none end ∙ e
+nothing-by (Err x) o end e f = f
+
+pub nothing-paid : (r : Result (Poll (Result (List ℕ) DriverError)) OutOfMemory) (o : Option (List ℕ)) (end : Option DriverError) → None ≡ o → IfOk r (λ p. p ≡ ended_or_pending end) → IfOk r (λ p. payload_by p ≡ o)
+nothing-paid (Ok p) o end e f = ap (λ (x : Poll (Result (List ℕ) DriverError)). payload_by x) f ∙ ap (λ (x : Option (List ℕ)). payload_in (read_datagram x)) (gives-none end) ∙ e
+nothing-paid (Err x) o end e f = f
+
+-- it is the end, or the wait, whatever is asked of what it gives
+pub nothing-else : {T : Type 0} (r : Result (Poll (Result T DriverError)) OutOfMemory) (end : Option DriverError) (asked : Poll (Result T DriverError) → Type 0) → IfOk r (λ p. p ≡ ended_or_pending end)
+    → IfOk r (λ p. asked p → p ≡ ended_or_pending end)
+nothing-else (Ok p) end asked f = λ _. f
+nothing-else (Err x) end asked f = f

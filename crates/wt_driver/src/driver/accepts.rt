@@ -2,8 +2,9 @@
 ghost use Rattle.std.specs.Prelude.{◌≡◌, ◌∷◌, IfOk, List, None, OnOk, Some, suc, true, ℕ};
 ghost use Rattle.wt_driver.specs.DriverValue.{IsAmong, with_state, without_first};
 ghost use Rattle.wt_dispatch.specs.Found.{due_as};
-ghost use Rattle.wt_driver.specs.Given.{given_by, is_own, next_datagram_now, payload_by, payload_in};
+ghost use Rattle.wt_driver.specs.Given.{ended_or_pending, given_by, is_own, next_datagram_now, payload_by, payload_in};
 ghost use Rattle.wt_driver.specs.Moving.{front_of};
+ghost use Rattle.wt_driver.specs.Results.{result_of};
 ghost use Rattle.wt_driver.specs.Tie.{Follows};
 ghost use Rattle.wt_driver_spec.specs.Asking.{MayBeCalled};
 ghost use Rattle.wt_driver_spec.specs.Due.{accepted, due_stream, log_streams, passing, received, state_next_due, take_due};
@@ -147,7 +148,7 @@ impl Driver {
 
     /// What a call answers that has nothing to give.
     fn nothing_left<T>(&self) -> Result<Poll<Result<T, DriverError>>, OutOfMemory>
-        ensures { IfOk result (λ p. given_by p ≡ None) }
+        ensures { IfOk result (λ p. p ≡ ended_or_pending (result_of self.now.state.is_open self.now.state.progress.ending)) }
     {
         match self.result()? {
             None => Ok(Poll::Pending),
@@ -162,6 +163,7 @@ impl Driver {
     ) -> Result<Poll<Result<StreamId, DriverError>>, OutOfMemory>
         ensures log { (side : Side) (log : Log) (taken : ℕ) → Follows side self.old log taken → OnOk result (Follows side self.new (accepted side (peer_uni side) log session).state taken) }
         ensures given { (side : Side) (log : Log) (taken : ℕ) → Follows side self.old log taken → IfOk result (λ p. given_by p ≡ (accepted side (peer_uni side) log session).given) }
+        ensures nothing { IfOk result (λ p. given_by p ≡ None → p ≡ ended_or_pending (result_of self.new.state.is_open self.new.state.progress.ending)) }
     {
         let kind = peer_uni(self.inbox.side());
         let looks = self.inbox.peer_unis();
@@ -178,6 +180,7 @@ impl Driver {
     ) -> Result<Poll<Result<StreamId, DriverError>>, OutOfMemory>
         ensures log { (side : Side) (log : Log) (taken : ℕ) → Follows side self.old log taken → OnOk result (Follows side self.new (accepted side (peer_bi side) log session).state taken) }
         ensures given { (side : Side) (log : Log) (taken : ℕ) → Follows side self.old log taken → IfOk result (λ p. given_by p ≡ (accepted side (peer_bi side) log session).given) }
+        ensures nothing { IfOk result (λ p. given_by p ≡ None → p ≡ ended_or_pending (result_of self.new.state.is_open self.new.state.progress.ending)) }
     {
         let kind = peer_bi(self.inbox.side());
         let looks = self.inbox.peer_bis();
@@ -238,6 +241,7 @@ impl Driver {
     fn receive(&mut self, session: SessionId) -> Result<Option<Piece>, OutOfMemory>
         ensures log { (side : Side) (log : Log) (taken : ℕ) → Follows side self.old log taken → OnOk result (Follows side self.new (received side log session).state taken) }
         ensures given { (side : Side) (log : Log) (taken : ℕ) → Follows side self.old log taken → IfOk result (λ piece. payload_in (read_datagram piece) ≡ (received side log session).given) }
+        ensures nothing { IfOk result (λ piece. payload_in (read_datagram piece) ≡ None → piece ≡ None) }
     {
         let mut left = self.queue.len();
         loop {
@@ -262,6 +266,7 @@ impl Driver {
     ) -> Result<Poll<Result<Piece, DriverError>>, OutOfMemory>
         ensures log { (side : Side) (log : Log) (taken : ℕ) → Follows side self.old log taken → OnOk result (Follows side self.new (received side log session).state taken) }
         ensures given { (side : Side) (log : Log) (taken : ℕ) → Follows side self.old log taken → IfOk result (λ p. payload_by p ≡ (received side log session).given) }
+        ensures nothing { IfOk result (λ p. payload_by p ≡ None → p ≡ ended_or_pending (result_of self.new.state.is_open self.new.state.progress.ending)) }
     {
         match self.receive(session)? {
             Some(piece) => Ok(Poll::Ready(Ok(piece))),

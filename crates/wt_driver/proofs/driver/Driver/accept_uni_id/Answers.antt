@@ -1,6 +1,9 @@
-use Rattle.std.proofs.Common.{ℕ, sym, ap, subst, ◌∙◌}
-use Rattle.wt_driver.proofs.AcceptSteps.{accepted-is, always-ok, nothing-by}
+use Rattle.std.proofs.Common.{◌≡◌, ℕ, sym, ap, subst, ◌∙◌}
+use Rattle.std.specs.Prelude.{None}
+use Rattle.wt_driver.proofs.AcceptSteps.{accepted-is, always-ok, nothing-by, nothing-else}
 use Rattle.wt_driver.specs.DriverValue.{DriverValue}
+use Rattle.wt_driver.specs.Given.{given_by}
+use Rattle.wt_driver.specs.Results.{result_of}
 use Rattle.wt_driver.specs.Tie.{Follows, untaken_since}
 use Rattle.wt_driver_spec.specs.Due.{Outcome, accepted}
 use Rattle.wt_inbox.specs.Stage.{Refines}
@@ -22,6 +25,7 @@ returns-in-Some c = record {
       (c.peer_uni-kind.ensures.kind ∙ ap peer_uni (c.side.ensures.log side log f.refines.stage (untaken_since taken log) inbox))
       (c.peer_unis-looks.ensures.log side log f.refines.stage (untaken_since taken log) inbox) in
       sym c.in-Some.is ∙ c.in_ok-id.ensures.given side log taken f ∙ ap (λ (x : Outcome Log ℕ). x.given) whole;
+  nothing = λ e. absurd cc;
 }
 
 pub returns-in-None : goal.returns-in-None
@@ -37,5 +41,6 @@ returns-in-None c = record {
       let whole = accepted-is side log c.peer_uni-kind.result (peer_uni side) c.args.session c.peer_unis-looks.result
       (c.peer_uni-kind.ensures.kind ∙ ap peer_uni (c.side.ensures.log side log f.refines.stage (untaken_since taken log) inbox))
       (c.peer_unis-looks.ensures.log side log f.refines.stage (untaken_since taken log) inbox) in
-      nothing-by c.nothing_left.result (accepted side (peer_uni side) log c.args.session).given (sym c.in-None.is ∙ c.in_ok-id.ensures.given side log taken f ∙ ap (λ (x : Outcome Log ℕ). x.given) whole) c.nothing_left.ensures;
+      nothing-by c.nothing_left.result (accepted side (peer_uni side) log c.args.session).given (result_of c.accept.new.self.state.is_open c.accept.new.self.state.progress.ending) (sym c.in-None.is ∙ c.in_ok-id.ensures.given side log taken f ∙ ap (λ (x : Outcome Log ℕ). x.given) whole) c.nothing_left.ensures;
+  nothing = nothing-else c.nothing_left.result (result_of c.accept.new.self.state.is_open c.accept.new.self.state.progress.ending) (λ p. given_by p ≡ None) c.nothing_left.ensures;
 }

@@ -1,6 +1,6 @@
 use Rattle.std.proofs.Common.{arith, ◌<◌, length, refl, ap, ◌∙◌}
 use Rattle.std.proofs.lemmas.Grind.{common_steps}
-use Rattle.wt_driver.proofs.AcceptSteps.{datagram-follows, datagram-given, datagram-may, datagram-passed, end-follows, end-given, looks-again, none-paid, none-received, received-is}
+use Rattle.wt_driver.proofs.AcceptSteps.{datagram-follows, datagram-given, datagram-may, datagram-passed, end-follows, end-given, front-paid, looks-again, none-paid, none-received, received-is}
 use Rattle.wt_driver.specs.DriverValue.{DriverValue}
 use Rattle.wt_driver_spec.specs.Due.{log_datagrams, received}
 use Rattle.wt_spec.specs.Driver.{log_and_flush}
@@ -16,6 +16,7 @@ returns-in_default c = record {
       none-received side taken c.args.session c.loop-is_own.left (received side log c.args.session) c.loop-is_own.self (c.loop-is_own.invariant side log taken f) c.next_datagram.result c.next_datagram.ensures c.in_default.is;
   given = λ side log taken f.
       none-paid side taken c.args.session c.loop-is_own.left (received side log c.args.session) c.loop-is_own.self (c.loop-is_own.invariant side log taken f) c.next_datagram.result c.next_datagram.ensures c.in_default.is;
+  nothing = λ e. refl;
 }
 
 pub returns-then-is_own : goal.returns-then-is_own
@@ -28,6 +29,7 @@ returns-then-is_own c = record {
   given = λ side log taken f.
       datagram-given side taken c.args.session c.loop-is_own.left (received side log c.args.session) c.loop-is_own.self (c.loop-is_own.invariant side log taken f) c.next_datagram.result c.next_datagram.ensures c.in-Some.is_own c.in-Some.is
       c.in_ok-piece.piece c.if-is_own.true c.in_ok-piece.ensures.piece;
+  nothing = front-paid c.args.session c.loop-is_own.self c.next_datagram.result c.in-Some.is_own c.in_ok-piece.piece c.next_datagram.ensures c.in-Some.is c.in_ok-piece.ensures.piece;
 }
 
 pub returns-then-left-eq0 : goal.returns-then-left-eq0
@@ -42,6 +44,7 @@ returns-then-left-eq0 c = record {
       let s = c.loop-is_own.invariant side log taken f in
       end-given side taken (log_datagrams side c.args.session) (received side log c.args.session) (log_and_flush side s.log_now (Called DatagramPassed)) c.loop-is_own.left
       (datagram-passed side taken c.args.session c.loop-is_own.left (received side log c.args.session) c.loop-is_own.self s c.next_datagram.result c.next_datagram.ensures c.in-Some.is_own c.in-Some.is c.if-is_own.false) c.if-left-eq0.true;
+  nothing = λ e. refl;
 }
 
 pub loop-is_own-preserved-else-left-eq0 : goal.loop-is_own-preserved-else-left-eq0

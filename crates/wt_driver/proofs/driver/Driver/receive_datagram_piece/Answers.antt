@@ -1,7 +1,8 @@
-use Rattle.std.proofs.Common.{sym, ap, ◌∙◌}
-use Rattle.wt_driver.proofs.AcceptSteps.{always-ok, nothing-paid}
-use Rattle.std.specs.Prelude.{List, Option, ℕ}
-use Rattle.wt_driver.specs.Given.{payload_in}
+use Rattle.std.proofs.Common.{◌≡◌, sym, ap, ◌∙◌}
+use Rattle.wt_driver.proofs.AcceptSteps.{always-ok, nothing-else, nothing-paid}
+use Rattle.std.specs.Prelude.{List, None, Option, Some, ℕ}
+use Rattle.wt_driver.specs.Given.{payload_by, payload_in}
+use Rattle.wt_driver.specs.Results.{result_of}
 use Rattle.wt_driver_spec.specs.Due.{received}
 use Rattle.wt_spec.specs.Connection.{read_datagram}
 use Rattle.wt_driver.proofs.driver.Driver.receive_datagram_piece.Goals as goal
@@ -10,10 +11,15 @@ pub returns-in-Some-clause-given : goal.returns-in-Some-clause-given
 returns-in-Some-clause-given c = λ side log taken f.
     ap (λ (x : Option (List ℕ)). payload_in (read_datagram x)) (sym c.in-Some.is) ∙ c.in_ok-piece.ensures.given side log taken f
 
+pub returns-in-Some-clause-nothing : goal.returns-in-Some-clause-nothing
+returns-in-Some-clause-nothing c = λ e.
+    absurd (let none : Some c.in-Some.piece ≡ None = sym c.in-Some.is ∙ c.in_ok-piece.ensures.nothing (ap (λ (x : Option (List ℕ)). payload_in (read_datagram x)) c.in-Some.is ∙ e) in cc)
+
 pub returns-in-None : goal.returns-in-None
 returns-in-None c = record {
   log = λ side log taken f. always-ok c.nothing_left.result (c.in_ok-piece.ensures.log side log taken f);
   given = λ side log taken f.
-      nothing-paid c.nothing_left.result (received side log c.args.session).given
+      nothing-paid c.nothing_left.result (received side log c.args.session).given (result_of c.receive.new.self.state.is_open c.receive.new.self.state.progress.ending)
       (ap (λ (x : Option (List ℕ)). payload_in (read_datagram x)) (sym c.in-None.is) ∙ c.in_ok-piece.ensures.given side log taken f) c.nothing_left.ensures;
+  nothing = nothing-else c.nothing_left.result (result_of c.receive.new.self.state.is_open c.receive.new.self.state.progress.ending) (λ p. payload_by p ≡ None) c.nothing_left.ensures;
 }
