@@ -1,6 +1,9 @@
-pub mod ConnectOptions
-pub mod Kept
-pub mod MayPlan
-pub mod Keeping
-pub mod Given
-pub mod Walking
+pub mod Connecting
+pub mod Datagrams
+pub mod Halves
+pub mod Incoming
+pub mod Lending
+pub mod Openings
+pub mod Replies
+pub mod Responding
+pub mod Standing

@@ -1,13 +1,18 @@
-//! A WebTransport session: which calls of the application may come, what each is planned to do by what
-//! is kept, and what a plan leads to over a driver. Beside it stands what a client is asked to connect
-//! to.
+//! The public types of a WebTransport session, over a driver: the handshakes of both sides, the session
+//! that is established, the streams that it opens and accepts, their halves, and its datagrams.
 #![tactic(auto)]
 
-pub mod acting;
-pub mod admission;
-pub mod connect_options;
-pub mod perform;
-pub mod plans;
-pub mod session;
+pub mod accepting;
+pub mod bi_stream;
+mod calling;
+pub mod connecting;
+pub mod connection;
+pub mod datagram;
+pub mod incoming;
+pub mod opening;
+pub mod recv_stream;
+pub mod rejecting;
+mod response;
+pub mod send_stream;
 #[cfg(test)]
 mod tests;

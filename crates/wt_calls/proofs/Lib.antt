@@ -1,0 +1,10 @@
+pub mod Halves
+pub mod Fields
+pub mod Sessions
+pub mod Handshakes
+pub mod Admitted
+pub mod Answered
+pub mod Ends
+pub mod Gives
+pub mod Planning
+pub mod SessionStreams

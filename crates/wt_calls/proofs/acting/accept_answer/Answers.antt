@@ -1,0 +1,15 @@
+use Rattle.std.proofs.Common.{◌∙◌, Option, ap, sym, ℕ}
+use Rattle.wt_driver_spec.specs.Due.{reply_or}
+use Rattle.wt_calls.specs.Given.{wait_reply}
+use Rattle.wt_spec.specs.Effect.{pending_or_failed}
+use Rattle.wt_calls.proofs.acting.accept_answer.Goals as goal
+
+pub returns-in-Some-2-clause-reply : goal.returns-in-Some-2-clause-reply
+returns-in-Some-2-clause-reply c = λ kind side log taken f.
+    ap wait_reply (sym c.in-Some-2.is) ∙ c.in_ok-error-in-None.ensures side log taken f
+    ∙ sym (ap (λ (o : Option ℕ). reply_or kind (pending_or_failed side log) o) c.in-None.is)
+
+pub returns-in-None-2-clause-reply : goal.returns-in-None-2-clause-reply
+returns-in-None-2-clause-reply c = λ kind side log taken f.
+    ap wait_reply (sym c.in-None-2.is) ∙ c.in_ok-error-in-None.ensures side log taken f
+    ∙ sym (ap (λ (o : Option ℕ). reply_or kind (pending_or_failed side log) o) c.in-None.is)

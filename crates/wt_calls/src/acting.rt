@@ -1,0 +1,280 @@
+//! What a call leads to over a driver alone: its actions, its record, and what an accept or a receive gives.
+ghost use Rattle.std.specs.Prelude.{◌≡◌, IfOk, OnOk, ℕ};
+ghost use Rattle.wt_driver.specs.Given.{given_by, payload_by};
+ghost use Rattle.wt_driver.specs.Tie.{Follows};
+ghost use Rattle.wt_driver_spec.specs.Asking.{MayBeCalled};
+ghost use Rattle.wt_driver_spec.specs.Due.{accepted, reply_or};
+ghost use Rattle.wt_plan.specs.Planned.{planned};
+ghost use Rattle.wt_seam_spec.specs.Streams.{peer_bi, peer_uni};
+ghost use Rattle.wt_calls.specs.Given.{given_in, poll_reply, wait_reply};
+ghost use Rattle.wt_session_acts.specs.Performing.{MayPerform, MaySendAll};
+ghost use Rattle.wt_session_spec.specs.Plan.{perform};
+ghost use Rattle.wt_session_spec.specs.Plan as session;
+ghost use Rattle.wt_spec.specs.Connection.{accept_stream, receive_datagram};
+ghost use Rattle.wt_spec.specs.Driver.{log_and_flush};
+ghost use Rattle.wt_spec.specs.Effect.{log_call, pending_or_failed};
+ghost use Rattle.wt_turn.specs.Log.{Called, Log, Polled, with_actions};
+ghost use Rattle.wt_turn.specs.Records.{record_of};
+ghost use Rattle.wt_turn.specs.declared.reply.Reply.TheVariants as replies;
+ghost use Rattle.wt_wire.specs.declared.side.Side.{Side};
+
+use crate::plans::facts::driver_error;
+use std::alloc::Global;
+use wt_driver::driver::Driver;
+use wt_plan::plan::Plan;
+use wt_proto::datagram::H3Datagram;
+use wt_turn::action::Action;
+use wt_turn::connection_error::ConnectionError;
+use wt_turn::driver_error::DriverError;
+use wt_turn::piece::Piece;
+use wt_turn::poll::Poll;
+use wt_turn::record::Record;
+use wt_turn::reply::Reply;
+use wt_wire::error::OutOfMemory;
+use wt_wire::ids::{SessionId, StreamId};
+
+// ---- actions and records
+
+/// These actions go out, one after another.
+///
+/// # Errors
+///
+/// `OutOfMemory` where one of them found no memory.
+pub fn act_all(d: &mut Driver, own: Vec<Action>) -> Result<(), OutOfMemory>
+    ensures log { (side : Side) (log : Log) (taken : ℕ) → Follows side d.old log taken → MaySendAll side log own.items → OnOk result (Follows side d.new (with_actions own.items log) taken) }
+{
+    for action in own {
+        d.act(action)?;
+    }
+    Ok(())
+}
+
+/// These actions go out, and then this is recorded.
+///
+/// # Errors
+///
+/// `OutOfMemory` where an action or the record found no memory.
+pub fn step(d: &mut Driver, own: Vec<Action>, call: &Record) -> Result<(), OutOfMemory>
+    ensures log { (side : Side) (log : Log) (taken : ℕ) → Follows side d.old log taken → MaySendAll side log own.items → MayBeCalled side (with_actions own.items log) (record_of call.now) → OnOk result (Follows side d.new (log_call side log own.items (record_of call.now)) taken) }
+{
+    act_all(d, own)?;
+    d.called(call)
+}
+
+/// A poll is recorded.
+#[tactic(auto, using(crate::proofs::Gives::polled_may))]
+fn poll(d: &mut Driver) -> Result<(), OutOfMemory>
+    ensures log { (side : Side) (log : Log) (taken : ℕ) → Follows side d.old log taken → OnOk result (Follows side d.new (log_and_flush side log (Called Polled)) taken) }
+{
+    d.called(&Record::Polled)
+}
+
+/// These actions go out, the session is established, and told.
+///
+/// # Errors
+///
+/// `OutOfMemory` where an action or a record found no memory.
+pub fn establish(
+    d: &mut Driver,
+    own: Vec<Action>,
+    id: SessionId,
+    at: usize,
+) -> Result<(), OutOfMemory>
+    ensures log { (side : Side) (log : Log) (taken : ℕ) → Follows side d.old log taken → MayPerform side log (session.Establish own.items id at) → OnOk result (Follows side d.new (perform side log (session.Establish own.items id at)).log taken) }
+{
+    step(d, own, &Record::SessionEstablished(id.session_stream(), at))?;
+    poll(d)
+}
+
+// ---- accepts and receives
+
+/// How the connection ended, for a call with nothing left to give; None while it is open.
+#[tactic(auto, using(crate::proofs::Gives::pending_now))]
+fn failure(alloc: Global, d: &Driver) -> Result<Option<ConnectionError>, OutOfMemory>
+    ensures { (side : Side) (log : Log) (taken : ℕ) → Follows side d.now log taken → IfOk result (λ e. wait_reply e ≡ pending_or_failed side log) }
+{
+    let t = d.inbox().transport();
+    if t.is_open() {
+        return Ok(None);
+    }
+    Ok(Some(driver_error(alloc, t, d)?))
+}
+
+/// The stream that a poll gives.
+fn given_by(given: Poll<Result<StreamId, DriverError>>) -> Option<StreamId>
+    ensures { result ≡ given_by given }
+{
+    match given {
+        Poll::Ready(Ok(id)) => Some(id),
+        Poll::Ready(Err(_)) | Poll::Pending => None,
+    }
+}
+
+/// The answer of an accept to which this stream was given.
+fn accept_answer(
+    alloc: Global,
+    d: &Driver,
+    given: Option<StreamId>,
+) -> Result<Poll<Result<StreamId, ConnectionError>>, OutOfMemory>
+    ensures reply { (kind : ℕ → Reply) (side : Side) (log : Log) (taken : ℕ) → Follows side d.now log taken → IfOk result (λ p. poll_reply kind p ≡ reply_or kind (pending_or_failed side log) given) }
+    ensures given { IfOk result (λ p. given_in p ≡ given) }
+{
+    match given {
+        Some(id) => Ok(Poll::Ready(Ok(id))),
+        None => match failure(alloc, d)? {
+            Some(error) => Ok(Poll::Ready(Err(error))),
+            None => Ok(Poll::Pending),
+        },
+    }
+}
+
+/// The session's next unidirectional stream is given.
+///
+/// # Errors
+///
+/// `OutOfMemory` where a record, what goes out, or the error found no memory.
+pub fn accept_uni(
+    alloc: Global,
+    d: &mut Driver,
+    session: SessionId,
+) -> Result<Poll<Result<StreamId, ConnectionError>>, OutOfMemory>
+    ensures reply { (side : Side) (log : Log) (taken : ℕ) → Follows side d.old log taken → IfOk result (λ p. poll_reply replies.Uni p ≡ (accept_stream side replies.Uni (peer_uni side) log session).reply) }
+    ensures log { (side : Side) (log : Log) (taken : ℕ) → Follows side d.old log taken → OnOk result (Follows side d.new (accept_stream side replies.Uni (peer_uni side) log session).log taken) }
+    ensures given { (side : Side) (log : Log) (taken : ℕ) → Follows side d.old log taken → IfOk result (λ p. given_in p ≡ (accepted side (peer_uni side) log session).given) }
+{
+    let given = given_by(d.accept_uni_id(session)?);
+    let answer = accept_answer(alloc, d, given)?;
+    poll(d)?;
+    Ok(answer)
+}
+
+/// The session's next bidirectional stream is given.
+///
+/// # Errors
+///
+/// `OutOfMemory` where a record, what goes out, or the error found no memory.
+pub fn accept_bi(
+    alloc: Global,
+    d: &mut Driver,
+    session: SessionId,
+) -> Result<Poll<Result<StreamId, ConnectionError>>, OutOfMemory>
+    ensures reply { (side : Side) (log : Log) (taken : ℕ) → Follows side d.old log taken → IfOk result (λ p. poll_reply replies.Bi p ≡ (accept_stream side replies.Bi (peer_bi side) log session).reply) }
+    ensures log { (side : Side) (log : Log) (taken : ℕ) → Follows side d.old log taken → OnOk result (Follows side d.new (accept_stream side replies.Bi (peer_bi side) log session).log taken) }
+    ensures given { (side : Side) (log : Log) (taken : ℕ) → Follows side d.old log taken → IfOk result (λ p. given_in p ≡ (accepted side (peer_bi side) log session).given) }
+{
+    let given = given_by(d.accept_bi_id(session)?);
+    let answer = accept_answer(alloc, d, given)?;
+    poll(d)?;
+    Ok(answer)
+}
+
+/// The payload of the datagram that a poll gives.
+fn payload_by(
+    alloc: Global,
+    given: Poll<Result<Piece, DriverError>>,
+) -> Result<Option<Piece>, OutOfMemory>
+    ensures { IfOk result (λ payload. payload ≡ payload_by given) }
+{
+    match given {
+        Poll::Ready(Ok(piece)) => match H3Datagram::read(piece.as_slice()) {
+            Ok(datagram) => Ok(Some(Piece::from_slice(alloc, datagram.payload())?)),
+            Err(_) => Ok(None),
+        },
+        Poll::Ready(Err(_)) | Poll::Pending => Ok(None),
+    }
+}
+
+/// The answer of a receive to which this payload was given.
+fn receive_answer(
+    alloc: Global,
+    d: &Driver,
+    payload: Option<Piece>,
+) -> Result<Poll<Result<Piece, ConnectionError>>, OutOfMemory>
+    ensures { (side : Side) (log : Log) (taken : ℕ) → Follows side d.now log taken → IfOk result (λ p. poll_reply replies.Datagram p ≡ reply_or replies.Datagram (pending_or_failed side log) payload) }
+{
+    match payload {
+        Some(payload) => Ok(Poll::Ready(Ok(payload))),
+        None => match failure(alloc, d)? {
+            Some(error) => Ok(Poll::Ready(Err(error))),
+            None => Ok(Poll::Pending),
+        },
+    }
+}
+
+/// The payload of the session's next datagram is given.
+///
+/// # Errors
+///
+/// `OutOfMemory` where a record, the payload, or the error found no memory.
+pub fn receive(
+    alloc: Global,
+    d: &mut Driver,
+    session: SessionId,
+) -> Result<Poll<Result<Piece, ConnectionError>>, OutOfMemory>
+    ensures reply { (side : Side) (log : Log) (taken : ℕ) → Follows side d.old log taken → IfOk result (λ p. poll_reply replies.Datagram p ≡ (receive_datagram side log session).reply) }
+    ensures log { (side : Side) (log : Log) (taken : ℕ) → Follows side d.old log taken → OnOk result (Follows side d.new (receive_datagram side log session).log taken) }
+{
+    let payload = payload_by(alloc, d.receive_datagram_piece(session)?)?;
+    let answer = receive_answer(alloc, d, payload)?;
+    poll(d)?;
+    Ok(answer)
+}
+
+// ---- plans
+
+/// The reply of an accept of a unidirectional stream.
+pub(crate) fn uni_reply(answer: Poll<Result<StreamId, ConnectionError>>) -> Reply
+    ensures { result ≡ poll_reply replies.Uni answer }
+{
+    match answer {
+        Poll::Ready(Ok(id)) => Reply::Uni(id),
+        Poll::Ready(Err(error)) => Reply::Failed(error),
+        Poll::Pending => Reply::Pending,
+    }
+}
+
+/// The reply of an accept of a bidirectional stream.
+pub(crate) fn bi_reply(answer: Poll<Result<StreamId, ConnectionError>>) -> Reply
+    ensures { result ≡ poll_reply replies.Bi answer }
+{
+    match answer {
+        Poll::Ready(Ok(id)) => Reply::Bi(id),
+        Poll::Ready(Err(error)) => Reply::Failed(error),
+        Poll::Pending => Reply::Pending,
+    }
+}
+
+/// The reply of a receive.
+pub(crate) fn datagram_reply(answer: Poll<Result<Piece, ConnectionError>>) -> Reply
+    ensures { result ≡ poll_reply replies.Datagram answer }
+{
+    match answer {
+        Poll::Ready(Ok(payload)) => Reply::Datagram(payload),
+        Poll::Ready(Err(error)) => Reply::Failed(error),
+        Poll::Pending => Reply::Pending,
+    }
+}
+
+/// Does what is planned, and tells the reply.
+///
+/// # Errors
+///
+/// `OutOfMemory` where a part of it found no memory.
+pub fn perform(alloc: Global, d: &mut Driver, plan: Plan) -> Result<Reply, OutOfMemory>
+    ensures reply { (side : Side) (log : Log) (taken : ℕ) → Follows side d.old log taken → IfOk result (λ r. r ≡ (perform side log (planned plan)).reply) }
+    ensures log { (side : Side) (log : Log) (taken : ℕ) → Follows side d.old log taken → MayPerform side log (planned plan) → OnOk result (Follows side d.new (perform side log (planned plan)).log taken) }
+{
+    match plan {
+        Plan::Step { own, call, reply } => {
+            step(d, own, &call)?;
+            Ok(reply)
+        }
+        Plan::Establish { own, id, at } => {
+            establish(d, own, id, at)?;
+            Ok(Reply::Session(id))
+        }
+        Plan::AcceptUni(session) => Ok(uni_reply(accept_uni(alloc, d, session)?)),
+        Plan::AcceptBi(session) => Ok(bi_reply(accept_bi(alloc, d, session)?)),
+        Plan::Receive(session) => Ok(datagram_reply(receive(alloc, d, session)?)),
+    }
+}

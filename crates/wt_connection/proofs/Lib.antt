@@ -1,9 +1,0 @@
-pub mod Told
-pub mod Sending
-pub mod Receiving
-pub mod Sessions
-pub mod Over
-pub mod Beginning
-pub mod Delivering
-pub mod Responding
-pub mod Connects

@@ -1,5 +1,0 @@
-use Rattle.wt_connection.proofs.incoming.wait_on.Goals as goal
-use Rattle.wt_session.proofs.Gives.{polled_may}
-
-pub returns-clause-log : goal.returns-clause-log
-returns-clause-log c = λ side log taken f. c.in_ok-called.ensures.log side log taken f (polled_may side c.args.d.now log taken f)

@@ -1,9 +1,0 @@
-pub mod Connecting
-pub mod Datagrams
-pub mod Halves
-pub mod Incoming
-pub mod Lending
-pub mod Openings
-pub mod Replies
-pub mod Responding
-pub mod Standing

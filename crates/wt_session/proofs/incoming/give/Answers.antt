@@ -1,0 +1,11 @@
+use Rattle.std.proofs.Common.{[], subst, sym, ℕ}
+use Rattle.wt_session.proofs.incoming.give.Goals as goal
+use Rattle.wt_driver.specs.Tie.{Follows}
+use Rattle.wt_driver_spec.specs.Asking.{MayBeCalled}
+use Rattle.wt_spec.specs.Effect.{log_call}
+use Rattle.wt_turn.specs.Log.{RequestDelivered}
+
+pub returns-clause-log : goal.returns-clause-log
+returns-clause-log c = rw (← c.request.view_is) (λ side log taken f m.
+    subst (λ (k : ℕ). Follows side c.called.new.self (log_call side log [] (RequestDelivered k)) taken) c.session_stream.ensures.stream
+    (c.in_ok-called.ensures.log side log taken f (subst (λ (k : ℕ). MayBeCalled side log (RequestDelivered k)) (sym c.session_stream.ensures.stream) m)))

@@ -1,0 +1,115 @@
+//! The response to a request, as it goes on.
+ghost use Rattle.std.specs.Prelude.{◌≡◌, Bool, IfOk, OnOk, true, ℕ};
+ghost use Rattle.wt_session.specs.Responding.{IsPollOf, IsResponse, IsResponseReply, StandsWith, waiting_record};
+ghost use Rattle.wt_driver.specs.Tie.{Follows};
+ghost use Rattle.wt_laws.specs.Reachable.{IsReachable};
+ghost use Rattle.wt_plan.specs.Planned.{planned};
+ghost use Rattle.wt_session_spec.specs.CallFacts.{facts_of};
+ghost use Rattle.wt_session_spec.specs.HandshakePlans.{response_plan};
+ghost use Rattle.wt_session_spec.specs.Plans.{plan_of};
+ghost use Rattle.wt_session_spec.specs.SessionState.{session_state};
+ghost use Rattle.wt_spec.specs.Answers.{call_effect};
+ghost use Rattle.wt_turn.specs.Log.{Log};
+ghost use Rattle.wt_turn.specs.Records.{record_of};
+ghost use Rattle.wt_turn.specs.declared.call.Call.{Call};
+ghost use Rattle.wt_wire.specs.declared.side.Side.{Side};
+
+use crate::calling::perform;
+use std::alloc::Global;
+use std::marker::Model;
+use wt_driver::driver::Driver;
+use wt_plan::handshake_plans;
+use wt_plan::plan::Plan;
+use wt_turn::piece::Piece;
+use wt_turn::record::Record;
+use wt_turn::reply::Reply;
+use wt_wire::error::OutOfMemory;
+use wt_wire::ids::SessionId;
+
+/// A response: the session of its request and the offset behind that, the frame of its fields, and
+/// whether it has begun.
+#[derive(Debug, Drop)]
+pub struct Response {
+    id: SessionId,
+    end: usize,
+    head: Piece,
+    has_begun: bool,
+}
+
+impl Model for Response {
+    ghost use Rattle.wt_session.specs.Responding as responding;
+
+    ghost Value = { responding.Response };
+
+    ghost view = { λ r. record { id = r.id; end = r.end; head = r.head; has_begun = r.has_begun } };
+}
+
+impl Response {
+    /// A response that hasn't begun.
+    pub fn new(id: SessionId, end: usize, head: Piece) -> Response
+        ensures { result ≡ record { id = id; end = end; head = head; has_begun = Bool.false } }
+    {
+        Response {
+            id,
+            end,
+            head,
+            has_begun: false,
+        }
+    }
+
+    /// What a poll records that leaves the response unfinished.
+    fn waiting_record(&self, accepts: bool) -> Result<Record, OutOfMemory>
+        ensures { IfOk result (λ r. record_of r ≡ waiting_record self.now.has_begun accepts self.now.head) }
+    {
+        if self.has_begun {
+            return Ok(Record::Polled);
+        }
+        Ok(Record::ResponseStarted(accepts, self.head.copy()?))
+    }
+
+    fn plan_with(
+        &self,
+        alloc: Global,
+        d: &Driver,
+        accepts: bool,
+        waiting: Record,
+    ) -> Result<Plan, OutOfMemory>
+        ensures { (side : Side) (log : Log) (taken : ℕ) → Follows side d.now log taken → IsReachable side log → IsResponse side log accepts self.now
+            → IfOk result (λ p. planned p ≡ response_plan (facts_of side log) (session_state log) accepts self.now.head (record_of waiting)) }
+    {
+        let t = d.inbox().transport();
+        let head = self.head.as_slice();
+        handshake_plans::response(alloc, t, accepts, self.id, self.end, head, waiting)
+    }
+
+    /// What the next poll does.
+    fn plan(&self, alloc: Global, d: &Driver, accepts: bool) -> Result<Plan, OutOfMemory>
+        ensures { (side : Side) (log : Log) (taken : ℕ) (call : Call) → Follows side d.now log taken → IsReachable side log → IsResponse side log accepts self.now → IsPollOf accepts self.now call
+            → IfOk result (λ p. planned p ≡ plan_of (facts_of side log) (session_state log) call) }
+    {
+        let waiting = self.waiting_record(accepts)?;
+        self.plan_with(alloc, d, accepts, waiting)
+    }
+
+    /// The next poll: it begins the response, or goes on with it.
+    pub fn poll(
+        &mut self,
+        alloc: Global,
+        d: &mut Driver,
+        accepts: bool,
+    ) -> Result<Reply, OutOfMemory>
+        ensures reply { (side : Side) (log : Log) (taken : ℕ) (call : Call) → Follows side d.old log taken → IsReachable side log → IsResponse side log accepts self.old → IsPollOf accepts self.old call
+            → IfOk result (λ r. r ≡ (call_effect side log call).reply) }
+        ensures log { (side : Side) (log : Log) (taken : ℕ) (call : Call) → Follows side d.old log taken → IsReachable side log → IsResponse side log accepts self.old → IsPollOf accepts self.old call
+            → OnOk result (Follows side d.new (call_effect side log call).log taken) }
+        ensures kind { (side : Side) (log : Log) (taken : ℕ) (call : Call) → Follows side d.old log taken → IsReachable side log → IsResponse side log accepts self.old → IsPollOf accepts self.old call
+            → IfOk result (λ r. IsResponseReply accepts r) }
+        ensures stands { (side : Side) (log : Log) (taken : ℕ) (call : Call) → Follows side d.old log taken → IsReachable side log → IsResponse side log accepts self.old → IsPollOf accepts self.old call
+            → IfOk result (λ r. StandsWith side (call_effect side log call).log accepts self.new r) }
+    {
+        let plan = self.plan(alloc, d, accepts)?;
+        let reply = perform(alloc, d, plan)?;
+        self.has_begun = true;
+        Ok(reply)
+    }
+}
