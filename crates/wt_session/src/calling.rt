@@ -15,10 +15,10 @@ ghost use Rattle.wt_turn.specs.declared.reply.Reply.{Reply};
 ghost use Rattle.wt_wire.specs.declared.side.Side.{Side};
 
 use std::alloc::Global;
+use wt_calls::acting;
 use wt_driver::driver::Driver;
 use wt_plan::plan::Plan;
 use wt_seam::Transport;
-use wt_calls::acting;
 use wt_turn::record::Record;
 use wt_turn::reply::Reply;
 use wt_wire::error::OutOfMemory;
