@@ -10,8 +10,8 @@ ghost use Rattle.wt_turn.specs.Log.{Log, actions_of};
 
 use std::alloc::Global;
 use std::marker::Model;
-use wt_driver::driver::Driver;
 use wt_calls::session::Session;
+use wt_driver::driver::Driver;
 use wt_turn::{Answer, Call, Reply, Turn};
 use wt_wire::error::OutOfMemory;
 use wt_wire::side::Side;

@@ -11,12 +11,12 @@ mod calls;
 mod flush;
 mod moment;
 
-use wt_dispatch::dispatched::DispatchedStreams;
-use wt_dispatch::progress::Progress;
-use wt_dispatch::slot::Slot;
 use std::alloc::Global;
 use std::collections::VecDeque;
 use std::marker::Model;
+use wt_dispatch::dispatched::DispatchedStreams;
+use wt_dispatch::progress::Progress;
+use wt_dispatch::slot::Slot;
 use wt_inbox::Inbox;
 use wt_proto::settings::Settings;
 use wt_turn::piece::Piece;

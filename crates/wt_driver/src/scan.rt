@@ -15,11 +15,11 @@ ghost use Rattle.wt_turn.specs.Log.{Log, is_open};
 ghost use Rattle.wt_turn.specs.declared.action.Action.{Action};
 ghost use Rattle.wt_wire.specs.declared.side.Side.{Side};
 
+use std::collections::VecDeque;
 use wt_dispatch::classified::{Classified, is_given_up, is_released_at_once};
 use wt_dispatch::dispatched::DispatchedStreams;
 use wt_dispatch::progress::Progress;
 use wt_dispatch::slot::{Half, Place, Slot};
-use std::collections::VecDeque;
 use wt_inbox::Inbox;
 use wt_proto::verdict::Verdict;
 use wt_wire::error::OutOfMemory;

@@ -20,8 +20,8 @@ ghost use Rattle.wt_wire.specs.declared.side.Side.{Side};
 
 use super::Driver;
 use crate::scan::remove_at;
-use wt_dispatch::slot::{Slot, peer_bi, peer_uni};
 use std::collections::VecDeque;
+use wt_dispatch::slot::{Slot, peer_bi, peer_uni};
 use wt_proto::datagram::H3Datagram;
 use wt_turn::action::Action;
 use wt_turn::driver_error::DriverError;

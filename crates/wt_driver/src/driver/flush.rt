@@ -16,10 +16,10 @@ ghost use Rattle.wt_wire.specs.declared.side.Side.{Side};
 
 use super::Driver;
 use super::acting::{close, reset, stop};
+use std::alloc::Global;
 use wt_dispatch::classified::Stopped;
 use wt_dispatch::ending::{Ending, EndingKind};
 use wt_dispatch::progress::Progress;
-use std::alloc::Global;
 use wt_inbox::Inbox;
 use wt_proto::outgoing::control_stream_head;
 use wt_turn::piece::Piece;
