@@ -14,7 +14,6 @@ use Rattle.wt_session_acts.specs.Performing.{MayPerform, MaySendAll}
 use Rattle.wt_session_spec.proofs.Theorems.{planned_theorem}
 use Rattle.wt_session_spec.specs.CallFacts.{facts_of}
 use Rattle.wt_session_spec.specs.ConnectPlans.{dialling}
-use Rattle.wt_session_spec.specs.HandshakePlans.{failed_connect}
 use Rattle.wt_session_spec.specs.Plan.{perform}
 use Rattle.wt_session_spec.specs.Plans.{plan_of}
 use Rattle.wt_session_spec.specs.SessionState.{session_state}

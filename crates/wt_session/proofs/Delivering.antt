@@ -1,5 +1,5 @@
 -- What a server's call for a request leads to, by what a driver tells.
-use Rattle.std.specs.Prelude.{[], ◌&&◌, ◌∷◌, ◌≡◌, Bool, Err, IfOk, List, None, Ok, Option, Result, Some, false, if◌then◌else◌, not, true, ℕ}
+use Rattle.std.specs.Prelude.{[], ◌&&◌, ◌∷◌, ◌≡◌, Bool, Err, IfOk, List, None, Ok, Result, Some, false, if◌then◌else◌, not, true, ℕ}
 use Rattle.std.proofs.Common.{◌∙◌, ap, refl, subst, sym}
 use Rattle.std.proofs.lemmas.Bool.{and_parts}
 use Rattle.wt_session.specs.Incoming.{IsUnanswered, Request, StandsWith, incoming_reply, told_of}
@@ -16,7 +16,7 @@ use Rattle.wt_calls.specs.MayPlan.{FirstIsRequest}
 use Rattle.wt_session_acts.specs.Performing.{MayPerform}
 use Rattle.wt_session_spec.specs.CallFacts.{facts_of}
 use Rattle.wt_session_spec.specs.HandshakePlans.{delivery}
-use Rattle.wt_session_spec.specs.Plan.{Plan, Step}
+use Rattle.wt_session_spec.specs.Plan.{Step}
 use Rattle.wt_session_spec.specs.Plans.{plan_of}
 use Rattle.wt_session_spec.specs.SessionState.{session_state}
 use Rattle.wt_spec.specs.Answers.{call_effect, is_client, is_first, may_call}

@@ -1,8 +1,8 @@
 -- What a response is planned to do, and what stands once that is done.
-use Rattle.std.specs.Prelude.{[], ◌&&◌, ◌∷◌, ◌≡◌, Bool, IfOk, List, Result, Some, codes, false, if◌then◌else◌, is_some, not, true, ℕ}
+use Rattle.std.specs.Prelude.{[], ◌&&◌, ◌∷◌, ◌≡◌, Bool, IfOk, List, Result, false, if◌then◌else◌, is_some, not, true, ℕ}
 use Rattle.std.proofs.Common.{◌∙◌, ap, refl, subst, sym}
 use Rattle.wt_session.specs.Incoming.{IsUnanswered, Request, unbegun}
-use Rattle.wt_session.specs.Responding.{IsAcceptance, IsCallOf, IsPollOf, IsRejection, IsResponse, IsResponseReply, Response, StandsWith, response_state, waiting_record}
+use Rattle.wt_session.specs.Responding.{IsCallOf, IsPollOf, IsResponse, IsResponseReply, Response, StandsWith, response_state, waiting_record}
 use Rattle.wt_session.specs.Standing.{IsEstablished}
 use Rattle.wt_driver.specs.DriverValue.{DriverValue}
 use Rattle.wt_driver.specs.Tie.{Follows, untaken_since}
@@ -34,7 +34,6 @@ use Rattle.wt_told.proofs.Theorems.{logged_theorem, stays_theorem}
 use Rattle.wt_told.specs.Delivering.{delivers_request}
 use Rattle.wt_turn.specs.Log.{CallRecord, HandshakeOver, Log, Polled, ResponseStarted, SessionEstablished, calls_of}
 use Rattle.wt_turn.specs.declared.action.Action.{Action}
-use Rattle.wt_turn.specs.declared.action.Action.TheVariants as actions
 use Rattle.wt_turn.specs.declared.call.Call.{Call}
 use Rattle.wt_turn.specs.declared.call.Call.TheVariants as calls
 use Rattle.wt_turn.specs.declared.reply.Reply.{Reply}

@@ -1,4 +1,4 @@
-use Rattle.std.proofs.Common.{◌∙◌, ◌≡◌, OnOk, ap, subst, sym}
+use Rattle.std.proofs.Common.{◌∙◌, OnOk, ap, subst, sym}
 use Rattle.wt_session.proofs.Delivering.{failing_reply, failing_stands, undelivered_open, undelivered_over, waiting_reply, waiting_stands}
 use Rattle.wt_session.proofs.incoming.wait.Goals as goal
 use Rattle.wt_driver.specs.Tie.{Follows}

@@ -3,9 +3,7 @@ use Rattle.wt_session.proofs.Delivering.{delivered_effect, first_is_request, giv
 use Rattle.wt_session.proofs.incoming.IncomingSessionFuture.poll.Goals as goal
 use Rattle.wt_session.specs.Incoming.{StandsWith, incoming_reply, told_of}
 use Rattle.wt_driver.specs.Tie.{Follows}
-use Rattle.wt_spec.specs.Answers.{call_effect}
 use Rattle.wt_spec.specs.Effect.{Effect}
-use Rattle.wt_turn.specs.declared.call.Call.TheVariants as calls
 
 pub returns-in-Some-clause-reply : goal.returns-in-Some-clause-reply
 returns-in-Some-clause-reply c = λ side log taken f reach may.
