@@ -189,8 +189,22 @@ fn sums_up(rt: &impl Abort, alloc: Global, number: &str, input: &str, status: u8
 fn a_generated_run_is_summed_up(rt: HostRuntime) {
     let alloc = rt.alloc();
     sums_up(&rt, alloc, "1", "", 0, "streams 1 bytes 1 turns 13\n");
-    sums_up(&rt, alloc, "100", "", 0, "streams 100 bytes 5050 turns 607\n");
-    sums_up(&rt, alloc, "1", "# none\n\n", 0, "streams 1 bytes 1 turns 13\n");
+    sums_up(
+        &rt,
+        alloc,
+        "100",
+        "",
+        0,
+        "streams 100 bytes 5050 turns 607\n",
+    );
+    sums_up(
+        &rt,
+        alloc,
+        "1",
+        "# none\n\n",
+        0,
+        "streams 1 bytes 1 turns 13\n",
+    );
 }
 
 #[test]
