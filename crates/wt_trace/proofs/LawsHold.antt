@@ -1,11 +1,17 @@
 -- Every run keeps the laws.
 use Rattle.std.proofs.Common.{arith, ◌≡◌, ◌<◌, ℕ, List, length, subst, sym, take, true}
+use Rattle.wt_laws.proofs.DatagramOrEnds.{datagram-or-ends}
+use Rattle.wt_laws.proofs.FaultLaws.{classified-rightly, ends-for-cause, settings-come-read}
+use Rattle.wt_laws.proofs.FaultlessLaws.{faultless-or-ends}
 use Rattle.wt_laws.proofs.GivenOnce.{given_once_theorem}
+use Rattle.wt_laws.proofs.NoFault.{streams-faultless}
+use Rattle.wt_laws.proofs.OnceLaws.{once-each}
+use Rattle.wt_laws.proofs.RequestTold.{request_told_theorem}
 use Rattle.wt_laws.proofs.Theorems.{accepted_theorem, action_theorem, after_end_theorem, asks_first_theorem, connect_theorem, connects_theorem, datagrams_theorem, ended_theorem, fault_theorem, headers_theorem, heads_theorem, late_theorem, later_theorem, one_session_theorem, open_theorem, order_theorem, own_reads_theorem, pending_theorem, reads_theorem, receiving_calls_theorem, reply_theorem, request_theorem, requests_theorem, responses_theorem, result_theorem, sending_calls_theorem, sends_all_theorem, sends_end_theorem, sends_theorem, session_calls_theorem, session_stream_theorem, session_told_theorem, sessions_theorem, settings_theorem, stays_theorem, taken_theorem, within_credit_theorem}
 use Rattle.wt_laws.proofs.TurnCauses.{entries_theorem, recorded_theorem, went_out_theorem}
 use Rattle.wt_laws.specs.Runs.{StaysSo}
 use Rattle.wt_spec.specs.Answers.{is_lawful, run}
-use Rattle.wt_trace.specs.Laws.{CallsAnswer, HandshakesAnswer, HeadGoesOut, KeepsLaws, SettledStays}
+use Rattle.wt_trace.specs.Laws.{CallsAnswer, DriverIsRead, HandshakesAnswer, HeadGoesOut, KeepsLaws, SettledStays}
 use Rattle.wt_trace.specs.Trace.{log_at}
 use Rattle.wt_trace.proofs.CutLaws.{may-be-cut}
 use Rattle.wt_trace.proofs.PrefixLaws.{lawful-at, lawful-turn, reachable-at}
@@ -32,6 +38,17 @@ handshakes-answer side log = record {
 head-goes-out : (side : Side) (log : Log) (turn : Turn) → IsReachable side log → is_lawful side log turn ≡ true → HeadGoesOut side log turn
 head-goes-out side log turn r l call e = heads_theorem side log call r (subst (λ (t : Turn). is_lawful side log t ≡ true) e l)
 
+driver-is-read : (side : Side) (log : Log) → IsReachable side log → DriverIsRead side log
+driver-is-read side log r = record {
+  classified = classified-rightly side log r;
+  settings = λ e earlier goes. settings-come-read side e earlier;
+  ending = λ e earlier goes. ends-for-cause side e earlier;
+  streams = streams-faultless side log;
+  once = once-each side log;
+  datagram = λ e earlier goes. datagram-or-ends side e earlier;
+  faultless = λ e earlier goes. faultless-or-ends side e earlier;
+}
+
 pub laws : (side : Side) (all : List Turn) → KeepsLaws side all (run side all).answers
 laws side all =
     let reach = reachable-at side all in
@@ -41,6 +58,7 @@ laws side all =
       sessions = λ n l. sessions_theorem side (log_at side all n) (reach n l);
       one_session = λ n turn l e. one_session_theorem side (log_at side all n) turn (before n l) (lawful n turn l e);
       told = λ n turn l e. session_told_theorem side (log_at side all n) turn (lawful n turn l e);
+      requests = λ n turn l e. request_told_theorem side (log_at side all n) turn (before n l) (lawful n turn l e);
       streams = λ n turn l e. accepted_theorem side (log_at side all n) turn (before n l) (lawful n turn l e);
       given_once = λ n l. given_once_theorem side (take n all) (lawful-at side all n l);
       bi_order = λ n l. order_theorem side (log_at side all n);
@@ -58,6 +76,7 @@ laws side all =
       entries = λ n turn l e. entries_theorem side (log_at side all n) turn (lawful n turn l e);
       opened = λ n l. open_theorem side (log_at side all n) (reach n l);
       faults = λ n l moment goes. fault_theorem side moment;
+      driver = λ n l. driver-is-read side (log_at side all n) (reach n l);
       result_stays = λ n turn l e. result_theorem side (log_at side all n) turn (lawful n turn l e);
       after_end = λ n l. after_end_theorem side (log_at side all n) (reach n l);
       late = λ n turn l e. late_theorem side (log_at side all n) turn;

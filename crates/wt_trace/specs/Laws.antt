@@ -2,7 +2,7 @@
 use Rattle.std.specs.Prelude.{◌++◌, ◌<◌, ◌∷◌, ◌≡◌, ◌≤◌, List, Option, Some, false, length, slice_get, take, true, ℕ}
 use Rattle.wt_seam_spec.specs.Joined.{join_all}
 use Rattle.wt_seam_spec.specs.Streams.{peer_bi}
-use Rattle.wt_turn.specs.Log.{Event, Log, calls_of, is_open}
+use Rattle.wt_turn.specs.Log.{Entry, Event, Log, calls_of, is_open}
 use Rattle.wt_turn.specs.declared.answer.Answer.{Answer}
 use Rattle.wt_turn.specs.declared.call.Call.{Call}
 use Rattle.wt_turn.specs.declared.turn.Turn.{Turn}
@@ -12,8 +12,9 @@ use Rattle.wt_wire.specs.declared.lookup.ConnectOutcome.{ConnectOutcome}
 use Rattle.wt_wire.specs.declared.lookup.Lookup.{Lookup}
 use Rattle.wt_wire.specs.declared.side.Side.{Side}
 use Rattle.wt_laws.specs.Exactly.{AsksFirst, ConnectGoesOn, ConnectsAnswer, HeadsGoOut, MaySend, ReceivingCallsAnswer, RequestGoesOn, RequestsAnswer, ResponsesAnswer, SendingCallsAnswer, SessionCallsAnswer}
+use Rattle.wt_laws.specs.Faults.{ClassifiedRightly, DatagramOrEnds, EndsForCause, FaultlessOrEnds, OnceEach, SettingsComeRead, StreamsFaultless}
 use Rattle.wt_laws.specs.GivenOnce.{GivenOnce}
-use Rattle.wt_laws.specs.Laws.{ActionsHaveCauses, DatagramsInOrder, FaultCloses, GoesOnFrom, HeadersOut, NothingAfterEnd, OneSession, OpenExactly, ReadsFromStart, ReadsInOrder, ReplyHasCause, ResultStays, SendsAll, SendsEnd, SendsInOrder, SessionStreamOut, SessionTold, SessionsRightly, SettingsOut, StreamsAcceptedRightly, TakenGoesOut, WithinCredit}
+use Rattle.wt_laws.specs.Laws.{ActionsHaveCauses, DatagramsInOrder, FaultCloses, GoesOnFrom, HeadersOut, NothingAfterEnd, OneSession, OpenExactly, ReadsFromStart, ReadsInOrder, ReplyHasCause, RequestTold, ResultStays, SendsAll, SendsEnd, SendsInOrder, SessionStreamOut, SessionTold, SessionsRightly, SettingsOut, StreamsAcceptedRightly, TakenGoesOut, WithinCredit}
 use Rattle.wt_laws.specs.Left.{PendingExactly, is_pending}
 use Rattle.wt_laws.specs.Reachable.{Exchange, exchanges}
 use Rattle.wt_laws.specs.ReplyCauses.{is_call}
@@ -69,6 +70,23 @@ SettledStays side log = (earlier : Log) → GoesOnFrom earlier log → StaysSo s
 abbrev pub BiStreamsInOrder : Side → Log → Type 0
 BiStreamsInOrder side log = InOrderOfOpening (peer_bi side) (stream_table side log).classified
 
+-- ---- what is read of the peer's bytes
+
+-- of each entry of the log, after those before it
+abbrev pub AtEachEntry : (Entry → Log → Type 0) → Log → Type 0
+AtEachEntry Law log = (e : Entry) (earlier : Log) → GoesOnFrom (e ∷ earlier) log → Law e earlier
+
+-- What the driver says of the peer is in what came from it: the verdicts of streams, that SETTINGS came, and why it ends a
+-- connection; and where it ends none, no such cause is there.
+pub record DriverIsRead (side : Side) (log : Log) : Type 0 where
+  pub classified : ClassifiedRightly side log  -- a classified stream was opened by the peer, and has its verdict over all bytes that came for it
+  pub settings : AtEachEntry (SettingsComeRead side) log  -- SETTINGS came at an entry at which the walk over the first control stream had read them
+  pub ending : AtEachEntry (EndsForCause side) log  -- the driver ended the connection at an entry that shows a fault in what came, or the end of the session
+  pub streams : StreamsFaultless side log  -- while it ended none, no classified stream has a fault
+  pub once : OnceEach side log  -- while it ended none, the control stream and the QPACK streams were classified once each
+  pub datagram : AtEachEntry (DatagramOrEnds side) log  -- the datagram that a moment dequeues has a quarter id, or the driver ends the connection then
+  pub faultless : AtEachEntry (FaultlessOrEnds side) log  -- a moment at which it doesn't end an open connection shows no fault behind the streams
+
 -- ---- what a call answers
 
 -- each call that asks for a session or a stream answers exactly as it stands with these
@@ -120,6 +138,7 @@ pub record KeepsLaws (side : Side) (all : List Turn) (answers : List Answer) : T
   pub sessions : Throughout side (SessionsRightly side) all answers
   pub one_session : AtEachTurn side (OneSession side) all answers
   pub told : AtEachTurn side (SessionTold side) all answers
+  pub requests : AtEachTurn side (RequestTold side) all answers
   pub streams : AtEachTurn side (StreamsAcceptedRightly side) all answers
   pub given_once : OfExchanges side (λ before log. GivenOnce before) all answers
   pub bi_order : Throughout side (BiStreamsInOrder side) all answers
@@ -137,6 +156,7 @@ pub record KeepsLaws (side : Side) (all : List Turn) (answers : List Answer) : T
   pub entries : AtEachTurn side (EntriesHaveCauses side) all answers
   pub opened : Throughout side (OpenExactly side) all answers
   pub faults : Throughout side (FaultsClose side) all answers
+  pub driver : Throughout side (DriverIsRead side) all answers
   pub result_stays : AtEachTurn side (ResultStaysAfterEnd side) all answers
   pub after_end : Throughout side NothingAfterEnd all answers
   pub late : AtEachTurn side (DoneAfterEnd side) all answers

@@ -2,12 +2,12 @@
 ghost use Rattle.std.specs.Prelude.{◌≡◌, [], IfErr, List, length, take};
 ghost use Rattle.wt_core.specs.CoreState.{Refines};
 ghost use Rattle.wt_laws.specs.GivenOnce.{GivenOnce};
-ghost use Rattle.wt_laws.specs.Laws.{ActionsHaveCauses, DatagramsInOrder, HeadersOut, NothingAfterEnd, OneSession, OpenExactly, ReadsFromStart, ReadsInOrder, ReplyHasCause, SendsAll, SendsEnd, SendsInOrder, SessionStreamOut, SessionTold, SessionsRightly, SettingsOut, StreamsAcceptedRightly, TakenGoesOut, WithinCredit};
+ghost use Rattle.wt_laws.specs.Laws.{ActionsHaveCauses, DatagramsInOrder, HeadersOut, NothingAfterEnd, OneSession, OpenExactly, ReadsFromStart, ReadsInOrder, ReplyHasCause, RequestTold, SendsAll, SendsEnd, SendsInOrder, SessionStreamOut, SessionTold, SessionsRightly, SettingsOut, StreamsAcceptedRightly, TakenGoesOut, WithinCredit};
 ghost use Rattle.wt_laws.specs.Left.{PendingExactly};
 ghost use Rattle.wt_laws.specs.Reachable.{AllLawful};
 ghost use Rattle.wt_laws.specs.TurnCauses.{ActionsWentOut, EntriesHaveCauses, ReplyIsRecorded};
 ghost use Rattle.wt_spec.specs.Answers.{answers_to};
-ghost use Rattle.wt_trace.specs.Laws.{AtEachTurn, BiStreamsInOrder, CallsAnswer, DoneAfterEnd, FaultsClose, HandshakesAnswer, HeadGoesOut, LateIsForgotten, MayBeCut, NonePendingAfterEnd, OfExchanges, ResultStaysAfterEnd, SettledStays, Throughout};
+ghost use Rattle.wt_trace.specs.Laws.{AtEachTurn, BiStreamsInOrder, CallsAnswer, DoneAfterEnd, DriverIsRead, FaultsClose, HandshakesAnswer, HeadGoesOut, LateIsForgotten, MayBeCut, NonePendingAfterEnd, OfExchanges, ResultStaysAfterEnd, SettledStays, Throughout};
 ghost use Rattle.wt_trace.specs.Trace.{EachAnswered, IfAnswered, IsTrace, StopsRightly};
 
 use std::alloc::Global;
@@ -42,10 +42,11 @@ impl From<OutOfMemory> for TraceError {
 ///
 /// `trace` says them whole, `answers` and `each` one by one, `lawful`, `stop` and `complete` up to where.
 /// The clauses after these say what is true of them, of every list: where a session is established, which
-/// streams and datagrams it gives and in what order, what reads give (`sessions` to `datagrams`); where a
-/// call is pending, what it answers, why each reply and each action comes (`pending` to `entries`); what
-/// ends the connection, how that is told, and what stays (`opened` to `settled`); what goes out
-/// (`settings` to `taken`); and that a piece may come in two parts (`cutting`).
+/// requests, streams and datagrams are given and in what order, what reads give (`sessions` to `datagrams`);
+/// where a call is pending, what it answers, why each reply and each action comes (`pending` to `entries`);
+/// what ends the connection and where in the peer's bytes that is read, how it is told, and what stays
+/// (`opened` to `settled`); what goes out (`settings` to `taken`); and that a piece may come in two parts
+/// (`cutting`).
 pub fn run_trace(alloc: Global, side: Side, turns: &[Turn]) -> Result<Answers, TraceError>
     ensures trace { IsTrace side turns.now result }
     ensures answers { IfAnswered result (λ answers. answers ≡ answers_to side (take (length answers) turns.now)) }
@@ -56,6 +57,7 @@ pub fn run_trace(alloc: Global, side: Side, turns: &[Turn]) -> Result<Answers, T
     ensures sessions { IfAnswered result (Throughout side (SessionsRightly side) turns.now) }
     ensures one_session { IfAnswered result (AtEachTurn side (OneSession side) turns.now) }
     ensures told { IfAnswered result (AtEachTurn side (SessionTold side) turns.now) }
+    ensures requests { IfAnswered result (AtEachTurn side (RequestTold side) turns.now) }
     ensures streams { IfAnswered result (AtEachTurn side (StreamsAcceptedRightly side) turns.now) }
     ensures given_once { IfAnswered result (OfExchanges side (λ before log. GivenOnce before) turns.now) }
     ensures bi_order { IfAnswered result (Throughout side (BiStreamsInOrder side) turns.now) }
@@ -73,6 +75,7 @@ pub fn run_trace(alloc: Global, side: Side, turns: &[Turn]) -> Result<Answers, T
     ensures entries { IfAnswered result (AtEachTurn side (EntriesHaveCauses side) turns.now) }
     ensures opened { IfAnswered result (Throughout side (OpenExactly side) turns.now) }
     ensures faults { IfAnswered result (Throughout side (FaultsClose side) turns.now) }
+    ensures driver { IfAnswered result (Throughout side (DriverIsRead side) turns.now) }
     ensures result_stays { IfAnswered result (AtEachTurn side (ResultStaysAfterEnd side) turns.now) }
     ensures after_end { IfAnswered result (Throughout side NothingAfterEnd turns.now) }
     ensures late { IfAnswered result (AtEachTurn side (DoneAfterEnd side) turns.now) }

@@ -1,6 +1,6 @@
 use Rattle.std.proofs.Common.{◌≡◌, [], length, take}
 use Rattle.wt_laws.specs.GivenOnce.{GivenOnce}
-use Rattle.wt_laws.specs.Laws.{ActionsHaveCauses, DatagramsInOrder, HeadersOut, NothingAfterEnd, OneSession, OpenExactly, ReadsFromStart, ReadsInOrder, ReplyHasCause, SendsAll, SendsEnd, SendsInOrder, SessionStreamOut, SessionTold, SessionsRightly, SettingsOut, StreamsAcceptedRightly, TakenGoesOut, WithinCredit}
+use Rattle.wt_laws.specs.Laws.{ActionsHaveCauses, DatagramsInOrder, HeadersOut, NothingAfterEnd, OneSession, OpenExactly, ReadsFromStart, ReadsInOrder, ReplyHasCause, RequestTold, SendsAll, SendsEnd, SendsInOrder, SessionStreamOut, SessionTold, SessionsRightly, SettingsOut, StreamsAcceptedRightly, TakenGoesOut, WithinCredit}
 use Rattle.wt_laws.specs.Left.{PendingExactly}
 use Rattle.wt_laws.specs.Reachable.{AllLawful}
 use Rattle.wt_laws.specs.TurnCauses.{ActionsWentOut, EntriesHaveCauses, ReplyIsRecorded}
@@ -9,7 +9,7 @@ use Rattle.wt_trace.proofs.LawsHold.{laws}
 use Rattle.wt_trace.proofs.PrefixLaws.{answered, completes, each-answered, stops-rightly}
 use Rattle.wt_trace.proofs.RunLaws.{run-answers, run-lawful}
 use Rattle.wt_trace.proofs.trace.run_trace.Goals as goal
-use Rattle.wt_trace.specs.Laws.{AtEachTurn, BiStreamsInOrder, CallsAnswer, DoneAfterEnd, FaultsClose, HandshakesAnswer, HeadGoesOut, LateIsForgotten, MayBeCut, NonePendingAfterEnd, OfExchanges, ResultStaysAfterEnd, SettledStays, Throughout}
+use Rattle.wt_trace.specs.Laws.{AtEachTurn, BiStreamsInOrder, CallsAnswer, DoneAfterEnd, DriverIsRead, FaultsClose, HandshakesAnswer, HeadGoesOut, LateIsForgotten, MayBeCut, NonePendingAfterEnd, OfExchanges, ResultStaysAfterEnd, SettledStays, Throughout}
 use Rattle.wt_trace.specs.Trace.{EachAnswered}
 
 pub returns-clause-answers : goal.returns-clause-answers
@@ -37,6 +37,9 @@ returns-clause-one_session c = answered c.args.side c.args.turns.now _ (AtEachTu
 
 pub returns-clause-told : goal.returns-clause-told
 returns-clause-told c = answered c.args.side c.args.turns.now _ (AtEachTurn c.args.side (SessionTold c.args.side) c.args.turns.now) c.run_turns.ensures.trace (laws c.args.side c.args.turns.now).told
+
+pub returns-clause-requests : goal.returns-clause-requests
+returns-clause-requests c = answered c.args.side c.args.turns.now _ (AtEachTurn c.args.side (RequestTold c.args.side) c.args.turns.now) c.run_turns.ensures.trace (laws c.args.side c.args.turns.now).requests
 
 pub returns-clause-streams : goal.returns-clause-streams
 returns-clause-streams c = answered c.args.side c.args.turns.now _ (AtEachTurn c.args.side (StreamsAcceptedRightly c.args.side) c.args.turns.now) c.run_turns.ensures.trace (laws c.args.side c.args.turns.now).streams
@@ -88,6 +91,9 @@ returns-clause-opened c = answered c.args.side c.args.turns.now _ (Throughout c.
 
 pub returns-clause-faults : goal.returns-clause-faults
 returns-clause-faults c = answered c.args.side c.args.turns.now _ (Throughout c.args.side (FaultsClose c.args.side) c.args.turns.now) c.run_turns.ensures.trace (laws c.args.side c.args.turns.now).faults
+
+pub returns-clause-driver : goal.returns-clause-driver
+returns-clause-driver c = answered c.args.side c.args.turns.now _ (Throughout c.args.side (DriverIsRead c.args.side) c.args.turns.now) c.run_turns.ensures.trace (laws c.args.side c.args.turns.now).driver
 
 pub returns-clause-result_stays : goal.returns-clause-result_stays
 returns-clause-result_stays c = answered c.args.side c.args.turns.now _ (AtEachTurn c.args.side (ResultStaysAfterEnd c.args.side) c.args.turns.now) c.run_turns.ensures.trace (laws c.args.side c.args.turns.now).result_stays
