@@ -1,7 +1,3 @@
-pub mod Halves
-pub mod Fields
-pub mod Sessions
-pub mod Handshakes
 pub mod Admitted
 pub mod Answered
 pub mod Ends

@@ -22,8 +22,8 @@ use Rattle.wt_seam.specs.State.{TransportState}
 use Rattle.wt_seam_spec.specs.Reports.{end_of}
 use Rattle.wt_seam_spec.specs.Streams.{contents, local_bi}
 use Rattle.wt_calls.proofs.SessionStreams.{established_on, queued_is_request, requested_on}
-use Rattle.wt_calls.specs.Kept.{IsSessionStream, OnSessionStream, SendingThere}
-use Rattle.wt_calls.specs.MayPlan.{ConnectsAs, HandshakeFits, MayAnswer, MayPlan}
+use Rattle.wt_call_plans.specs.Kept.{IsSessionStream, OnSessionStream, SendingThere}
+use Rattle.wt_call_plans.specs.MayPlan.{ConnectsAs, HandshakeFits, MayAnswer, MayPlan}
 use Rattle.wt_calls.specs.Walking.{KnowsResponse, is_connecting}
 use Rattle.wt_session_acts.specs.RecordFacts.{Connects}
 use Rattle.wt_session_spec.specs.CallFacts.{facts_of}

@@ -8,8 +8,8 @@ use Rattle.wt_laws.specs.Reachable.{IsReachable}
 use Rattle.wt_reached.proofs.Handshaking.{Reached, reached-holds}
 use Rattle.wt_reached.proofs.There.{request-bi}
 use Rattle.wt_seam_spec.specs.Streams.{local_bi, peer_bi}
-use Rattle.wt_calls.specs.Kept.{IsSessionStream, OnSessionStream}
-use Rattle.wt_calls.specs.MayPlan.{FirstIsRequest}
+use Rattle.wt_call_plans.specs.Kept.{IsSessionStream, OnSessionStream}
+use Rattle.wt_call_plans.specs.MayPlan.{FirstIsRequest}
 use Rattle.wt_session_spec.specs.CallFacts.{facts_of}
 use Rattle.wt_session_spec.specs.HandshakePlans.{delivery}
 use Rattle.wt_session_spec.specs.Plan.{Step}

@@ -18,8 +18,8 @@ ghost use Rattle.wt_turn.specs.Records.{record_of};
 ghost use Rattle.wt_turn.specs.declared.reply.Reply.TheVariants as replies;
 ghost use Rattle.wt_wire.specs.declared.side.Side.{Side};
 
-use crate::plans::facts::driver_error;
 use std::alloc::Global;
+use wt_call_plans::plans::facts::driver_error;
 use wt_driver::driver::Driver;
 use wt_plan::plan::Plan;
 use wt_proto::datagram::H3Datagram;

@@ -1,13 +1,10 @@
-//! A WebTransport session: which calls of the application may come, what each is planned to do by what
-//! is kept, and what a plan leads to over a driver. Beside it stands what a client is asked to connect
-//! to.
+//! A WebTransport session: which calls of the application may come, and what a call's plan leads to
+//! over a driver. The plans of wt_call_plans and what a client is asked to connect to are offered again.
 #![tactic(auto)]
 
 pub mod acting;
 pub mod admission;
-pub mod connect_options;
 pub mod perform;
-pub mod plans;
 pub mod session;
-#[cfg(test)]
-mod tests;
+
+pub use wt_call_plans::{connect_options, plans};

@@ -20,10 +20,11 @@ ghost use Rattle.wt_turn.specs.declared.call.Call.{Call};
 ghost use Rattle.wt_turn.specs.declared.turn.Turn.{Turn};
 ghost use Rattle.wt_wire.specs.declared.side.Side.{Side};
 
+use crate::admission;
 use crate::perform::perform;
-use crate::{admission, plans};
 use std::alloc::Global;
 use std::marker::Model;
+use wt_call_plans::plans;
 use wt_driver::driver::Driver;
 use wt_plan::plan::Plan;
 use wt_plan::session_table::{Handshake, SessionTable};

@@ -12,7 +12,7 @@ use Rattle.wt_laws.specs.Reachable.{IsReachable}
 use Rattle.wt_plan.specs.DriverAnswers.{error_now}
 use Rattle.wt_reached.proofs.Theorems.{performs_theorem}
 use Rattle.wt_calls.proofs.SessionStreams.{queued_is_request}
-use Rattle.wt_calls.specs.MayPlan.{FirstIsRequest}
+use Rattle.wt_call_plans.specs.MayPlan.{FirstIsRequest}
 use Rattle.wt_session_acts.specs.Performing.{MayPerform}
 use Rattle.wt_session_spec.specs.CallFacts.{facts_of}
 use Rattle.wt_session_spec.specs.HandshakePlans.{delivery}

@@ -10,7 +10,7 @@ ghost use Rattle.wt_driver_spec.specs.Asking.{MayBeCalled};
 ghost use Rattle.wt_laws.specs.Reachable.{IsReachable};
 ghost use Rattle.wt_message.specs.FixedBytes.{response_bytes};
 ghost use Rattle.wt_message.specs.Requests.{request_of};
-ghost use Rattle.wt_calls.specs.MayPlan.{FirstIsRequest};
+ghost use Rattle.wt_call_plans.specs.MayPlan.{FirstIsRequest};
 ghost use Rattle.wt_spec.specs.Answers.{call_effect, may_call};
 ghost use Rattle.wt_spec.specs.Effect.{log_call};
 ghost use Rattle.wt_spec.specs.Handshake as handshake;

@@ -7,7 +7,7 @@ use Rattle.wt_plan.specs.Tells.{session_now}
 use Rattle.wt_seam.specs.State.{TransportState}
 use Rattle.wt_calls.proofs.Planning.{planned_by_log}
 use Rattle.wt_calls.proofs.session.planned_call.Goals as goal
-use Rattle.wt_calls.specs.MayPlan.{MayPlan}
+use Rattle.wt_call_plans.specs.MayPlan.{MayPlan}
 use Rattle.wt_session_spec.specs.Plans.{plan_of}
 use Rattle.std.specs.Prelude.{Bool, ◌≡◌}
 

@@ -1,0 +1,4 @@
+pub mod Halves
+pub mod Fields
+pub mod Sessions
+pub mod Handshakes

@@ -1,0 +1,17 @@
+use Rattle.std.proofs.Common.{◌≡◌, IfOk, subst, true}
+use Rattle.wt_plan.specs.FactsNow.{facts_now}
+use Rattle.wt_plan.specs.Planned.{planned}
+use Rattle.wt_plan.specs.Tells.{session_now}
+use Rattle.wt_call_plans.proofs.Halves.{sending_there_ok}
+use Rattle.wt_call_plans.proofs.plans.sending.write.Goals as goal
+use Rattle.wt_session_spec.specs.HalfPlans.{write_plan}
+use Rattle.wt_session_spec.specs.Plans.{plan_of}
+use Rattle.wt_session_spec.specs.SessionState.{has_sending_now}
+
+pub returns : goal.returns
+unfolding plan_of
+returns c = λ d h.
+    let has = c.may_send.ensures.has h in
+    let there : has_sending_now c.args.t.now.side (session_now c.args.s.now) c.args.id ≡ true = cc in
+    sending_there_ok c.args.t.now d c.args.s.now c.args.id _ _ there
+    (subst (λ bytes. IfOk c.write.result (λ p. planned p ≡ write_plan (facts_now c.args.t.now d) c.args.id bytes)) c.as_slice.ensures (c.write.ensures d))

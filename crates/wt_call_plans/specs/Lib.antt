@@ -1,0 +1,3 @@
+pub mod ConnectOptions
+pub mod Kept
+pub mod MayPlan

@@ -1,0 +1,8 @@
+//! What each call of the application is planned to do, by what the driver and the session keep; and
+//! what a client is asked to connect to.
+#![tactic(auto)]
+
+pub mod connect_options;
+pub mod plans;
+#[cfg(test)]
+mod tests;
