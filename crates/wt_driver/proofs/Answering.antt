@@ -81,7 +81,7 @@ request-told id (verdicts.Request fields at) e f = absurd cc
 request-told id _ e f = absurd cc
 
 -- a stream that awaits its delivery has a request
-requests-told : (delivered : ℕ → Bool) (cs : List Classified) → first_request (only (awaits_delivery delivered) cs) ≡ None → only (awaits_delivery delivered) cs ≡ []
+pub requests-told : (delivered : ℕ → Bool) (cs : List Classified) → first_request (only (awaits_delivery delivered) cs) ≡ None → only (awaits_delivery delivered) cs ≡ []
 requests-told delivered [] e = refl
 requests-told delivered (c ∷ cs) e = by (awaits_delivery delivered c) refl (requests-told delivered cs) e
   where

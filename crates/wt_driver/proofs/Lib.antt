@@ -29,3 +29,4 @@ pub mod Beginning
 pub mod Early
 pub mod Answering
 pub mod SettingsKept
+pub mod ForSessions

@@ -9,3 +9,4 @@ pub mod PeerSettings
 pub mod Tie
 pub mod Arriving
 pub mod Calling
+pub mod Sessions

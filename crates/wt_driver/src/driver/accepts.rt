@@ -150,7 +150,7 @@ impl Driver {
     }
 
     /// What a call answers that has nothing to give.
-    fn nothing_left<T>(&self) -> Result<Poll<Result<T, DriverError>>, OutOfMemory>
+    pub(super) fn nothing_left<T>(&self) -> Result<Poll<Result<T, DriverError>>, OutOfMemory>
         ensures { IfOk result (λ p. p ≡ ended_or_pending (result_of self.now.state.is_open self.now.state.progress.ending)) }
     {
         match self.result()? {
