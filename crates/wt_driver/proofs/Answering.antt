@@ -1,10 +1,16 @@
 -- What a driver follows where a client's response was read on, and the request that it tells.
 use Rattle.std.proofs.Common.{◌≡◌, ◌∙◌, ℕ, Bool, true, false, List, [], ◌∷◌, ◌++◌, ap, refl, subst, sym}
 use Rattle.std.proofs.lemmas.Bool.{and_parts}
-use Rattle.std.specs.Prelude.{None, if◌then◌else◌, not, ◌&&◌}
+use Rattle.std.specs.Prelude.{IfOk, None, Option, Result, if◌then◌else◌, not, ◌&&◌}
+use Rattle.wt_driver.proofs.SettingsKept.{due-settings-are, state-came}
 use Rattle.wt_driver.proofs.StageAnswers.{response-fits}
 use Rattle.wt_driver.specs.DriverValue.{DriverValue}
-use Rattle.wt_driver.specs.Results.{requests_now}
+use Rattle.wt_driver.specs.PeerSettings.{KeepsSettings, peer_settings, unless_given}
+use Rattle.wt_driver.specs.Results.{due_settings, requests_now, result_of, settings_or}
+use Rattle.wt_error.specs.declared.driver_error.DriverError.{DriverError}
+use Rattle.wt_message.specs.declared.settings.Settings.{Settings}
+use Rattle.wt_proto.proofs.WalkLaws.{if_ok_same}
+use Rattle.wt_turn.specs.declared.poll.Poll.{Poll}
 use Rattle.wt_dispatch.specs.Requests.{first_request, request_in}
 use Rattle.wt_driver.specs.Tie.{Follows, untaken_since}
 use Rattle.wt_driver_spec.specs.Asking.{AwaitsResponse}
@@ -21,14 +27,15 @@ use Rattle.wt_wire.specs.declared.side.Side.{Side}
 
 -- the log stays, and the response is being read
 pub response-follows : (side : Side) (log : Log) (taken : ℕ) (d new : DriverValue) (id : ℕ) (f : Follows side d log taken) → AwaitsResponse side log id
-    → Refines side new.inbox log (with_stage f.refines.stage id ResponseHead) (untaken_since taken log) → new.state ≡ d.state → new.queue ≡ d.queue → Follows side new log taken
-response-follows side log taken d new id f a r s q = record {
+    → Refines side new.inbox log (with_stage f.refines.stage id ResponseHead) (untaken_since taken log) → new.state ≡ d.state → new.queue ≡ d.queue → new.settings ≡ d.settings → Follows side new log taken
+response-follows side log taken d new id f a r s q k = record {
   refines = record {
     stage = with_stage f.refines.stage id ResponseHead;
     inbox = r;
     staged = response-fits side log f.refines.stage id f.refines.fits f.refines.staged a;
     state_is = s ∙ f.refines.state_is;
     queue_is = q ∙ f.refines.queue_is;
+    settings = subst (KeepsSettings side log) (sym k) f.refines.settings;
     fits = f.refines.fits;
     uses = f.refines.uses;
   };
@@ -48,6 +55,7 @@ given-follows side log taken d new given e f = subst (λ (v : DriverValue). Foll
     staged = f.refines.staged;
     state_is = f.refines.state_is;
     queue_is = f.refines.queue_is;
+    settings = f.refines.settings;
     fits = f.refines.fits;
     uses = f.refines.uses;
   };
@@ -55,6 +63,15 @@ given-follows side log taken d new given e f = subst (λ (v : DriverValue). Foll
   rests = f.rests;
   sends = f.sends;
 })
+
+-- what is given are the peer's SETTINGS of the log
+pub settings-given : {E : Type 0} (side : Side) (log : Log) (taken : ℕ) (d : DriverValue) (r : Result (Poll (Result Settings DriverError)) E) → Follows side d log taken
+    → IfOk r (λ p. p ≡ settings_or (due_settings d) (result_of d.state.is_open d.state.progress.ending))
+    → IfOk r (λ p. p ≡ settings_or (unless_given d.has_given_settings (peer_settings side log)) (result_of d.state.is_open d.state.progress.ending))
+settings-given side log taken d r f e =
+    if_ok_same r _ _ e
+    (ap (λ (o : Option Settings). settings_or o (result_of d.state.is_open d.state.progress.ending))
+    (due-settings-are side log d f.refines.settings (state-came side log d.state f.refines.state_is)))
 
 -- ---- the request that is queued
 
@@ -64,7 +81,7 @@ request-told id (verdicts.Request fields at) e f = absurd cc
 request-told id _ e f = absurd cc
 
 -- a stream that awaits its delivery has a request
-requests-told : (delivered : ℕ → Bool) (cs : List Classified) → first_request (only (awaits_delivery delivered) cs) ≡ None → only (awaits_delivery delivered) cs ≡ []
+pub requests-told : (delivered : ℕ → Bool) (cs : List Classified) → first_request (only (awaits_delivery delivered) cs) ≡ None → only (awaits_delivery delivered) cs ≡ []
 requests-told delivered [] e = refl
 requests-told delivered (c ∷ cs) e = by (awaits_delivery delivered c) refl (requests-told delivered cs) e
   where

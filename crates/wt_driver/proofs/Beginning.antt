@@ -1,8 +1,10 @@
 -- A driver to which nothing was told follows the empty log.
 use Rattle.std.proofs.Common.{arith, ◌≡◌, ℕ, true, [], refl, sym, subst, ◌∙◌}
 use Rattle.std.specs.Prelude.{None, Some}
+use Rattle.wt_driver.proofs.SettingsKept.{start-keeps}
 use Rattle.wt_driver.proofs.StageMoments.{start-staged}
 use Rattle.wt_driver.specs.DriverValue.{DriverValue, first_state}
+use Rattle.wt_driver.specs.PeerSettings.{KeepsSettings}
 use Rattle.wt_driver_spec.specs.Asking.{SendFacts}
 use Rattle.wt_driver.specs.Tie.{Follows}
 use Rattle.wt_driver_spec.proofs.RestMoments.{start-rests}
@@ -27,14 +29,15 @@ start-sends side = record { unfinished = refl; unreset = refl; session = λ s e.
     none : {s : ℕ × ℕ} → None ≡ Some s → can_send side [] s.0 ≡ true
     none e = absurd cc
 
-pub begins : (side : Side) (d : DriverValue) → d.inbox ≡ nothing_read side → d.state ≡ first_state true → d.queue ≡ [] → Follows side d [] 0
-begins side d x s q = record {
+pub begins : (side : Side) (d : DriverValue) → d.inbox ≡ nothing_read side → d.state ≡ first_state true → d.queue ≡ [] → d.settings ≡ None → Follows side d [] 0
+begins side d x s q k = record {
   refines = record {
     stage = all_untouched;
     inbox = subst (λ (i : InboxState). inboxes.Refines side i [] all_untouched []) (sym x) (new_inbox_refines side);
     staged = start-staged side;
     state_is = s ∙ start-state side;
     queue_is = q;
+    settings = subst (KeepsSettings side []) (sym k) (start-keeps side);
     fits = tt;
     uses = tt;
   };

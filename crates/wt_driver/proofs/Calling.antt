@@ -8,6 +8,7 @@ use Rattle.wt_driver.proofs.StageEntries.{called-fits}
 use Rattle.wt_driver.proofs.StageTables.{is-own}
 use Rattle.wt_driver.proofs.StageWork.{passed-waits, received-waits}
 use Rattle.wt_driver.specs.Calling.{IsEarly, called_queue}
+use Rattle.wt_driver.specs.PeerSettings.{KeepsSettings}
 use Rattle.wt_driver_spec.specs.Asking.{Establishes, MayBeCalled}
 use Rattle.wt_driver.specs.DriverValue.{DriverValue, IsAmong, with_state, without_first}
 use Rattle.wt_turn.specs.Records.{record_of}
@@ -117,13 +118,14 @@ module _ (side : Side) (log : Log) (taken : ℕ) (d : DriverValue) (f : Follows 
 
   -- the record, with what it did
   pub call-taken : (new : DriverValue) (b : Bool) → inboxes.Refines side new.inbox (Called r ∷ log) (called_stages side r f.refines.stage) (untaken_since taken log) → new.state ≡ record (after_call r d.state) { is_open = b }
-      → b ≡ (state_of side log).is_open → new.queue ≡ called_queue r d.queue → TakenIn side log (Called r) new taken
-  call-taken new b x s o q = record {
+      → b ≡ (state_of side log).is_open → new.queue ≡ called_queue r d.queue → new.settings ≡ d.settings → TakenIn side log (Called r) new taken
+  call-taken new b x s o q k = record {
     stage = called_stages side r f.refines.stage;
     inbox = x;
     fit = called-fits side log f.refines.stage r (is-own side log f.refines.fits) a.can f.refines.staged;
     state_is = s ∙ (λ i. record (after_call r (f.refines.state_is i)) { is_open = o i });
     queue_is = q ∙ ap (called_queue r) f.refines.queue_is ∙ sym (queue-so r log);
+    settings = subst (KeepsSettings side log) (sym k) f.refines.settings;
     within = f.within;
     moment = refl;
     may = a.may;
@@ -164,12 +166,12 @@ module _ (side : Side) (log : Log) (taken : ℕ) (d : DriverValue) (f : Follows 
   kept r n = inbox-kept side d.inbox log f.refines.stage (untaken_since taken log) r n f.refines.inbox
 
   pub nothing-taken : (r : CallRecord) → ChangesNothing r → Asks r → TakenIn side log (Called r) d taken
-  nothing-taken (ConnectStarted reserved head) n a = call-taken side log taken d f (ConnectStarted reserved head) a d d.state.is_open (kept (ConnectStarted reserved head) tt) refl opened refl
-  nothing-taken (ResponseStarted accepts head) n a = call-taken side log taken d f (ResponseStarted accepts head) a d d.state.is_open (kept (ResponseStarted accepts head) tt) refl opened refl
-  nothing-taken HandshakeOver n a = call-taken side log taken d f HandshakeOver a d d.state.is_open (kept HandshakeOver tt) refl opened refl
-  nothing-taken (OpeningStarted id session) n a = call-taken side log taken d f (OpeningStarted id session) a d d.state.is_open (kept (OpeningStarted id session) tt) refl opened refl
-  nothing-taken (OpeningFailed id) n a = call-taken side log taken d f (OpeningFailed id) a d d.state.is_open (kept (OpeningFailed id) tt) refl opened refl
-  nothing-taken Polled n a = call-taken side log taken d f Polled a d d.state.is_open (kept Polled tt) refl opened refl
+  nothing-taken (ConnectStarted reserved head) n a = call-taken side log taken d f (ConnectStarted reserved head) a d d.state.is_open (kept (ConnectStarted reserved head) tt) refl opened refl refl
+  nothing-taken (ResponseStarted accepts head) n a = call-taken side log taken d f (ResponseStarted accepts head) a d d.state.is_open (kept (ResponseStarted accepts head) tt) refl opened refl refl
+  nothing-taken HandshakeOver n a = call-taken side log taken d f HandshakeOver a d d.state.is_open (kept HandshakeOver tt) refl opened refl refl
+  nothing-taken (OpeningStarted id session) n a = call-taken side log taken d f (OpeningStarted id session) a d d.state.is_open (kept (OpeningStarted id session) tt) refl opened refl refl
+  nothing-taken (OpeningFailed id) n a = call-taken side log taken d f (OpeningFailed id) a d d.state.is_open (kept (OpeningFailed id) tt) refl opened refl refl
+  nothing-taken Polled n a = call-taken side log taken d f Polled a d d.state.is_open (kept Polled tt) refl opened refl refl
   nothing-taken (RequestDelivered id) n a = absurd n
   nothing-taken (SessionEstablished id at) n a = absurd n
   nothing-taken (StreamAccepted id) n a = absurd n
@@ -187,59 +189,59 @@ module _ (side : Side) (log : Log) (taken : ℕ) (d : DriverValue) (f : Follows 
   module _ (new : DriverValue) where
     pub delivered-taken : (id : ℕ) → new ≡ with_state d (deliver id d.state) → Asks (RequestDelivered id) → TakenIn side log (Called (RequestDelivered id)) new taken
     delivered-taken id e a = subst (λ (v : DriverValue). TakenIn side log (Called (RequestDelivered id)) v taken) (sym e)
-        (call-taken side log taken d f (RequestDelivered id) a (with_state d (deliver id d.state)) d.state.is_open (kept (RequestDelivered id) tt) refl opened refl)
+        (call-taken side log taken d f (RequestDelivered id) a (with_state d (deliver id d.state)) d.state.is_open (kept (RequestDelivered id) tt) refl opened refl refl)
 
-    pub established-taken : (id at : ℕ) → ReleasesResponse d new id at → KeepsStages d new → new.state ≡ record d.state { session = Some (id, at); is_open = new.inbox.transport.is_open } → new.queue ≡ d.queue
+    pub established-taken : (id at : ℕ) → ReleasesResponse d new id at → KeepsStages d new → new.state ≡ record d.state { session = Some (id, at); is_open = new.inbox.transport.is_open } → new.queue ≡ d.queue → new.settings ≡ d.settings
         → Asks (SessionEstablished id at) → TakenIn side log (Called (SessionEstablished id at)) new taken
-    established-taken id at client server s q a =
+    established-taken id at client server s q k a =
         let stage = established_stages side id at f.refines.stage in
         let x = established-inbox side log taken d new id at f client server a.half in
         let y = inbox-kept side new.inbox log stage (untaken_since taken log) (SessionEstablished id at) tt x in
-        call-taken side log taken d f (SessionEstablished id at) a new new.inbox.transport.is_open y s (behind (SessionEstablished id at) new.inbox stage y) q
+        call-taken side log taken d f (SessionEstablished id at) a new new.inbox.transport.is_open y s (behind (SessionEstablished id at) new.inbox stage y) q k
 
     pub accepted-taken : (id : ℕ) → (IsAmong 4 id d.state.unis → IsAmong 1 id d.state.bis → new ≡ with_state d (release id d.state)) → Asks (StreamAccepted id) → TakenIn side log (Called (StreamAccepted id)) new taken
     accepted-taken id e a = subst (λ (v : DriverValue). TakenIn side log (Called (StreamAccepted id)) v taken) (sym (e (first id a.may).unis (first id a.may).bis))
-        (call-taken side log taken d f (StreamAccepted id) a (with_state d (release id d.state)) d.state.is_open (kept (StreamAccepted id) tt) refl opened refl)
+        (call-taken side log taken d f (StreamAccepted id) a (with_state d (release id d.state)) d.state.is_open (kept (StreamAccepted id) tt) refl opened refl refl)
 
     abbrev settled_value : DriverValue
     settled_value = record d { state = record d.state { datagrams = suc d.state.datagrams }; queue = without_first d.queue }
 
     pub received-taken : new ≡ record d { state = record d.state { datagrams = suc d.state.datagrams }; queue = without_first d.queue } → Asks DatagramReceived → TakenIn side log (Called DatagramReceived) new taken
     received-taken e a = subst (λ (v : DriverValue). TakenIn side log (Called DatagramReceived) v taken) (sym e)
-        (call-taken side log taken d f DatagramReceived a settled_value d.state.is_open (kept DatagramReceived tt) (λ i. record d.state { datagrams = sym (add-one d.state.datagrams) i }) opened refl)
+        (call-taken side log taken d f DatagramReceived a settled_value d.state.is_open (kept DatagramReceived tt) (λ i. record d.state { datagrams = sym (add-one d.state.datagrams) i }) opened refl refl)
 
     pub skipped-taken : new ≡ record d { state = record d.state { datagrams = suc d.state.datagrams }; queue = without_first d.queue } → Asks DatagramPassed → TakenIn side log (Called DatagramPassed) new taken
     skipped-taken e a = subst (λ (v : DriverValue). TakenIn side log (Called DatagramPassed) v taken) (sym e)
-        (call-taken side log taken d f DatagramPassed a settled_value d.state.is_open (kept DatagramPassed tt) (λ i. record d.state { datagrams = sym (add-one d.state.datagrams) i }) opened refl)
+        (call-taken side log taken d f DatagramPassed a settled_value d.state.is_open (kept DatagramPassed tt) (λ i. record d.state { datagrams = sym (add-one d.state.datagrams) i }) opened refl refl)
 
     pub passed-taken : (id : ℕ) → inboxes.Refines side new.inbox log (with_stage f.refines.stage id Anywhere) (untaken_since taken log)
-        → (IsAmong 4 id d.state.unis → IsAmong 1 id d.state.bis → new.state ≡ record (release id d.state) { is_open = new.inbox.transport.is_open }) → new.queue ≡ d.queue → Asks (StreamPassed id) → TakenIn side log (Called (StreamPassed id)) new taken
-    passed-taken id x s q a =
+        → (IsAmong 4 id d.state.unis → IsAmong 1 id d.state.bis → new.state ≡ record (release id d.state) { is_open = new.inbox.transport.is_open }) → new.queue ≡ d.queue → new.settings ≡ d.settings → Asks (StreamPassed id) → TakenIn side log (Called (StreamPassed id)) new taken
+    passed-taken id x s q k a =
         let y = inbox-kept side new.inbox log (with_stage f.refines.stage id Anywhere) (untaken_since taken log) (StreamPassed id) tt x in
-        call-taken side log taken d f (StreamPassed id) a new new.inbox.transport.is_open y (s (first id a.may).unis (first id a.may).bis) (behind (StreamPassed id) new.inbox (with_stage f.refines.stage id Anywhere) y) q
+        call-taken side log taken d f (StreamPassed id) a new new.inbox.transport.is_open y (s (first id a.may).unis (first id a.may).bis) (behind (StreamPassed id) new.inbox (with_stage f.refines.stage id Anywhere) y) q k
 
     pub given-up-taken : (id : ℕ) → inboxes.Refines side new.inbox log (with_stage f.refines.stage id Anywhere) (untaken_since taken log)
-        → new.state ≡ record d.state { is_open = new.inbox.transport.is_open } → new.queue ≡ d.queue → Asks (StreamGivenUp id) → TakenIn side log (Called (StreamGivenUp id)) new taken
-    given-up-taken id x s q a =
+        → new.state ≡ record d.state { is_open = new.inbox.transport.is_open } → new.queue ≡ d.queue → new.settings ≡ d.settings → Asks (StreamGivenUp id) → TakenIn side log (Called (StreamGivenUp id)) new taken
+    given-up-taken id x s q k a =
         let y = inbox-kept side new.inbox log (with_stage f.refines.stage id Anywhere) (untaken_since taken log) (StreamGivenUp id) tt x in
-        call-taken side log taken d f (StreamGivenUp id) a new new.inbox.transport.is_open y s (behind (StreamGivenUp id) new.inbox (with_stage f.refines.stage id Anywhere) y) q
+        call-taken side log taken d f (StreamGivenUp id) a new new.inbox.transport.is_open y s (behind (StreamGivenUp id) new.inbox (with_stage f.refines.stage id Anywhere) y) q k
 
     pub read-taken : (id count : ℕ)
         → ((offset : ℕ) → body_offset (f.refines.stage id) ≡ Some offset → count ≤ length (drop offset (contents log id)) → inboxes.Refines side new.inbox log (with_stage f.refines.stage id (Body (offset + count))) (untaken_since taken log))
-        → new.state ≡ record d.state { is_open = new.inbox.transport.is_open } → new.queue ≡ d.queue → Asks (BytesRead id count) → TakenIn side log (Called (BytesRead id count)) new taken
-    read-taken id count x s q a =
+        → new.state ≡ record d.state { is_open = new.inbox.transport.is_open } → new.queue ≡ d.queue → new.settings ≡ d.settings → Asks (BytesRead id count) → TakenIn side log (Called (BytesRead id count)) new taken
+    read-taken id count x s q k a =
         let at = halves.body_offset (verdict_of id (stream_table side log).classified) + halves.total_read id (calls_of log) in
         let e : body_offset (f.refines.stage id) ≡ Some at = read-staged side log f.refines.stage id f.refines.fits f.refines.uses f.refines.staged a.half in
         let z = x at e a.can.1 in
         let w = subst (λ (o : Option ℕ). inboxes.Refines side new.inbox log (with_stage f.refines.stage id (stage_from (read_on count o))) (untaken_since taken log)) (sym e) z in
         let y = inbox-kept side new.inbox log (called_stages side (BytesRead id count) f.refines.stage) (untaken_since taken log) (BytesRead id count) tt w in
-        call-taken side log taken d f (BytesRead id count) a new new.inbox.transport.is_open y s (behind (BytesRead id count) new.inbox (called_stages side (BytesRead id count) f.refines.stage) y) q
+        call-taken side log taken d f (BytesRead id count) a new new.inbox.transport.is_open y s (behind (BytesRead id count) new.inbox (called_stages side (BytesRead id count) f.refines.stage) y) q k
 
     pub told-taken : (r : CallRecord) → after_call r d.state ≡ d.state → called_queue r d.queue ≡ d.queue → called_stages side r f.refines.stage ≡ f.refines.stage → inboxes.Refines side new.inbox (Called r ∷ log) f.refines.stage (untaken_since taken log)
-        → new.state ≡ record d.state { is_open = new.inbox.transport.is_open } → new.queue ≡ d.queue → Asks r → TakenIn side log (Called r) new taken
-    told-taken r same same_queue same_stages x s q a =
+        → new.state ≡ record d.state { is_open = new.inbox.transport.is_open } → new.queue ≡ d.queue → new.settings ≡ d.settings → Asks r → TakenIn side log (Called r) new taken
+    told-taken r same same_queue same_stages x s q k a =
         call-taken side log taken d f r a new new.inbox.transport.is_open (subst (λ (z : ℕ → Stage). inboxes.Refines side new.inbox (Called r ∷ log) z (untaken_since taken log)) (sym same_stages) x)
-        (s ∙ (λ i. record (sym same i) { is_open = new.inbox.transport.is_open })) (behind r new.inbox f.refines.stage x) (q ∙ sym same_queue)
+        (s ∙ (λ i. record (sym same i) { is_open = new.inbox.transport.is_open })) (behind r new.inbox f.refines.stage x) (q ∙ sym same_queue) k
 
 -- a call of which the driver keeps nothing is any other one
 pub no-other : (call : Record) → ((id : ℕ) → call ≡ records.RequestDelivered id → ⊥) → ((id at : ℕ) → call ≡ records.SessionEstablished id at → ⊥) → ((id : ℕ) → call ≡ records.StreamAccepted id → ⊥)

@@ -28,3 +28,5 @@ pub mod Acting
 pub mod Beginning
 pub mod Early
 pub mod Answering
+pub mod SettingsKept
+pub mod ForSessions

@@ -2,11 +2,13 @@
 use Rattle.std.proofs.Common.{arith, add-one, length, length-append, ◌+◌, ◌≤◌, ◌++◌, ◌≡◌, ℕ, zero, suc, true, false, List, [], ◌∷◌, drop, refl, sym, ap, subst, ◌∙◌}
 use Rattle.std.specs.Prelude.{◌&&◌, slice_get}
 use Rattle.std.proofs.lemmas.List.{drop-append-le}
+use Rattle.wt_driver.proofs.SettingsKept.{idle-keeps, scanned-keeps, sent-keeps}
 use Rattle.wt_driver.proofs.StageAsks.{ScanAsks, scan-asked}
 use Rattle.wt_driver.proofs.StageMoments.{actions-staged, actions-use, scan-staged}
 use Rattle.wt_driver.proofs.StageUses.{calls-with}
 use Rattle.wt_driver.specs.DriverValue.{DriverValue, without_first}
 use Rattle.wt_driver.specs.Moving.{HasDatagram, Moves, front_of}
+use Rattle.wt_driver.specs.PeerSettings.{KeepsSettings, settings_scanned}
 use Rattle.wt_driver.specs.Stages.{StagesFit, TableFits, scanned_stages}
 use Rattle.wt_driver_spec.specs.Uses.{MayUseBy, Uses}
 use Rattle.wt_driver.specs.Tie.{Refines, unsettled}
@@ -109,24 +111,25 @@ module _ (side : Side) (log : Log) (m : Entry) (stage : ℕ → Stage) (may : Ma
       same e = ap (λ (s : DriverState). apply_if (scans m s) (scanned_stages u s) stage) (sym here) ∙ ap (λ b. apply_if b (scanned_stages u d.state) stage) e
 
   -- an entry at which nothing is done
-  pub idle-refines : (untaken : List Action) → (is_moment m && is_open (m ∷ log)) ≡ false → inboxes.Refines side d.inbox (m ∷ log) stage untaken → Refines side d (log_and_flush side log m) untaken
+  pub idle-refines : (untaken : List Action) → (is_moment m && is_open (m ∷ log)) ≡ false → inboxes.Refines side d.inbox (m ∷ log) stage untaken → KeepsSettings side log d.settings → Refines side d (log_and_flush side log m) untaken
   unfolding flush
-  idle-refines untaken idle r = rw idle (record {
+  idle-refines untaken idle r k = rw idle (record {
     stage = stage;
     inbox = r;
     staged = rw idle at staged-so;
     state_is = sym (state-so ∙ ap (λ b. apply_if b (scan_state u) d.state) idle);
     queue_is = waits;
+    settings = idle-keeps side log m d.settings idle k;
     fits = (may, fits);
     uses = (can, uses);
   })
 
   -- The scan, then what goes out.
-  pub work-refines : (scanned last : DriverValue) (untaken later : List Action) → (is_moment m && is_open (m ∷ log)) ≡ true → Moves side (m ∷ log) untaken d scanned (scanned_stages u d.state stage) (scan_state u d.state)
-      → inboxes.Refines side last.inbox (with_actions (step_actions u scanned.state) (m ∷ log)) (scanned_stages u d.state stage) later → last.state ≡ flushed u scanned.state → last.queue ≡ scanned.queue
+  pub work-refines : (scanned last : DriverValue) (untaken later : List Action) → (is_moment m && is_open (m ∷ log)) ≡ true → Moves side (m ∷ log) untaken d scanned (scanned_stages u d.state stage) (scan_state u d.state) (settings_scanned u d.state d.settings)
+      → inboxes.Refines side last.inbox (with_actions (step_actions u scanned.state) (m ∷ log)) (scanned_stages u d.state stage) later → last.state ≡ flushed u scanned.state → last.queue ≡ scanned.queue → last.settings ≡ scanned.settings → KeepsSettings side log d.settings
       → Refines side last (log_and_flush side log m) later
   unfolding flush
-  work-refines scanned last untaken later moment moved r state queue =
+  work-refines scanned last untaken later moment moved r state queue settings k =
       let same : scanned.state ≡ state_of side (m ∷ log) = moved.state_is ∙ sym (state-so ∙ ap (λ b. apply_if b (scan_state u) d.state) moment) in
       let out : step_actions u scanned.state ≡ pending_actions side (m ∷ log) = ap (step_actions u) same ∙ sym (scanned-out side (m ∷ log)) in
       rw moment (record {
@@ -135,6 +138,9 @@ module _ (side : Side) (log : Log) (m : Entry) (stage : ℕ → Stage) (may : Ma
         staged = actions-staged side (pending_actions side (m ∷ log)) (m ∷ log) (scanned_stages u d.state stage) (rw moment at staged-so);
         state_is = state ∙ ap (flushed u) same ∙ sym (sent_at_once u (state_of side (m ∷ log))) ∙ sym (flushed-state side (m ∷ log));
         queue_is = queue ∙ moved.queue ∙ waits ∙ sym (unsettled-with (pending_actions side (m ∷ log)) (m ∷ log));
+        settings =
+            sent-keeps side (pending_actions side (m ∷ log)) (m ∷ log) last.settings
+            (subst (KeepsSettings side (m ∷ log)) (sym (settings ∙ moved.settings_are)) (scanned-keeps side log m d.state d.settings here (sym moved.state_is ∙ same) k));
         fits = actions-fit side (pending_actions side (m ∷ log)) (m ∷ log) (may, fits);
         uses = actions-use side (pending_actions side (m ∷ log)) (m ∷ log) (can, uses);
       })

@@ -5,10 +5,12 @@ use Rattle.std.proofs.lemmas.Bool.{and_parts}
 use Rattle.std.proofs.lemmas.List.{drop_more, drop_all}
 use Rattle.wt_driver.proofs.FlushFacts.{counts-more, receives-on}
 use Rattle.wt_driver.proofs.Moved.{on_ok, open-is}
+use Rattle.wt_driver.proofs.SettingsKept.{idle-keeps}
 use Rattle.wt_driver.proofs.StageMoments.{late-staged}
 use Rattle.wt_driver.proofs.StageWork.{datagram-waits}
 use Rattle.wt_driver.specs.Arriving.{EventTaken, arrived, event_of, is_call}
 use Rattle.wt_driver.specs.DriverValue.{DriverValue, with_state}
+use Rattle.wt_driver.specs.PeerSettings.{KeepsSettings}
 use Rattle.wt_driver_spec.specs.Asking.{SendFacts}
 use Rattle.wt_driver_spec.specs.Uses.{Uses}
 use Rattle.wt_driver.specs.Tie.{Follows, TakenIn, unsettled, untaken_since}
@@ -64,13 +66,14 @@ stands side log m x stage untaken r = open-is side (m ∷ log) untaken x stage r
 module _ (side : Side) (log : Log) (taken : ℕ) (d : DriverValue) (f : Follows side d log taken) where
   -- an event was taken in
   pub event-taken : (e : Event) (new : DriverValue) → is_open log ≡ true → inboxes.Refines side new.inbox (Reported e ∷ log) f.refines.stage (untaken_since taken log)
-      → new.state ≡ record (after_event (transport_view side log) e d.state) { is_open = new.inbox.transport.is_open } → new.queue ≡ with_datagram e d.queue → TakenIn side log (Reported e) new taken
-  event-taken e new o r s q = record {
+      → new.state ≡ record (after_event (transport_view side log) e d.state) { is_open = new.inbox.transport.is_open } → new.queue ≡ with_datagram e d.queue → new.settings ≡ d.settings → TakenIn side log (Reported e) new taken
+  event-taken e new o r s q k = record {
     stage = f.refines.stage;
     inbox = r;
     fit = f.refines.staged;
     state_is = s ∙ (λ i. record (after_event (transport_view side log) e (f.refines.state_is i)) { is_open = stands side log (Reported e) new.inbox f.refines.stage (untaken_since taken log) r i });
     queue_is = q ∙ ap (with_datagram e) f.refines.queue_is ∙ sym (event-waits side log e f.refines.uses);
+    settings = subst (KeepsSettings side log) (sym k) f.refines.settings;
     within = f.within;
     moment = refl;
     may = tt;
@@ -83,15 +86,16 @@ module _ (side : Side) (log : Log) (taken : ℕ) (d : DriverValue) (f : Follows 
 
   -- one came after the end
   pub late-follows : (e : Event) (new : DriverValue) → is_open log ≡ false → inboxes.Refines side new.inbox (ReportedLate e ∷ log) f.refines.stage (untaken_since taken log)
-      → new.state ≡ record d.state { is_open = new.inbox.transport.is_open } → new.queue ≡ d.queue → Follows side new (log_and_flush side log (ReportedLate e)) taken
+      → new.state ≡ record d.state { is_open = new.inbox.transport.is_open } → new.queue ≡ d.queue → new.settings ≡ d.settings → Follows side new (log_and_flush side log (ReportedLate e)) taken
   unfolding flush
-  late-follows e new o r s q = record {
+  late-follows e new o r s q k = record {
     refines = record {
       stage = f.refines.stage;
       inbox = r;
       staged = late-staged side log e f.refines.stage f.refines.staged;
       state_is = s ∙ (λ i. record (f.refines.state_is i) { is_open = stands side log (ReportedLate e) new.inbox f.refines.stage (untaken_since taken log) r i }) ∙ sym (late-followed side log e f.refines.fits);
       queue_is = q ∙ f.refines.queue_is;
+      settings = idle-keeps side log (ReportedLate e) new.settings refl (subst (KeepsSettings side log) (sym k) f.refines.settings);
       fits = (tt, f.refines.fits);
       uses = (tt, f.refines.uses);
     };
@@ -108,13 +112,14 @@ module _ (side : Side) (log : Log) (taken : ℕ) (d : DriverValue) (f : Follows 
 
   -- a byte was taken in
   pub byte-taken : (id byte : ℕ) (new : DriverValue) → is_open log ≡ true → inboxes.Refines side new.inbox (Received id byte ∷ log) f.refines.stage (untaken_since taken log)
-      → new.state ≡ record d.state { is_open = new.inbox.transport.is_open } → new.queue ≡ d.queue → TakenIn side log (Received id byte) new taken
-  byte-taken id byte new o r s q = record {
+      → new.state ≡ record d.state { is_open = new.inbox.transport.is_open } → new.queue ≡ d.queue → new.settings ≡ d.settings → TakenIn side log (Received id byte) new taken
+  byte-taken id byte new o r s q k = record {
     stage = f.refines.stage;
     inbox = r;
     fit = f.refines.staged;
     state_is = s ∙ (λ i. record (f.refines.state_is i) { is_open = stands side log (Received id byte) new.inbox f.refines.stage (untaken_since taken log) r i });
     queue_is = q ∙ f.refines.queue_is;
+    settings = subst (KeepsSettings side log) (sym k) f.refines.settings;
     within = f.within;
     moment = refl;
     may = tt;
@@ -126,15 +131,16 @@ module _ (side : Side) (log : Log) (taken : ℕ) (d : DriverValue) (f : Follows 
   }
 
   -- bytes that came after the end are left out
-  pub unchanged-follows : (new : DriverValue) → inboxes.Refines side new.inbox log f.refines.stage (untaken_since taken log) → new.state ≡ record d.state { is_open = new.inbox.transport.is_open } → new.queue ≡ d.queue
+  pub unchanged-follows : (new : DriverValue) → inboxes.Refines side new.inbox log f.refines.stage (untaken_since taken log) → new.state ≡ record d.state { is_open = new.inbox.transport.is_open } → new.queue ≡ d.queue → new.settings ≡ d.settings
       → Follows side new log taken
-  unchanged-follows new r s q = record {
+  unchanged-follows new r s q k = record {
     refines = record {
       stage = f.refines.stage;
       inbox = r;
       staged = f.refines.staged;
       state_is = s ∙ (λ i. record (f.refines.state_is i) { is_open = (open-is side log (untaken_since taken log) new.inbox f.refines.stage r ∙ open-says side log) i });
       queue_is = q ∙ f.refines.queue_is;
+      settings = subst (KeepsSettings side log) (sym k) f.refines.settings;
       fits = f.refines.fits;
       uses = f.refines.uses;
     };
@@ -229,18 +235,18 @@ event-follows side log taken turn e d new r is t work same = subst (λ (l : Log)
 
 -- a byte's moment
 pub byte-follows : (side : Side) (log : Log) (taken : ℕ) (d : DriverValue) (f : Follows side d log taken) (id byte : ℕ) (mid new : DriverValue) (r : Result (Unit {0}) OutOfMemory)
-    → inboxes.Refines side mid.inbox (log_turn log (turns.Bytes id (byte ∷ []))) f.refines.stage (untaken_since taken log) → mid.state ≡ record d.state { is_open = mid.inbox.transport.is_open } → mid.queue ≡ d.queue
+    → inboxes.Refines side mid.inbox (log_turn log (turns.Bytes id (byte ∷ []))) f.refines.stage (untaken_since taken log) → mid.state ≡ record d.state { is_open = mid.inbox.transport.is_open } → mid.queue ≡ d.queue → mid.settings ≡ d.settings
     → ((m : Entry) → TakenIn side log m mid taken → OnOk r (Follows side new (log_and_flush side log m) taken)) → OnOk r (mid.state.is_open ≡ false → new ≡ mid) → OnOk r (Follows side new (receive side log id (byte ∷ [])) taken)
-byte-follows side log taken d f id byte mid new r x s q work same = by (is_open log) refl x
+byte-follows side log taken d f id byte mid new r x s q k work same = by (is_open log) refl x
   where
     by : (o : Bool) → is_open log ≡ o → inboxes.Refines side mid.inbox (log_bytes_if o log id (byte ∷ [])) f.refines.stage (untaken_since taken log)
         → OnOk r (Follows side new (if o then log_and_flush side log (Received id byte) else log) taken)
-    by true o y = work (Received id byte) (byte-taken side log taken d f id byte mid o y s q)
+    by true o y = work (Received id byte) (byte-taken side log taken d f id byte mid o y s q k)
     by false o y =
         on_ok r
         (λ (g : mid.state.is_open ≡ false → new ≡ mid).
         subst (λ (v : DriverValue). Follows side v log taken) (sym (g (ap (λ (k : DriverState). k.is_open) s ∙ open-is side log (untaken_since taken log) mid.inbox f.refines.stage y ∙ o)))
-        (unchanged-follows side log taken d f mid y s q))
+        (unchanged-follows side log taken d f mid y s q k))
         same
 
 -- the log after a turn in an event's shape
@@ -264,16 +270,16 @@ event-turn-log log (turns.Loss reason) e is = ap (λ (x : Event). event_entry (i
 -- an event was noted, then recorded
 pub event-noted : (side : Side) (log : Log) (taken : ℕ) (d : DriverValue) (f : Follows side d log taken) (turn : Turn) (e : Event) (mid new : DriverValue) → event_of turn ≡ Some e
     → (is_open log ≡ true → mid ≡ arrived (transport_view side log) (event_of turn) d) → (d.state.is_open ≡ false → mid ≡ d)
-    → inboxes.Refines side new.inbox (log_turn log turn) f.refines.stage (untaken_since taken log) → new.state ≡ record mid.state { is_open = new.inbox.transport.is_open } → new.queue ≡ mid.queue → EventTaken side log e new taken
-event-noted side log taken d f turn e mid new is here shut r s q = record {
+    → inboxes.Refines side new.inbox (log_turn log turn) f.refines.stage (untaken_since taken log) → new.state ≡ record mid.state { is_open = new.inbox.transport.is_open } → new.queue ≡ mid.queue → new.settings ≡ mid.settings → EventTaken side log e new taken
+event-noted side log taken d f turn e mid new is here shut r s q k = record {
   counted = λ o.
       let m : mid ≡ arrived (transport_view side log) (Some e) d = here o ∙ ap (λ (x : Option Event). arrived (transport_view side log) x d) is in
       event-taken side log taken d f e new o (entered true o)
       (s ∙ (λ i. record (m i).state { is_open = new.inbox.transport.is_open }))
-      (q ∙ ap (λ (v : DriverValue). v.queue) m);
+      (q ∙ ap (λ (v : DriverValue). v.queue) m) (k ∙ ap (λ (v : DriverValue). v.settings) m);
   late = λ o.
       let m : mid ≡ d = shut (was o) in
-      late-follows side log taken d f e new o (entered false o) (s ∙ (λ i. record (m i).state { is_open = new.inbox.transport.is_open })) (q ∙ ap (λ (v : DriverValue). v.queue) m);
+      late-follows side log taken d f e new o (entered false o) (s ∙ (λ i. record (m i).state { is_open = new.inbox.transport.is_open })) (q ∙ ap (λ (v : DriverValue). v.queue) m) (k ∙ ap (λ (v : DriverValue). v.settings) m);
   ended = λ o. ap (λ (k : DriverState). k.is_open) s ∙ open-is side (ReportedLate e ∷ log) (untaken_since taken log) new.inbox f.refines.stage (entered false o) ∙ open-more (ReportedLate e) log ∙ o;
 }
   where
@@ -283,10 +289,10 @@ event-noted side log taken d f turn e mid new is here shut r s q = record {
     entered : (b : Bool) → is_open log ≡ b → inboxes.Refines side new.inbox (event_entry b e ∷ log) f.refines.stage (untaken_since taken log)
     entered b o = subst (λ (l : Log). inboxes.Refines side new.inbox l f.refines.stage (untaken_since taken log)) (event-turn-log log turn e is ∙ ap (λ (x : Bool). event_entry x e ∷ log) o) r
 
--- three that hold where it is Ok
-pub on-three : {T E P Q R S : Type 0} (r : Result T E) → (P → Q → R → S) → OnOk r P → OnOk r Q → OnOk r R → OnOk r S
-on-three (Ok x) f p q s = f p q s
-on-three (Err e) f p q s = p
+-- four that hold where it is Ok
+pub on-four : {T E P Q R S X : Type 0} (r : Result T E) → (P → Q → R → S → X) → OnOk r P → OnOk r Q → OnOk r R → OnOk r S → OnOk r X
+on-four (Ok x) f p q s t = f p q s t
+on-four (Err e) f p q s t = p
 
 pub fits-any : (side : Side) (log : Log) (k : ℕ) (p q : List ℕ) → fits side log (turns.Bytes k p) ≡ true → fits side log (turns.Bytes k q) ≡ true
 fits-any side log k p q f = f

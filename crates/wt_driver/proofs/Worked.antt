@@ -9,6 +9,7 @@ use Rattle.wt_driver.specs.DriverValue.{DriverValue}
 use Rattle.wt_driver.specs.Flushing.{Flushes, MayFlush}
 use Rattle.wt_driver_spec.specs.Asking.{SendFacts}
 use Rattle.wt_driver.specs.Moving.{HasDatagram, MayScan, Moves}
+use Rattle.wt_driver.specs.PeerSettings.{settings_scanned}
 use Rattle.wt_driver.specs.Stages.{scanned_stages}
 use Rattle.wt_driver.specs.Tie.{Follows, Refines, TakenIn, untaken_since}
 use Rattle.wt_driver_spec.specs.Asking.{SendsWhileOpen}
@@ -136,7 +137,7 @@ module _ (side : Side) (log : Log) (m : Entry) (taken : ℕ) (d : DriverValue) (
   unfolding flush
   idle-follows o =
       let idle = counts false o in
-      let refined = idle-refines side log m in_.stage in_.may in_.can in_.fits in_.uses in_.fit d in_.state_is in_.queue_is (untaken_since taken (m ∷ log)) idle in_.inbox in
+      let refined = idle-refines side log m in_.stage in_.may in_.can in_.fits in_.uses in_.fit d in_.state_is in_.queue_is (untaken_since taken (m ∷ log)) idle in_.inbox in_.settings in
       record {
         refines = rw idle (rw idle at refined);
         within = rw idle in_.within;
@@ -151,7 +152,7 @@ module _ (side : Side) (log : Log) (m : Entry) (taken : ℕ) (d : DriverValue) (
     pub scan-may : MayScan u d.state in_.stage
     scan-may = may-scan u d.state in_.stage (work-asks side log m in_.stage in_.may in_.can in_.fits in_.uses in_.fit d in_.state_is in_.queue_is (counts true o))
 
-    module _ (scanned : DriverValue) (moved : Moves side (m ∷ log) (untaken_since taken (m ∷ log)) d scanned (scanned_stages u d.state in_.stage) (scan_state u d.state)) where
+    module _ (scanned : DriverValue) (moved : Moves side (m ∷ log) (untaken_since taken (m ∷ log)) d scanned (scanned_stages u d.state in_.stage) (scan_state u d.state) (settings_scanned u d.state d.settings)) where
       -- the scan led to the state of the log with the entry
       pub scanned-state : scanned.state ≡ state_of side (m ∷ log)
       scanned-state =
@@ -170,10 +171,10 @@ module _ (side : Side) (log : Log) (m : Entry) (taken : ℕ) (d : DriverValue) (
 
       -- then all of it went out
       pub work-follows : (last : DriverValue) → Flushes side (m ∷ log) (scanned_stages u d.state in_.stage) (untaken_since taken (m ∷ log)) (actions_after u (control_sent side (m ∷ log)) scanned.state.session scanned.state.progress) last.inbox last.state.control_sent
-          → last.state ≡ record scanned.state { control_sent = last.state.control_sent; is_open = last.state.is_open } → last.queue ≡ scanned.queue → last.state.is_open ≡ last.inbox.transport.is_open
+          → last.state ≡ record scanned.state { control_sent = last.state.control_sent; is_open = last.state.is_open } → last.queue ≡ scanned.queue → last.settings ≡ scanned.settings → last.state.is_open ≡ last.inbox.transport.is_open
           → Follows side last (log_and_flush side log m) taken
       unfolding flush
-      work-follows last f rest queue opens =
+      work-follows last f rest queue settings opens =
           let moment = counts true o in
           let out : actions_after u (control_sent side (m ∷ log)) scanned.state.session scanned.state.progress ≡ step_actions u scanned.state =
           ap (λ (s : ControlSent). actions_after u s scanned.state.session scanned.state.progress) flush-control in
@@ -187,7 +188,7 @@ module _ (side : Side) (log : Log) (m : Entry) (taken : ℕ) (d : DriverValue) (
           let stands : last.state.is_open ≡ (flushed u scanned.state).is_open = opens ∙ ap (λ (t : TransportState). t.is_open) inbox.transport.state ∙ whole in
           let own : last.state.control_sent ≡ (flushed u scanned.state).control_sent = f.control_is ∙ ap (control_flushed u.may_open u.credit) flush-control in
           let state : last.state ≡ flushed u scanned.state = rest ∙ (λ i. record scanned.state { control_sent = own i; is_open = stands i }) in
-          let refined = work-refines side log m in_.stage in_.may in_.can in_.fits in_.uses in_.fit d in_.state_is in_.queue_is scanned last (untaken_since taken (m ∷ log)) late moment moved inbox state queue in
+          let refined = work-refines side log m in_.stage in_.may in_.can in_.fits in_.uses in_.fit d in_.state_is in_.queue_is scanned last (untaken_since taken (m ∷ log)) late moment moved inbox state queue settings in_.settings in
           record {
             refines = subst (Refines side last (log_and_flush side log m)) (ap (λ (xs : List Action). newest_first xs (untaken_since taken (m ∷ log))) pending ∙ sym (rw moment (untaken-with taken acts (m ∷ log) in_.within))) refined;
             within = rw moment (within-with taken acts (m ∷ log) in_.within);

@@ -5,6 +5,8 @@ pub mod Moving
 pub mod Flushing
 pub mod DriverValue
 pub mod Results
+pub mod PeerSettings
 pub mod Tie
 pub mod Arriving
 pub mod Calling
+pub mod Sessions

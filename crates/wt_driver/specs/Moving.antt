@@ -7,6 +7,7 @@ use Rattle.wt_dispatch.specs.declared.slot.Half.TheVariants.{Bi, Uni}
 use Rattle.wt_driver_spec.specs.Bounds.{AreDistinct, IsBounded}
 use Rattle.wt_driver_spec.specs.DriverState.{DriverState}
 use Rattle.wt_driver_spec.specs.Step.{begin_scan, scan_bi_slots, scan_uni_slots}
+use Rattle.wt_message.specs.declared.settings.Settings.{Settings}
 use Rattle.wt_spec.specs.StreamTable.{TransportView}
 use Rattle.wt_inbox.specs.Stage.{Refines, Stage, control_offset, session_offset}
 use Rattle.wt_spec.specs.Driver.{transport_view}
@@ -14,11 +15,12 @@ use Rattle.wt_turn.specs.Log.{Log}
 use Rattle.wt_turn.specs.declared.action.Action.{Action}
 use Rattle.wt_wire.specs.declared.side.Side.{Side}
 
--- A step led to this state, with the streams at these stages. The datagrams that wait stay.
-pub record Moves (side : Side) (log : Log) (untaken : List Action) (old new : DriverValue) (stage : ℕ → Stage) (state : DriverState) : Type 0 where
+-- A step led to this state, with the streams at these stages, and keeps these SETTINGS. The datagrams that wait stay.
+pub record Moves (side : Side) (log : Log) (untaken : List Action) (old new : DriverValue) (stage : ℕ → Stage) (state : DriverState) (settings : Option Settings) : Type 0 where
   pub inbox : Refines side new.inbox log stage untaken
   pub state_is : new.state ≡ state
   pub queue : new.queue ≡ old.queue
+  pub settings_are : new.settings ≡ settings
 
 -- the first, where there is one
 abbrev pub front_of : {T : Type 0} → List T → Option T

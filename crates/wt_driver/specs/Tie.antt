@@ -1,6 +1,7 @@
 -- Which logs a driver refines.
 use Rattle.std.specs.Prelude.{◌-◌, ◌≡◌, ◌≤◌, ◌∷◌, List, drop, length, take, true, ℕ}
 use Rattle.wt_driver.specs.DriverValue.{DriverValue}
+use Rattle.wt_driver.specs.PeerSettings.{KeepsSettings}
 use Rattle.wt_driver_spec.specs.Asking.{SendsWhileOpen}
 use Rattle.wt_driver.specs.Stages.{StagesFit, TableFits}
 use Rattle.wt_driver_spec.specs.Uses.{MayUseBy, Uses}
@@ -21,13 +22,14 @@ abbrev pub unsettled : Log → List (List ℕ)
 unsettled log = drop (settled_datagrams (calls_of log)) (datagrams_of (events_of log))
 
 -- A driver refines a log, with these actions not taken yet, the newest first: its inbox does at stages that fit the log,
--- it keeps the state of the log, and the datagrams that aren't settled wait.
+-- it keeps the state of the log and the peer's SETTINGS, and the datagrams that aren't settled wait.
 pub record Refines (side : Side) (d : DriverValue) (log : Log) (untaken : List Action) : Type 0 where
   pub stage : ℕ → Stage
   pub inbox : inboxes.Refines side d.inbox log stage untaken
   pub staged : StagesFit side log stage
   pub state_is : d.state ≡ state_of side log
   pub queue_is : d.queue ≡ unsettled log
+  pub settings : KeepsSettings side log d.settings
   pub fits : Fits side log
   pub uses : Uses side log
 
@@ -50,6 +52,7 @@ pub record TakenIn (side : Side) (log : Log) (m : Entry) (d : DriverValue) (take
   pub fit : TableFits side (calls_of (m ∷ log)) (stream_table side log) stage
   pub state_is : d.state ≡ after_entry (transport_view side log) m (state_of side log)
   pub queue_is : d.queue ≡ unsettled (m ∷ log)
+  pub settings : KeepsSettings side log d.settings
   pub within : taken ≤ length (actions_of (m ∷ log))
   pub moment : is_moment m ≡ true
   pub may : MayFollow side log m

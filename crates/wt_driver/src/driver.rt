@@ -10,6 +10,7 @@ mod arrivals;
 mod calls;
 mod flush;
 mod moment;
+mod sessions;
 
 use std::alloc::Global;
 use std::collections::VecDeque;

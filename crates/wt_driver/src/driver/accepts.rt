@@ -64,6 +64,7 @@ impl Driver {
         ensures release { IsAmong 4 id self.old.state.unis → IsAmong 1 id self.old.state.bis → self.new ≡ with_state self.old (release id self.old.state) }
         ensures inbox { self.new.inbox ≡ self.old.inbox }
         ensures queue { self.new.queue ≡ self.old.queue }
+        ensures settings { self.new.settings ≡ self.old.settings }
     {
         remove_slot(&mut self.unis, 4, id);
         remove_slot(&mut self.bis, 1, id);
@@ -75,6 +76,7 @@ impl Driver {
         ensures log { (side : Side) (log : Log) (stage : ℕ → Stage) (untaken : List Action) → Refines side self.old.inbox log stage untaken → Refines side self.new.inbox log (with_stage stage id Anywhere) untaken }
         ensures state { self.new.state ≡ record self.old.state { is_open = self.new.inbox.transport.is_open } }
         ensures queue { self.new.queue ≡ self.old.queue }
+        ensures settings { self.new.settings ≡ self.old.settings }
     {
         if self.inbox.can_receive(id) {
             self.inbox.give_up(id);
@@ -86,6 +88,7 @@ impl Driver {
         ensures log { (side : Side) (log : Log) (stage : ℕ → Stage) (untaken : List Action) → Refines side self.old.inbox log stage untaken → Refines side self.new.inbox log (with_stage stage id Anywhere) untaken }
         ensures state { IsAmong 4 id self.old.state.unis → IsAmong 1 id self.old.state.bis → self.new.state ≡ record (release id self.old.state) { is_open = self.new.inbox.transport.is_open } }
         ensures queue { self.new.queue ≡ self.old.queue }
+        ensures settings { self.new.settings ≡ self.old.settings }
     {
         self.give_up(id);
         self.release(id);
@@ -147,7 +150,7 @@ impl Driver {
     }
 
     /// What a call answers that has nothing to give.
-    fn nothing_left<T>(&self) -> Result<Poll<Result<T, DriverError>>, OutOfMemory>
+    pub(super) fn nothing_left<T>(&self) -> Result<Poll<Result<T, DriverError>>, OutOfMemory>
         ensures { IfOk result (λ p. p ≡ ended_or_pending (result_of self.now.state.is_open self.now.state.progress.ending)) }
     {
         match self.result()? {

@@ -118,6 +118,7 @@ impl Driver {
             → OnOk result (Refines side self.new.inbox (log_turn log turn.now) stage untaken) }
         ensures state { OnOk result (self.new.state ≡ record self.old.state { is_open = self.new.inbox.transport.is_open }) }
         ensures queue { OnOk result (self.new.queue ≡ self.old.queue) }
+        ensures settings { OnOk result (self.new.settings ≡ self.old.settings) }
     {
         self.inbox.take(turn)
     }
@@ -146,6 +147,7 @@ impl Driver {
             → OnOk result (Refines side self.new.inbox (log_turn log (turns.Bytes id (byte ∷ []))) stage untaken) }
         ensures state { OnOk result (self.new.state ≡ record self.old.state { is_open = self.new.inbox.transport.is_open }) }
         ensures queue { OnOk result (self.new.queue ≡ self.old.queue) }
+        ensures settings { OnOk result (self.new.settings ≡ self.old.settings) }
     {
         if self.inbox.bytes_fit(id) {
             self.inbox.take_bytes(id, &[byte])?;

@@ -18,6 +18,7 @@ ghost use Rattle.wt_turn.specs.declared.action.Action.TheVariants as actions;
 ghost use Rattle.wt_wire.specs.declared.side.Side.{Side};
 ghost use Rattle.wt_wire.specs.declared.side.Side.TheVariants.{Client, Server};
 ghost use Rattle.wt_driver.specs.DriverValue.{with_state};
+ghost use Rattle.wt_driver.specs.PeerSettings.{peer_settings, unless_given};
 ghost use Rattle.wt_driver.specs.Results.{due_settings, error_of, requests_now, result_of, settings_or};
 ghost use Rattle.wt_dispatch.specs.Requests.{first_request, request_as};
 
@@ -89,6 +90,7 @@ impl Driver {
             → OnOk result (Refines side self.new.inbox (with_actions (if_open log (actions.Close code reason)) log) stage (newest_first (if_open log (actions.Close code reason)) untaken)) }
         ensures state { OnOk result (self.new.state ≡ record self.old.state { is_open = self.new.inbox.transport.is_open }) }
         ensures queue { OnOk result (self.new.queue ≡ self.old.queue) }
+        ensures settings { OnOk result (self.new.settings ≡ self.old.settings) }
     {
         self.inbox.close(code, reason)
     }
@@ -129,6 +131,7 @@ impl Driver {
             → OnOk result (Refines side self.new.inbox (Called (ResetUnsent id code) ∷ log) stage untaken) }
         ensures state { OnOk result (self.new.state ≡ record self.old.state { is_open = self.new.inbox.transport.is_open }) }
         ensures queue { OnOk result (self.new.queue ≡ self.old.queue) }
+        ensures settings { OnOk result (self.new.settings ≡ self.old.settings) }
     {
         reset(&mut self.inbox, id, code)
     }
@@ -139,6 +142,7 @@ impl Driver {
             → count ≤ length (drop offset (contents log id)) → Refines side self.new.inbox log (with_stage stage id (Body (offset + count))) untaken }
         ensures state { self.new.state ≡ record self.old.state { is_open = self.new.inbox.transport.is_open } }
         ensures queue { self.new.queue ≡ self.old.queue }
+        ensures settings { self.new.settings ≡ self.old.settings }
     {
         if count as u64 <= self.inbox.unread(id) {
             self.inbox.consume(id, count);
@@ -158,6 +162,7 @@ impl Driver {
         ensures server { (log : Log) (stage : ℕ → Stage) (untaken : List Action) → Refines Server self.old.inbox log stage untaken → OnOk result (Refines Server self.new.inbox log stage untaken) }
         ensures state { OnOk result (self.new.state ≡ record self.old.state { is_open = self.new.inbox.transport.is_open }) }
         ensures queue { OnOk result (self.new.queue ≡ self.old.queue) }
+        ensures settings { OnOk result (self.new.settings ≡ self.old.settings) }
     {
         if self.inbox.side() == Side::Client {
             let _response = self.inbox.release_response(id)?;
@@ -178,6 +183,7 @@ impl Driver {
         ensures server { (log : Log) (stage : ℕ → Stage) (untaken : List Action) → Refines Server self.old.inbox log stage untaken → OnOk result (Refines Server self.new.inbox log stage untaken) }
         ensures state { OnOk result (self.new.state ≡ record self.old.state { session = Some (id, at); is_open = self.new.inbox.transport.is_open }) }
         ensures queue { OnOk result (self.new.queue ≡ self.old.queue) }
+        ensures settings { OnOk result (self.new.settings ≡ self.old.settings) }
     {
         self.pass_response(id)?;
         self.set_session(id, at);
@@ -189,6 +195,7 @@ impl Driver {
             → Refines side self.new.inbox (Called (PrioritySet id priority) ∷ log) stage untaken }
         ensures state { self.new.state ≡ record self.old.state { is_open = self.new.inbox.transport.is_open } }
         ensures queue { self.new.queue ≡ self.old.queue }
+        ensures settings { self.new.settings ≡ self.old.settings }
     {
         if self.inbox.can_send(id) {
             self.inbox.set_priority(id, priority);
@@ -212,6 +219,7 @@ impl Driver {
             → OnOk result (Refines side self.new.inbox (Sent action ∷ log) stage (action ∷ untaken)) }
         ensures state { OnOk result (self.new.state ≡ record self.old.state { is_open = self.new.inbox.transport.is_open }) }
         ensures queue { OnOk result (self.new.queue ≡ self.old.queue) }
+        ensures settings { OnOk result (self.new.settings ≡ self.old.settings) }
     {
         act(&mut self.inbox, action)
     }
@@ -232,6 +240,7 @@ impl Driver {
             → OnOk result (Refines side self.new.inbox log (with_stage stage id ResponseHead) untaken) }
         ensures state { OnOk result (self.new.state ≡ self.old.state) }
         ensures queue { OnOk result (self.new.queue ≡ self.old.queue) }
+        ensures settings { OnOk result (self.new.settings ≡ self.old.settings) }
     {
         self.inbox.response(id)
     }
@@ -242,6 +251,7 @@ impl Driver {
         ensures answer { (side : Side) (log : Log) (taken : ℕ) → Follows side self.old log taken → AwaitsResponse side log id → IfOk result (λ walk. walk ≡ response_walk_of (contents log id) (end_of (events_of log) id)) }
         ensures state { OnOk result (self.new.state ≡ self.old.state) }
         ensures queue { OnOk result (self.new.queue ≡ self.old.queue) }
+        ensures settings { OnOk result (self.new.settings ≡ self.old.settings) }
     {
         self.read_response(id)
     }
@@ -284,8 +294,8 @@ impl Driver {
         }
     }
 
-    /// The peer's SETTINGS, once; later, or without them, the result or Pending.
-    pub fn accept_settings(&mut self) -> Result<Poll<Result<Settings, DriverError>>, OutOfMemory>
+    /// Gives the SETTINGS that are due.
+    fn give_settings(&mut self) -> Result<Poll<Result<Settings, DriverError>>, OutOfMemory>
         ensures answer { IfOk result (λ p. p ≡ settings_or (due_settings self.old) (result_of self.old.state.is_open self.old.state.progress.ending)) }
         ensures value { OnOk result (self.new ≡ record self.old { has_given_settings = is_some (due_settings self.old) || self.old.has_given_settings }) }
         ensures log { (side : Side) (log : Log) (taken : ℕ) → Follows side self.old log taken → OnOk result (Follows side self.new log taken) }
@@ -293,6 +303,17 @@ impl Driver {
         let due = self.due_settings();
         self.note_settings_given(due.is_some());
         self.poll_settings(due)
+    }
+
+    /// The peer's SETTINGS, once; later, or without them, the result or Pending.
+    pub fn accept_settings(&mut self) -> Result<Poll<Result<Settings, DriverError>>, OutOfMemory>
+        ensures answer { IfOk result (λ p. p ≡ settings_or (due_settings self.old) (result_of self.old.state.is_open self.old.state.progress.ending)) }
+        ensures given { (side : Side) (log : Log) (taken : ℕ) → Follows side self.old log taken
+            → IfOk result (λ p. p ≡ settings_or (unless_given self.old.has_given_settings (peer_settings side log)) (result_of self.old.state.is_open self.old.state.progress.ending)) }
+        ensures value { OnOk result (self.new ≡ record self.old { has_given_settings = is_some (due_settings self.old) || self.old.has_given_settings }) }
+        ensures log { (side : Side) (log : Log) (taken : ℕ) → Follows side self.old log taken → OnOk result (Follows side self.new log taken) }
+    {
+        self.give_settings()
     }
 
     fn queued_request(&self) -> Option<(StreamId, &SessionRequest, usize)>

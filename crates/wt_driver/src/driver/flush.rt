@@ -205,6 +205,7 @@ impl Driver {
             → OnOk result (Flushes side log stage untaken (actions_after (transport_view side log) (control_sent side log) self.old.state.session self.old.state.progress) self.new.inbox self.new.state.control_sent) }
         ensures rest { OnOk result (self.new.state ≡ record self.old.state { control_sent = self.new.state.control_sent; is_open = self.new.state.is_open }) }
         ensures queue { OnOk result (self.new.queue ≡ self.old.queue) }
+        ensures settings { OnOk result (self.new.settings ≡ self.old.settings) }
         ensures open { OnOk result (self.new.state.is_open ≡ self.new.inbox.transport.is_open) }
     {
         flush(

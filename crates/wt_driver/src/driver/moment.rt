@@ -2,6 +2,8 @@
 ghost use Rattle.std.specs.Prelude.{◌≡◌, ◌↔◌, None, IsTrue, ◌==◌, ◌&&◌, List, ℕ, Some, IfOk, OnOk, drop, false, true, not};
 ghost use Rattle.wt_driver.specs.DriverValue.{with_state};
 ghost use Rattle.wt_driver.specs.Moving.{HasDatagram, MayCheck, MayScan, Moves, WalkFrom, front_of};
+ghost use Rattle.std.specs.Option.{option_or};
+ghost use Rattle.wt_driver.specs.PeerSettings.{settings_checked, settings_noted, settings_read, settings_scanned};
 ghost use Rattle.wt_driver.specs.Scanning.{AllAwait};
 ghost use Rattle.wt_driver.specs.Stages.{bi_stages, check_stages, control_stages, datagram_checked, scanned_stages, session_stage, session_stages, uni_stages, unless_ended_stage};
 ghost use Rattle.wt_driver.specs.Tie.{Follows, TakenIn};
@@ -51,7 +53,7 @@ impl Driver {
     fn scan_unis(&mut self) -> Result<(), OutOfMemory>
         ensures log { (side : Side) (log : Log) (stage : ℕ → Stage) (untaken : List Action) → Refines side self.old.inbox log stage untaken → is_open log ≡ true
             → AllAwait halves.Uni stage self.old.state.unis → AreDistinct self.old.state.unis → IsBounded 4 0 self.old.state.unis
-            → OnOk result (Moves side log untaken self.old self.new (uni_stages (transport_view side log) self.old.state stage) (scan_uni_slots (transport_view side log) self.old.state)) }
+            → OnOk result (Moves side log untaken self.old self.new (uni_stages (transport_view side log) self.old.state stage) (scan_uni_slots (transport_view side log) self.old.state) self.old.settings) }
     {
         scan(
             &mut self.inbox,
@@ -65,7 +67,7 @@ impl Driver {
     fn scan_bis(&mut self) -> Result<(), OutOfMemory>
         ensures log { (side : Side) (log : Log) (stage : ℕ → Stage) (untaken : List Action) → Refines side self.old.inbox log stage untaken → is_open log ≡ true
             → AllAwait halves.Bi stage self.old.state.bis → AreDistinct self.old.state.bis → IsBounded 1 0 self.old.state.bis
-            → OnOk result (Moves side log untaken self.old self.new (bi_stages (transport_view side log) self.old.state stage) (scan_bi_slots (transport_view side log) self.old.state)) }
+            → OnOk result (Moves side log untaken self.old self.new (bi_stages (transport_view side log) self.old.state stage) (scan_bi_slots (transport_view side log) self.old.state) self.old.settings) }
     {
         scan(
             &mut self.inbox,
@@ -123,7 +125,7 @@ impl Driver {
     fn end_session(&mut self, id: StreamId) -> Result<(), OutOfMemory>
         ensures log { (side : Side) (log : Log) (stage : ℕ → Stage) (untaken : List Action) (at : ℕ) → Refines side self.old.inbox log stage untaken → session_offset (stage id) ≡ Some at
             → OnOk result (Moves side log untaken self.old self.new (with_stage stage id Anywhere)
-            (record self.old.state { progress = session_read (drop at (contents log id)) (end_of (events_of log) id) self.old.state.progress })) }
+            (record self.old.state { progress = session_read (drop at (contents log id)) (end_of (events_of log) id) self.old.state.progress }) self.old.settings) }
     {
         let (walk, by_capsule) = self.inbox.release_session(id)?;
         self.note_session(walk, by_capsule);
@@ -134,7 +136,7 @@ impl Driver {
         ensures answer { (side : Side) (log : Log) (stage : ℕ → Stage) (untaken : List Action) (at : ℕ) → Refines side self.old.inbox log stage untaken → session_offset (stage id) ≡ Some at
             → IfOk result (λ so. so ≡ is_over (session_walk_of (drop at (contents log id)) (end_of (events_of log) id))) }
         ensures log { (side : Side) (log : Log) (stage : ℕ → Stage) (untaken : List Action) (at : ℕ) → Refines side self.old.inbox log stage untaken → session_offset (stage id) ≡ Some at
-            → OnOk result (Moves side log untaken self.old self.new (with_stage stage id (SessionBody at)) self.old.state) }
+            → OnOk result (Moves side log untaken self.old self.new (with_stage stage id (SessionBody at)) self.old.state self.old.settings) }
     {
         self.inbox.has_session_end(id)
     }
@@ -142,7 +144,7 @@ impl Driver {
     fn read_session(&mut self, id: StreamId) -> Result<(), OutOfMemory>
         ensures log { (side : Side) (log : Log) (stage : ℕ → Stage) (untaken : List Action) (at : ℕ) → Refines side self.old.inbox log stage untaken → session_offset (stage id) ≡ Some at
             → OnOk result (Moves side log untaken self.old self.new (with_stage stage id (session_stage (is_over (session_walk_of (drop at (contents log id)) (end_of (events_of log) id))) at))
-            (record self.old.state { progress = session_read (drop at (contents log id)) (end_of (events_of log) id) self.old.state.progress })) }
+            (record self.old.state { progress = session_read (drop at (contents log id)) (end_of (events_of log) id) self.old.state.progress }) self.old.settings) }
     {
         let is_over = self.has_session_end(id)?;
         if is_over {
@@ -154,7 +156,7 @@ impl Driver {
     fn walk_session(&mut self, session: Option<(StreamId, usize)>) -> Result<(), OutOfMemory>
         ensures log { (side : Side) (log : Log) (stage : ℕ → Stage) (untaken : List Action) → Refines side self.old.inbox log stage untaken → WalkFrom session_offset stage session
             → OnOk result (Moves side log untaken self.old self.new (session_stages (transport_view side log) session stage)
-            (record self.old.state { progress = check_session (transport_view side log) session self.old.state.progress })) }
+            (record self.old.state { progress = check_session (transport_view side log) session self.old.state.progress }) self.old.settings) }
     {
         match session {
             None => Ok(()),
@@ -200,7 +202,7 @@ impl Driver {
     fn check_session(&mut self) -> Result<(), OutOfMemory>
         ensures log { (side : Side) (log : Log) (stage : ℕ → Stage) (untaken : List Action) → Refines side self.old.inbox log stage untaken → (self.old.state.progress.ending ≡ None → WalkFrom session_offset stage self.old.state.session)
             → OnOk result (Moves side log untaken self.old self.new (unless_ended_stage self.old.state.progress.ending (session_stages (transport_view side log) self.old.state.session stage) stage)
-            (record self.old.state { progress = unless_ended self.old.state.progress.ending (check_session (transport_view side log) self.old.state.session) self.old.state.progress })) }
+            (record self.old.state { progress = unless_ended self.old.state.progress.ending (check_session (transport_view side log) self.old.state.session) self.old.state.progress }) self.old.settings) }
     {
         let session = self.session();
         let goes_on = self.goes_on();
@@ -223,6 +225,7 @@ impl Driver {
         ensures inbox { self.new.inbox ≡ self.old.inbox }
         ensures state { self.new.state ≡ record self.old.state { progress = control_read walk self.old.state.progress } }
         ensures queue { self.new.queue ≡ self.old.queue }
+        ensures settings { self.new.settings ≡ option_or walk.settings self.old.settings }
     {
         if walk.settings.is_some() {
             self.settings = walk.settings;
@@ -233,7 +236,8 @@ impl Driver {
     fn read_control(&mut self, id: StreamId) -> Result<(), OutOfMemory>
         ensures log { (side : Side) (log : Log) (stage : ℕ → Stage) (untaken : List Action) (at : ℕ) → Refines side self.old.inbox log stage untaken → control_offset (stage id) ≡ Some at
             → OnOk result (Moves side log untaken self.old self.new (with_stage stage id (ControlBody at))
-            (record self.old.state { progress = control_read (control_walk_of (drop at (contents log id)) (end_of (events_of log) id)) self.old.state.progress })) }
+            (record self.old.state { progress = control_read (control_walk_of (drop at (contents log id)) (end_of (events_of log) id)) self.old.state.progress })
+            (option_or (control_walk_of (drop at (contents log id)) (end_of (events_of log) id)).settings self.old.settings)) }
     {
         match self.inbox.control_walk(id) {
             Ok(walk) => {
@@ -247,7 +251,8 @@ impl Driver {
     fn walk_control(&mut self, control: Option<(StreamId, usize)>) -> Result<(), OutOfMemory>
         ensures log { (side : Side) (log : Log) (stage : ℕ → Stage) (untaken : List Action) → Refines side self.old.inbox log stage untaken → WalkFrom control_offset stage control
             → OnOk result (Moves side log untaken self.old self.new (control_stages control stage)
-            (record self.old.state { progress = check_control (transport_view side log) control self.old.state.progress })) }
+            (record self.old.state { progress = check_control (transport_view side log) control self.old.state.progress })
+            (option_or (settings_read (transport_view side log) control) self.old.settings)) }
     {
         match control {
             None => Ok(()),
@@ -262,7 +267,8 @@ impl Driver {
     fn check_control(&mut self) -> Result<(), OutOfMemory>
         ensures log { (side : Side) (log : Log) (stage : ℕ → Stage) (untaken : List Action) → Refines side self.old.inbox log stage untaken → WalkFrom control_offset stage self.old.state.dispatched.control
             → OnOk result (Moves side log untaken self.old self.new (unless_ended_stage self.old.state.progress.ending (control_stages self.old.state.dispatched.control stage) stage)
-            (record self.old.state { progress = unless_ended self.old.state.progress.ending (check_control (transport_view side log) self.old.state.dispatched.control) self.old.state.progress })) }
+            (record self.old.state { progress = unless_ended self.old.state.progress.ending (check_control (transport_view side log) self.old.state.dispatched.control) self.old.state.progress })
+            (settings_noted (transport_view side log) self.old.state self.old.settings)) }
     {
         let control = self.control();
         let goes_on = self.goes_on();
@@ -314,7 +320,8 @@ impl Driver {
     fn run_checks(&mut self) -> Result<(), OutOfMemory>
         ensures log { (side : Side) (log : Log) (stage : ℕ → Stage) (untaken : List Action) → Refines side self.old.inbox log stage untaken → is_open log ≡ true → HasDatagram side log self.old
             → MayCheck (transport_view side log) self.old.state stage
-            → OnOk result (Moves side log untaken self.old self.new (check_stages (transport_view side log) self.old.state stage) (run_checks (transport_view side log) self.old.state)) }
+            → OnOk result (Moves side log untaken self.old self.new (check_stages (transport_view side log) self.old.state stage) (run_checks (transport_view side log) self.old.state)
+            (settings_checked (transport_view side log) self.old.state self.old.settings)) }
     {
         self.check_datagram()?;
         self.check_session()?;
@@ -335,7 +342,8 @@ impl Driver {
     fn scan(&mut self) -> Result<(), OutOfMemory>
         ensures log { (side : Side) (log : Log) (stage : ℕ → Stage) (untaken : List Action) → Refines side self.old.inbox log stage untaken → is_open log ≡ true → HasDatagram side log self.old
             → MayScan (transport_view side log) self.old.state stage
-            → OnOk result (Moves side log untaken self.old self.new (scanned_stages (transport_view side log) self.old.state stage) (scan_state (transport_view side log) self.old.state)) }
+            → OnOk result (Moves side log untaken self.old self.new (scanned_stages (transport_view side log) self.old.state stage) (scan_state (transport_view side log) self.old.state)
+            (settings_scanned (transport_view side log) self.old.state self.old.settings)) }
     {
         self.begin_scan();
         self.scan_unis()?;

@@ -1,6 +1,5 @@
-use Rattle.wt_driver.proofs.Answering.{given-follows}
-use Rattle.wt_inbox.proofs.Asked.{on-ok}
+use Rattle.wt_driver.proofs.Answering.{settings-given}
 use Rattle.wt_driver.proofs.driver.Driver.accept_settings.Goals as goal
 
-pub returns-clause-log : goal.returns-clause-log
-returns-clause-log c = λ side log taken f. on-ok c.poll_settings.result (given-follows side log taken c.args.self.now c.note_settings_given.new.self _ c.note_settings_given.ensures f)
+pub returns-clause-given : goal.returns-clause-given
+returns-clause-given c = λ side log taken f. settings-given side log taken c.args.self.now c.give_settings.result f c.give_settings.ensures.answer

@@ -1,7 +1,9 @@
 use Rattle.std.proofs.Common.{ℕ, sym, subst, ◌∙◌}
 use Rattle.std.specs.Prelude.{Option}
 use Rattle.std.proofs.lemmas.Bool.{true≢false}
-use Rattle.wt_driver.proofs.Moved.{ended-moves, open-moves}
+use Rattle.std.specs.Option.{option_or}
+use Rattle.wt_driver.proofs.Moved.{ended-moves, open-moves, unless-open, unless-over, with-settings}
+use Rattle.wt_driver.specs.PeerSettings.{settings_read}
 use Rattle.wt_driver.specs.Moving.{Moves, WalkFrom}
 use Rattle.wt_driver.specs.Stages.{control_stages}
 use Rattle.wt_inbox.specs.Stage.{control_offset}
@@ -14,13 +16,16 @@ returns-in_ok-walk_control c = record {
   log = λ side log stage untaken r w.
       let d = c.args.self.now in
       let m = c.in_ok-walk_control.ensures.log side log stage untaken r (subst (WalkFrom control_offset stage) (sym c.control-control.ensures) w) in
-      open-moves side log untaken d.state.progress.ending d c.walk_control.new.self stage (control_stages d.state.dispatched.control stage) (check_control (transport_view side log) d.state.dispatched.control) (c.goes_on-goes_on.ensures.0 c.if-goes_on.true)
-      (subst (λ (z : Option (ℕ × ℕ)). Moves side log untaken d c.walk_control.new.self (control_stages z stage) (record d.state { progress = check_control (transport_view side log) z d.state.progress })) c.control-control.ensures m);
+      let kept = option_or (settings_read (transport_view side log) d.state.dispatched.control) d.settings in
+      with-settings side log untaken d c.walk_control.new.self _ _ kept _ (sym (unless-open d.state.progress.ending (λ k. option_or (settings_read (transport_view side log) d.state.dispatched.control) k) d.settings (c.goes_on-goes_on.ensures.0 c.if-goes_on.true)))
+      (open-moves side log untaken d.state.progress.ending d c.walk_control.new.self stage (control_stages d.state.dispatched.control stage) (check_control (transport_view side log) d.state.dispatched.control) kept (c.goes_on-goes_on.ensures.0 c.if-goes_on.true)
+      (subst (λ (z : Option (ℕ × ℕ)). Moves side log untaken d c.walk_control.new.self (control_stages z stage) (record d.state { progress = check_control (transport_view side log) z d.state.progress }) (option_or (settings_read (transport_view side log) z) d.settings)) c.control-control.ensures m));
 }
 
 pub returns-else-goes_on : goal.returns-else-goes_on
 returns-else-goes_on c = record {
   log = λ side log stage untaken r w.
       let d = c.args.self.now in
-      ended-moves side log untaken d.state.progress.ending d stage (control_stages d.state.dispatched.control stage) (check_control (transport_view side log) d.state.dispatched.control) (λ none. true≢false (sym (c.goes_on-goes_on.ensures.1 none) ∙ c.if-goes_on.false)) r;
+      with-settings side log untaken d d _ _ d.settings _ (sym (unless-over d.state.progress.ending (λ k. option_or (settings_read (transport_view side log) d.state.dispatched.control) k) d.settings (λ none. true≢false (sym (c.goes_on-goes_on.ensures.1 none) ∙ c.if-goes_on.false))))
+      (ended-moves side log untaken d.state.progress.ending d stage (control_stages d.state.dispatched.control stage) (check_control (transport_view side log) d.state.dispatched.control) (λ none. true≢false (sym (c.goes_on-goes_on.ensures.1 none) ∙ c.if-goes_on.false)) r);
 }

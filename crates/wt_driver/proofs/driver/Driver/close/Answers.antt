@@ -1,11 +1,11 @@
 use Rattle.wt_driver.proofs.Acting.{closed-follows}
-use Rattle.wt_driver.proofs.Turning.{on-three}
+use Rattle.wt_driver.proofs.Turning.{on-four}
 use Rattle.wt_driver.specs.Tie.{untaken_since}
 use Rattle.wt_driver.proofs.driver.Driver.close.Goals as goal
 
 pub returns : goal.returns
 returns c = record {
   log = λ side log taken f.
-      on-three c.put_close.result (λ r s q. closed-follows side log taken c.args.self.now c.put_close.new.self c.args.code c.args.reason f r s q)
-      (c.put_close.ensures.log side log f.refines.stage (untaken_since taken log) f.refines.inbox) c.put_close.ensures.state c.put_close.ensures.queue;
+      on-four c.put_close.result (λ r s q k. closed-follows side log taken c.args.self.now c.put_close.new.self c.args.code c.args.reason f r s q k)
+      (c.put_close.ensures.log side log f.refines.stage (untaken_since taken log) f.refines.inbox) c.put_close.ensures.state c.put_close.ensures.queue c.put_close.ensures.settings;
 }

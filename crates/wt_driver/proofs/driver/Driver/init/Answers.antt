@@ -1,4 +1,4 @@
-use Rattle.std.proofs.Common.{false}
+use Rattle.std.proofs.Common.{false, refl}
 use Rattle.std.specs.Prelude.{None}
 use Rattle.wt_driver.proofs.Beginning.{begins}
 use Rattle.wt_driver.proofs.driver.Driver.init.Goals as goal
@@ -15,4 +15,4 @@ returns-clause-log c = begins c.args.side _ c.new.ensures.now
       session = None;
       is_open = (c.new.ensures.now i).transport.is_open;
     })
-    c.new-6.ensures.items
+    c.new-6.ensures.items refl

@@ -22,7 +22,7 @@ returns-in_ok-establish-in-SessionEstablished c = record {
   log = λ side log taken f.
       let e = c.in_ok-establish-in-SessionEstablished.ensures in
       of-shape side log taken c.args.self.now f.refines.stage c.establish.new.self c.args.call.now (records.SessionEstablished c.in-SessionEstablished.id c.in-SessionEstablished.at) c.in-SessionEstablished.is
-      (λ a. established-taken side log taken c.args.self.now f c.establish.new.self c.in-SessionEstablished.id c.in-SessionEstablished.at e.client e.server e.state e.queue a);
+      (λ a. established-taken side log taken c.args.self.now f c.establish.new.self c.in-SessionEstablished.id c.in-SessionEstablished.at e.client e.server e.state e.queue e.settings a);
 }
 
 pub returns-in-StreamAccepted : goal.returns-in-StreamAccepted
@@ -36,21 +36,21 @@ pub returns-in-StreamPassed : goal.returns-in-StreamPassed
 returns-in-StreamPassed c = record {
   log = λ side log taken f.
       of-shape side log taken c.args.self.now f.refines.stage c.pass.new.self c.args.call.now (records.StreamPassed c.in-StreamPassed.id) c.in-StreamPassed.is
-      (λ a. passed-taken side log taken c.args.self.now f c.pass.new.self c.in-StreamPassed.id (c.pass.ensures.log side log f.refines.stage (untaken_since taken log) f.refines.inbox) c.pass.ensures.state c.pass.ensures.queue a);
+      (λ a. passed-taken side log taken c.args.self.now f c.pass.new.self c.in-StreamPassed.id (c.pass.ensures.log side log f.refines.stage (untaken_since taken log) f.refines.inbox) c.pass.ensures.state c.pass.ensures.queue c.pass.ensures.settings a);
 }
 
 pub returns-in-BytesRead : goal.returns-in-BytesRead
 returns-in-BytesRead c = record {
   log = λ side log taken f.
       of-shape side log taken c.args.self.now f.refines.stage c.consume.new.self c.args.call.now (records.BytesRead c.in-BytesRead.id c.in-BytesRead.count) c.in-BytesRead.is
-      (λ a. read-taken side log taken c.args.self.now f c.consume.new.self c.in-BytesRead.id c.in-BytesRead.count (λ offset e le. c.consume.ensures.log side log f.refines.stage (untaken_since taken log) offset f.refines.inbox e le) c.consume.ensures.state c.consume.ensures.queue a);
+      (λ a. read-taken side log taken c.args.self.now f c.consume.new.self c.in-BytesRead.id c.in-BytesRead.count (λ offset e le. c.consume.ensures.log side log f.refines.stage (untaken_since taken log) offset f.refines.inbox e le) c.consume.ensures.state c.consume.ensures.queue c.consume.ensures.settings a);
 }
 
 pub returns-in-StreamGivenUp : goal.returns-in-StreamGivenUp
 returns-in-StreamGivenUp c = record {
   log = λ side log taken f.
       of-shape side log taken c.args.self.now f.refines.stage c.give_up.new.self c.args.call.now (records.StreamGivenUp c.in-StreamGivenUp.id) c.in-StreamGivenUp.is
-      (λ a. given-up-taken side log taken c.args.self.now f c.give_up.new.self c.in-StreamGivenUp.id (c.give_up.ensures.log side log f.refines.stage (untaken_since taken log) f.refines.inbox) c.give_up.ensures.state c.give_up.ensures.queue a);
+      (λ a. given-up-taken side log taken c.args.self.now f c.give_up.new.self c.in-StreamGivenUp.id (c.give_up.ensures.log side log f.refines.stage (untaken_since taken log) f.refines.inbox) c.give_up.ensures.state c.give_up.ensures.queue c.give_up.ensures.settings a);
 }
 
 pub returns-in-PrioritySet : goal.returns-in-PrioritySet
@@ -60,14 +60,14 @@ returns-in-PrioritySet c = record {
       of-shape side log taken c.args.self.now f.refines.stage c.set_priority.new.self c.args.call.now (records.PrioritySet c.in-PrioritySet.id c.in-PrioritySet.priority) c.in-PrioritySet.is
       (λ a. told-taken side log taken c.args.self.now f c.set_priority.new.self (PrioritySet c.in-PrioritySet.id c.in-PrioritySet.priority) refl refl refl
       (subst (λ (p : ℤ). Refines side c.set_priority.new.self.inbox (Called (PrioritySet c.in-PrioritySet.id p) ∷ log) f.refines.stage (untaken_since taken log)) (to_z-of_z fit)
-      (c.set_priority.ensures.log side log f.refines.stage (untaken_since taken log) f.refines.inbox a.half)) c.set_priority.ensures.state c.set_priority.ensures.queue a);
+      (c.set_priority.ensures.log side log f.refines.stage (untaken_since taken log) f.refines.inbox a.half)) c.set_priority.ensures.state c.set_priority.ensures.queue c.set_priority.ensures.settings a);
 }
 
 pub returns-in_ok-reset_unsent-in-ResetUnsent : goal.returns-in_ok-reset_unsent-in-ResetUnsent
 returns-in_ok-reset_unsent-in-ResetUnsent c = record {
   log = λ side log taken f.
       of-shape side log taken c.args.self.now f.refines.stage c.reset_unsent.new.self c.args.call.now (records.ResetUnsent c.in-ResetUnsent.id c.in-ResetUnsent.code) c.in-ResetUnsent.is
-      (λ a. told-taken side log taken c.args.self.now f c.reset_unsent.new.self (ResetUnsent c.in-ResetUnsent.id c.in-ResetUnsent.code) refl refl refl (c.in_ok-reset_unsent-in-ResetUnsent.ensures.log side log f.refines.stage (untaken_since taken log) f.refines.inbox a.half.0 a.half.1) c.in_ok-reset_unsent-in-ResetUnsent.ensures.state c.in_ok-reset_unsent-in-ResetUnsent.ensures.queue a);
+      (λ a. told-taken side log taken c.args.self.now f c.reset_unsent.new.self (ResetUnsent c.in-ResetUnsent.id c.in-ResetUnsent.code) refl refl refl (c.in_ok-reset_unsent-in-ResetUnsent.ensures.log side log f.refines.stage (untaken_since taken log) f.refines.inbox a.half.0 a.half.1) c.in_ok-reset_unsent-in-ResetUnsent.ensures.state c.in_ok-reset_unsent-in-ResetUnsent.ensures.queue c.in_ok-reset_unsent-in-ResetUnsent.ensures.settings a);
 }
 
 pub returns-in_ok-settle_datagram-in-DatagramReceived : goal.returns-in_ok-settle_datagram-in-DatagramReceived

@@ -1,4 +1,5 @@
-use Rattle.std.proofs.Common.{refl, ap}
+use Rattle.std.proofs.Common.{refl, ap, ◌∙◌}
+use Rattle.std.specs.Option.{option_or}
 use Rattle.wt_driver.proofs.Moved.{noted}
 use Rattle.wt_inbox.specs.Stage.{ControlBody, with_stage}
 use Rattle.wt_proto.specs.declared.control_walk.ControlWalk.{ControlWalk}
@@ -8,7 +9,8 @@ use Rattle.wt_driver.proofs.driver.Driver.read_control.Goals as goal
 pub returns-in-Ok : goal.returns-in-Ok
 returns-in-Ok c = rw (← c.self.view_is) (record {
   log = λ side log stage untaken at r e.
-      noted side log untaken _ c.note_control.new.self c.control_walk.new.self stage (with_stage stage c.args.id (ControlBody at)) _ _ r (c.in-Ok.ensures.log side log stage untaken r at e) refl
+      noted side log untaken _ c.note_control.new.self c.control_walk.new.self stage (with_stage stage c.args.id (ControlBody at)) _ _ _ r (c.in-Ok.ensures.log side log stage untaken r at e) refl
       c.note_control.ensures.inbox c.note_control.ensures.state c.note_control.ensures.queue
+      (c.note_control.ensures.settings ∙ ap (λ (w : ControlWalk). option_or w.settings c.self.inside.settings) (c.in-Ok.ensures.log_answer side log stage untaken r at e))
       (ap (λ (w : ControlWalk). control_read w c.self.inside.progress) (c.in-Ok.ensures.log_answer side log stage untaken r at e));
 })

@@ -1,5 +1,6 @@
 use Rattle.std.proofs.Common.{◌≡◌, ℕ, List, sym, ap, subst}
-use Rattle.wt_driver.proofs.Moved.{moves-on, on_ok, state-moves}
+use Rattle.wt_driver.proofs.Moved.{moves-on, on_ok, reads-on, state-moves}
+use Rattle.wt_driver.specs.PeerSettings.{settings_checked}
 use Rattle.wt_driver.specs.Moving.{HasDatagram, MayCheck, Moves, front_of}
 use Rattle.wt_driver.specs.Scanning.{AllAwait}
 use Rattle.wt_driver.specs.Stages.{bi_stages, check_stages, uni_stages}
@@ -30,22 +31,22 @@ returns c = record {
       (subst (λ (s : DriverState). AllAwait Uni stage s.unis) (sym m1.state_is) w.unis_await)
       (subst (λ (s : DriverState). AreDistinct s.unis) (sym m1.state_is) w.unis_distinct)
       (subst (λ (s : DriverState). IsBounded 4 0 s.unis) (sym m1.state_is) w.unis_bounded) in
-      let a2 : Moves side log untaken d0 d2 st2 s2 =
-      subst (λ (z : ℕ → Stage). Moves side log untaken d0 d2 z s2) (ap (λ (s : DriverState). uni_stages t s stage) m1.state_is)
-      (moves-on side log untaken d0 d1 d2 stage (uni_stages t d1.state stage) s1 (scan_uni_slots t) m1 m2) in
+      let a2 : Moves side log untaken d0 d2 st2 s2 d0.settings =
+      subst (λ (z : ℕ → Stage). Moves side log untaken d0 d2 z s2 d0.settings) (ap (λ (s : DriverState). uni_stages t s stage) m1.state_is)
+      (moves-on side log untaken d0 d1 d2 stage (uni_stages t d1.state stage) s1 (scan_uni_slots t) d0.settings m1 m2) in
       let m3 = c.in_ok-scan_bis.ensures.log side log st2 untaken a2.inbox o
       (subst (λ (s : DriverState). AllAwait Bi st2 s.bis) (sym a2.state_is) w.bis_await)
       (subst (λ (s : DriverState). AreDistinct s.bis) (sym a2.state_is) w.bis_distinct)
       (subst (λ (s : DriverState). IsBounded 1 0 s.bis) (sym a2.state_is) w.bis_bounded) in
-      let a3 : Moves side log untaken d0 d3 st3 s3 =
-      subst (λ (z : ℕ → Stage). Moves side log untaken d0 d3 z s3) (ap (λ (s : DriverState). bi_stages t s st2) a2.state_is)
-      (moves-on side log untaken d0 d2 d3 st2 (bi_stages t d2.state st2) s2 (scan_bi_slots t) a2 m3) in
+      let a3 : Moves side log untaken d0 d3 st3 s3 d0.settings =
+      subst (λ (z : ℕ → Stage). Moves side log untaken d0 d3 z s3 d0.settings) (ap (λ (s : DriverState). bi_stages t s st2) a2.state_is)
+      (moves-on side log untaken d0 d2 d3 st2 (bi_stages t d2.state st2) s2 (scan_bi_slots t) d0.settings a2 m3) in
       let due : HasDatagram side log d3 =
       subst (λ (q : List (List ℕ)). t.datagram d3.state.datagrams ≡ front_of q) (sym a3.queue)
       (subst (λ (s : DriverState). t.datagram s.datagrams ≡ front_of d0.queue) (sym a3.state_is) h) in
       on_ok c.run_checks.result
       (λ m4.
-      subst (λ (z : ℕ → Stage). Moves side log untaken d0 d4 z (run_checks t s3)) (ap (λ (s : DriverState). check_stages t s st3) a3.state_is)
-      (moves-on side log untaken d0 d3 d4 st3 (check_stages t d3.state st3) s3 (run_checks t) a3 m4))
+      subst (λ (z : ℕ → Stage). Moves side log untaken d0 d4 z (run_checks t s3) (settings_checked t s3 d0.settings)) (ap (λ (s : DriverState). check_stages t s st3) a3.state_is)
+      (reads-on side log untaken d0 d3 d4 st3 (check_stages t d3.state st3) s3 (run_checks t) d0.settings (settings_checked t) a3 m4))
       (c.run_checks.ensures.log side log st3 untaken a3.inbox o due (subst (λ (s : DriverState). MayCheck t s st3) (sym a3.state_is) w.checks));
 }

@@ -6,6 +6,6 @@ pub returns : goal.returns
 returns c = record {
   log = λ side log taken f may.
       byte-follows side log taken c.args.self.now f c.args.id c.args.byte c.note_byte.new.self c.work.new.self c.work.result
-      (c.in_ok-note_byte.ensures.log side log f.refines.stage (untaken_since taken log) f.refines.inbox may) c.in_ok-note_byte.ensures.state c.in_ok-note_byte.ensures.queue
+      (c.in_ok-note_byte.ensures.log side log f.refines.stage (untaken_since taken log) f.refines.inbox may) c.in_ok-note_byte.ensures.state c.in_ok-note_byte.ensures.queue c.in_ok-note_byte.ensures.settings
       (λ m in_. c.work.ensures.log side log m taken in_) c.work.ensures.closed;
 }

@@ -17,7 +17,7 @@ returns-in_ok-flush c = record {
       let moved = c.in_ok-scan.ensures.log side (m ∷ log) in_.stage (untaken_since taken (m ∷ log)) in_.inbox o (scan-datagram side log m taken d in_ o) (scan-may side log m taken d in_ o) in
       work-follows side log m taken d in_ o c.scan.new.self moved c.flush.new.self
       (c.in_ok-flush.ensures.log side (m ∷ log) (scanned_stages (transport_view side (m ∷ log)) d.state in_.stage) (untaken_since taken (m ∷ log)) moved.inbox o (flush-control side log m taken d in_ o c.scan.new.self moved) (flush-may side log m taken d in_ o c.scan.new.self moved))
-      c.in_ok-flush.ensures.rest c.in_ok-flush.ensures.queue c.in_ok-flush.ensures.open;
+      c.in_ok-flush.ensures.rest c.in_ok-flush.ensures.queue c.in_ok-flush.ensures.settings c.in_ok-flush.ensures.open;
   closed = λ e. absurd (true≢false (sym c.if-is_open.true ∙ c.is_open.ensures.now ∙ ap (λ (v : DriverValue). v.state.is_open) c.self.view_is ∙ e));
 }
 

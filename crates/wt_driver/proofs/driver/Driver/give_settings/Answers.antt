@@ -1,0 +1,6 @@
+use Rattle.wt_driver.proofs.Answering.{given-follows}
+use Rattle.wt_inbox.proofs.Asked.{on-ok}
+use Rattle.wt_driver.proofs.driver.Driver.give_settings.Goals as goal
+
+pub returns-clause-log : goal.returns-clause-log
+returns-clause-log c = λ side log taken f. on-ok c.poll_settings.result (given-follows side log taken c.args.self.now c.note_settings_given.new.self _ c.note_settings_given.ensures f)

@@ -1,0 +1,120 @@
+//! The calls for a session: the request that is given, the stream that is opened for one, and the session
+//! that is registered.
+ghost use Rattle.std.specs.Prelude.{◌≡◌, IfOk, List, None, OnOk, true, ℕ};
+ghost use Rattle.wt_dispatch.specs.Requests.{first_request};
+ghost use Rattle.wt_driver.specs.Given.{ended_or_pending, given_by};
+ghost use Rattle.wt_driver.specs.Results.{result_of};
+ghost use Rattle.wt_driver.specs.Sessions.{first_given, may_register, opened_answer, queued, registered, registered_answer};
+ghost use Rattle.wt_driver.specs.Tie.{Follows};
+ghost use Rattle.wt_driver_spec.specs.Asking.{MayBeCalled};
+ghost use Rattle.wt_inbox.specs.Stage.{Refines, Stage};
+ghost use Rattle.wt_seam_spec.specs.Joined.{newest_first};
+ghost use Rattle.wt_seam_spec.specs.Outgoing.{opened_id, opening};
+ghost use Rattle.wt_seam_spec.specs.Streams.{local_bi};
+ghost use Rattle.wt_turn.specs.Log.{Log, SessionEstablished, is_open, with_actions};
+ghost use Rattle.wt_turn.specs.declared.action.Action.{Action};
+ghost use Rattle.wt_wire.specs.declared.side.Side.{Side};
+
+use super::Driver;
+use wt_error::driver_error::DriverError;
+use wt_turn::poll::Poll;
+use wt_turn::record::Record;
+use wt_wire::error::OutOfMemory;
+use wt_wire::header_list::HeaderList;
+use wt_wire::ids::StreamId;
+
+impl Driver {
+    // ---- a server's request
+
+    /// A copy of the queued request: its stream, its fields, and the offset behind it.
+    fn copied_request(&self) -> Result<Option<(StreamId, HeaderList, usize)>, OutOfMemory>
+        ensures { IfOk result (λ told. told ≡ first_request self.now.state.dispatched.requests) }
+    {
+        match self.dispatched.first_request() {
+            Some((id, request, at)) => {
+                let fields = request.headers().copy()?;
+                Ok(Some((id, fields, at)))
+            }
+            None => Ok(None),
+        }
+    }
+
+    /// Gives the queued request: its stream, its fields, and the offset behind it. It is queued no more.
+    /// Without one, the result of the connection or Pending.
+    pub fn accept_session(
+        &mut self,
+    ) -> Result<Poll<Result<(StreamId, HeaderList, usize), DriverError>>, OutOfMemory>
+        ensures given { IfOk result (λ p. given_by p ≡ first_request self.old.state.dispatched.requests) }
+        ensures nothing { IfOk result (λ p. given_by p ≡ None → p ≡ ended_or_pending (result_of self.old.state.is_open self.old.state.progress.ending)) }
+        ensures log { (side : Side) (log : Log) (taken : ℕ) → Follows side self.old log taken → OnOk result (Follows side self.new (first_given side log (queued side log)) taken) }
+    {
+        match self.copied_request()? {
+            Some(asked) => {
+                self.called(&Record::RequestDelivered(asked.0))?;
+                Ok(Poll::Ready(Ok(asked)))
+            }
+            None => self.nothing_left(),
+        }
+    }
+
+    // ---- a client's stream
+
+    fn open_bi(&mut self) -> Result<Option<StreamId>, OutOfMemory>
+        ensures id { (side : Side) (log : Log) (stage : ℕ → Stage) (untaken : List Action) → Refines side self.old.inbox log stage untaken → IfOk result (λ id. id ≡ opened_id side log (local_bi side)) }
+        ensures log { (side : Side) (log : Log) (stage : ℕ → Stage) (untaken : List Action) → Refines side self.old.inbox log stage untaken
+            → OnOk result (Refines side self.new.inbox (with_actions (opening side log (local_bi side)) log) stage (newest_first (opening side log (local_bi side)) untaken)) }
+        ensures state { OnOk result (self.new.state ≡ record self.old.state { is_open = self.new.inbox.transport.is_open }) }
+        ensures queue { OnOk result (self.new.queue ≡ self.old.queue) }
+        ensures settings { OnOk result (self.new.settings ≡ self.old.settings) }
+    {
+        self.inbox.open_bi()
+    }
+
+    /// Opens the stream for a session's request: its id; None exactly where the connection is open and no more
+    /// bidirectional streams may be opened; an error exactly where it isn't open. The moment of the call comes after it.
+    pub fn open_session(&mut self) -> Result<Result<Option<StreamId>, DriverError>, OutOfMemory>
+        ensures answer { (side : Side) (log : Log) (taken : ℕ) → Follows side self.old log taken → IfOk result (λ r. r ≡ opened_answer (is_open log) (opened_id side log (local_bi side))) }
+        ensures log { (side : Side) (log : Log) (taken : ℕ) → Follows side self.old log taken → OnOk result (Follows side self.new (with_actions (opening side log (local_bi side)) log) taken) }
+    {
+        let is_open = self.is_open();
+        let opened = self.open_bi()?;
+        if is_open {
+            Ok(Ok(opened))
+        } else {
+            Ok(Err(DriverError::NotConnected))
+        }
+    }
+
+    // ---- the session
+
+    /// Registers a session where none was registered.
+    fn register(&mut self, id: StreamId, at: usize) -> Result<(), OutOfMemory>
+        ensures log { (side : Side) (log : Log) (taken : ℕ) → Follows side self.old log taken → is_open log ≡ true → (may_register log ≡ true → MayBeCalled side log (SessionEstablished id at))
+            → OnOk result (Follows side self.new (registered side log id at) taken) }
+    {
+        match self.session() {
+            None => self.called(&Record::SessionEstablished(id, at)),
+            Some(_) => Ok(()),
+        }
+    }
+
+    /// Registers the session of this stream, whose part begins at this offset: the result of the connection
+    /// exactly where it isn't open. A further one changes nothing.
+    pub fn register_session(
+        &mut self,
+        id: StreamId,
+        at: usize,
+    ) -> Result<Result<(), DriverError>, OutOfMemory>
+        ensures answer { IfOk result (λ r. r ≡ registered_answer (result_of self.old.state.is_open self.old.state.progress.ending)) }
+        ensures log { (side : Side) (log : Log) (taken : ℕ) → Follows side self.old log taken → (may_register log ≡ true → MayBeCalled side log (SessionEstablished id at))
+            → OnOk result (Follows side self.new (registered side log id at) taken) }
+    {
+        match self.result()? {
+            Some(error) => Ok(Err(error)),
+            None => {
+                self.register(id, at)?;
+                Ok(Ok(()))
+            }
+        }
+    }
+}
