@@ -113,12 +113,12 @@ record EndFacts (side : Side) (log : Log) : Type 0 where
   pub closed : is_open log ≡ false → EndedBy side log
   pub no_fault : is_open log ≡ true → (stream_table side log).progress.ending ≡ None
 
-same-table : (side : Side) (a : Action) (log : Log) → stream_table side (Sent a ∷ log) ≡ stream_table side log
+pub same-table : (side : Side) (a : Action) (log : Log) → stream_table side (Sent a ∷ log) ≡ stream_table side log
 unfolding stream_table
 same-table side a log = refl
 
 -- a closed connection scans no more
-closed-table : (side : Side) (e : Entry) (log : Log) → is_open (e ∷ log) ≡ false → stream_table side (e ∷ log) ≡ stream_table side log
+pub closed-table : (side : Side) (e : Entry) (log : Log) → is_open (e ∷ log) ≡ false → stream_table side (e ∷ log) ≡ stream_table side log
 unfolding stream_table
 closed-table side e log c = at (is_moment e) (is_open (e ∷ log)) c
   where
@@ -126,7 +126,7 @@ closed-table side e log c = at (is_moment e) (is_open (e ∷ log)) c
     at true o c = rw c refl
     at false o c = refl
 
-late-table : (side : Side) (e : Event) (log : Log) → stream_table side (ReportedLate e ∷ log) ≡ stream_table side log
+pub late-table : (side : Side) (e : Event) (log : Log) → stream_table side (ReportedLate e ∷ log) ≡ stream_table side log
 unfolding stream_table
 late-table side e log = refl
 
@@ -207,7 +207,7 @@ unfolding stream_table
 first-end side = record { closed = λ c. absurd (cc); no_fault = λ o. refl }
 
 -- an open connection was neither lost nor closed
-none-lost : (log : Log) → is_open log ≡ true → (list_any loses (events_of log) ≡ false) × (list_any closes (actions_of log) ≡ false)
+pub none-lost : (log : Log) → is_open log ≡ true → (list_any loses (events_of log) ≡ false) × (list_any closes (actions_of log) ≡ false)
 none-lost [] o = (refl, refl)
 none-lost (Received id b ∷ log) o = none-lost log o
 none-lost (ReportedLate e ∷ log) o = none-lost log o

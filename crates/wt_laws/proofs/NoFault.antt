@@ -41,7 +41,7 @@ classified-none side log t k v e (AsBi a u f c) n = bi-none (dispatched (call_vi
 
 faultless-kept : (side : Side) (log : Log) → IsKept (causes side log) (λ t. t.progress.ending ≡ None → NoneFaulty t.classified)
 faultless-kept side log = record {
-  by_ending = λ t e c p q. absurd (cc);
+  by_ending = λ t e p q. absurd (cc);
   by_moment = λ t p. p;
   by_settings = λ t b c p. p;
   by_datagram = λ t c p. p;

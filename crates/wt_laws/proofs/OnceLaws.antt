@@ -163,7 +163,7 @@ classified-once side log offset c t k v e (AsBi a u f q) n p =
 
 once-kept : (side : Side) (log : Log) (offset : Verdict → Option ℕ) → ComesOnce offset → IsKept (causes side log) (λ t. t.progress.ending ≡ None → AtMostOne offset t.classified)
 once-kept side log offset c = record {
-  by_ending = λ t e x p q. absurd (cc);
+  by_ending = λ t e p q. absurd (cc);
   by_moment = λ t p. p;
   by_settings = λ t b x p. p;
   by_datagram = λ t x p. p;

@@ -24,7 +24,7 @@ use Rattle.wt_laws.specs.ReplyCauses.{ReplyCause}
 use Rattle.wt_laws.specs.Told.{datagram_told, read_piece}
 use Rattle.wt_spec.specs.Answers.{answer_to, is_client, log_after, run_from}
 use Rattle.wt_spec.specs.Connection.{is_for_session, is_opening, starts_opening, stream_header, well_formed}
-use Rattle.wt_spec.specs.Driver.{call_view, delivers, established, is_moment, pending_actions, releases, session_id, settings_came, stream_table}
+use Rattle.wt_spec.specs.Driver.{call_view, delivers, established, is_moment, pending_actions, releases, session_id, settings_came, settled_datagrams, stream_table}
 use Rattle.wt_spec.specs.Effect.{driver_error, head_left, is_covered, transport_error}
 use Rattle.wt_spec.specs.Halves.{body_offset, is_accepted}
 use Rattle.wt_spec.specs.Handshake.{Connecting, handshake_state, has_success, response_head}
@@ -184,11 +184,12 @@ abbrev pub received_by : List Exchange → List (List ℕ)
 received_by [] = []
 received_by (x ∷ before) = more_received (datagram_told x.answer.reply) (received_by before)
 
--- they are the payloads of the first so many datagrams that were dequeued and name the session
+-- they are the payloads of those that name the session among the datagrams that calls received or passed, which are the first so
+-- many that were dequeued
 abbrev pub DatagramsInOrder : Side → List Exchange → Log → Type 0
 DatagramsInOrder side before log =
     (s at : ℕ) → established (calls_of log) ≡ Some (s, at)
-    → (count : ℕ) × (count ≤ (stream_table side log).progress.datagrams) × (received_by before ≡ payloads_for s (take count (datagrams_of (events_of log))))
+    → (settled_datagrams (calls_of log) ≤ (stream_table side log).progress.datagrams) × (received_by before ≡ payloads_for s (take (settled_datagrams (calls_of log)) (datagrams_of (events_of log))))
 
 -- ---- the end
 
@@ -277,11 +278,12 @@ ReplyHasCause side log turn = (middle : Log) × IsDuring side log turn middle ×
 
 -- ---- this end's SETTINGS
 
--- While the connection is open and a unidirectional stream is allowed, this end's control stream was opened, and its
--- type and SETTINGS are out as far as credit goes; what is out is at every time a prefix of them.
+-- Once a unidirectional stream is allowed, this end's control stream was opened, and its type and SETTINGS are out as far as
+-- credit went while the connection was open, also at and behind the moment that ended it; what is out is at every time a prefix
+-- of them.
 pub record SettingsOut (side : Side) (log : Log) : Type 0 where
-  pub opened : is_open log ≡ true → nat_lt 0 (unis_allowed (events_of log)) ≡ true → local_count (actions_of log) (local_uni side) ≢ 0
-  pub out : is_open log ≡ true → nat_lt 0 (unis_allowed (events_of log)) ≡ true → sent_on (actions_of log) (local_uni side) ≡ take (credit (events_of log) (local_uni side)) local_control_bytes
+  pub opened : nat_lt 0 (unis_allowed (events_of log)) ≡ true → local_count (actions_of log) (local_uni side) ≢ 0
+  pub out : nat_lt 0 (unis_allowed (events_of log)) ≡ true → sent_on (actions_of log) (local_uni side) ≡ take (credit (events_of log) (local_uni side)) local_control_bytes
   pub prefix : (n : ℕ) × (sent_on (actions_of log) (local_uni side) ≡ take n local_control_bytes)
 
 -- ---- the session's own stream
