@@ -180,6 +180,10 @@ module _ (side : Side) (log : Log) (u : StreamTable) where
       let m = all-one-more (transport_view side log) (call_view log) (dispatched (call_view log) table.classified) table.progress table.progress.ending refl (λ z. n (z ∙ none-scanned)) in
       (m.piece, record { next = ap (slice_get (datagrams_of (events_of log))) (sym none-scanned) ∙ m.next; settled = m.settled ∙ none-scanned; counted = m.counted ∙ ap suc none-scanned }, m.ready)
 
+-- the table behind one more entry, which is a moment on an open connection or not
+abbrev pub after-entry : Side → Entry → Log → Bool → StreamTable
+after-entry side e log b = apply_if b (scan_order (transport_view side (e ∷ log)) (call_view (e ∷ log))) (stream_table side log)
+
 pub datagram-or-ends : (side : Side) (e : Entry) (log : Log) → DatagramOrEnds side e log
 unfolding stream_table
 datagram-or-ends side e log = record {
@@ -187,14 +191,11 @@ datagram-or-ends side e log = record {
   only = only-so (is_moment e && is_open (e ∷ log));
 }
   where
-    abbrev then_ : Bool → StreamTable
-    then_ b = apply_if b (scan_order (transport_view side (e ∷ log)) (call_view (e ∷ log))) (stream_table side log)
-
     well : (b : Bool) → b ≡ true → (piece : List ℕ) → is_ready side (e ∷ log) ≡ true → settled_datagrams (calls_of (e ∷ log)) ≡ (stream_table side log).progress.datagrams → slice_get (datagrams_of (events_of (e ∷ log))) (stream_table side log).progress.datagrams ≡ Some piece
-        → (then_ b).progress.ending ≡ None → TakesDatagram (e ∷ log) (stream_table side log) (then_ b) piece × (is_ok (datagram_of piece) ≡ true)
+        → (after-entry side e log b).progress.ending ≡ None → TakesDatagram (e ∷ log) (stream_table side log) (after-entry side e log b) piece × (is_ok (datagram_of piece) ≡ true)
     well true q piece r s d n = found-well side (e ∷ log) (stream_table side log) piece r s d n
     well false q piece r s d n = absurd (cc)
 
-    only-so : (b : Bool) → (then_ b).progress.datagrams ≢ (stream_table side log).progress.datagrams → (piece : List ℕ) × TakesDatagram (e ∷ log) (stream_table side log) (then_ b) piece × (is_ready side (e ∷ log) ≡ true)
+    only-so : (b : Bool) → (after-entry side e log b).progress.datagrams ≢ (stream_table side log).progress.datagrams → (piece : List ℕ) × TakesDatagram (e ∷ log) (stream_table side log) (after-entry side e log b) piece × (is_ready side (e ∷ log) ≡ true)
     only-so true n = found-only side (e ∷ log) (stream_table side log) n
     only-so false n = absurd (n refl)

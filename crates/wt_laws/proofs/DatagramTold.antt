@@ -1,5 +1,5 @@
 -- The datagram that a receive gives is the next of the session; and what came and was received stays so.
-use Rattle.std.specs.Prelude.{[], ◌*◌, ◌++◌, ◌<◌, ◌==◌, ◌∷◌, ◌≡◌, ◌≤◌, List, None, Option, Some, drop, false, if◌then◌else◌, slice_get, suc, take, true, zero, ℕ}
+use Rattle.std.specs.Prelude.{[], ◌*◌, ◌++◌, ◌==◌, ◌∷◌, ◌≡◌, ◌≤◌, List, Some, drop, slice_get, suc, take, true, zero, ℕ}
 use Rattle.std.proofs.Common.{◌∙◌, ap, arith, refl, subst, sym}
 use Rattle.std.proofs.lemmas.List.{append-nil, append_assoc}
 use Rattle.wt_seam_spec.specs.Reports.{datagrams_of}
@@ -12,7 +12,7 @@ use Rattle.wt_laws.proofs.DatagramLaws.{DatagramsSoFar, arrived-more, datagrams-
 use Rattle.wt_laws.proofs.During.{decided-during, why-reply}
 use Rattle.wt_laws.proofs.Reached.{keeps-decided, reached}
 use Rattle.wt_laws.proofs.Steps.{keeps-steps}
-use Rattle.wt_laws.specs.Datagrams.{DatagramGiven, DatagramTold, DatagramsStay, receives, received_places, with_place}
+use Rattle.wt_laws.specs.Datagrams.{DatagramTold, DatagramsStay, received_places}
 use Rattle.wt_laws.specs.Laws.{payload_for, payloads_for}
 use Rattle.wt_laws.specs.Reachable.{IsReachable}
 use Rattle.wt_laws.specs.Told.{Logged, NoRecord, NonePassed, OnePassed, OneRecord, Passed, Tells, ThenPolled, is_pass, is_quiet}

@@ -1,9 +1,9 @@
 -- The close with which the driver ends a connection is the last action of the turn's answer.
 use Rattle.std.specs.Prelude.{[], ◌&&◌, ◌++◌, ◌-◌, ◌∷◌, ◌≡◌, Bool, List, None, Option, Some, false, length, take, true, ℕ}
-use Rattle.std.proofs.Common.{◌∙◌, ap, refl, subst, sym}
+use Rattle.std.proofs.Common.{◌∙◌, ap, refl, sym}
 use Rattle.std.specs.List.{list_any}
 use Rattle.wt_seam_spec.specs.Joined.{join_one, joined, newest_first}
-use Rattle.wt_turn.specs.Log.{Called, Entry, Log, Received, Reported, ReportedLate, Sent, actions_of, closes, is_open, with_actions}
+use Rattle.wt_turn.specs.Log.{Called, Entry, Log, Received, Reported, Sent, actions_of, closes, is_open, with_actions}
 use Rattle.wt_turn.specs.declared.action.Action.{Action}
 use Rattle.wt_turn.specs.declared.turn.Turn.{Turn}
 use Rattle.wt_wire.specs.Codes.{code_of}
@@ -133,8 +133,7 @@ module _ (side : Side) (log : Log) (turn : Turn) (l : is_lawful side log turn �
   answer-ends : (x : Ending) → ending_of side log ≡ None → ending_of side (log_after side log turn) ≡ Some x → EndsWith (close_of x) (answer_to side log turn).actions
   answer-ends x n e =
       let s = since-start n in
-      let w = s.ended x e in
-      (
+      let w = s.ended x e in (
         joined w.0,
         ap (λ as_. joined (take (length as_ - length (actions_of log)) as_)) s.grown ∙ ap joined (take-front s.more (actions_of log) ∙ w.1) ∙ join-close x (joined w.0),
       )

@@ -7,7 +7,7 @@ use Rattle.std.proofs.lemmas.List.{append-nil, append_assoc}
 use Rattle.wt_proto.specs.Uni.{is_final}
 use Rattle.wt_proto.specs.declared.verdict.Verdict.{Verdict}
 use Rattle.wt_laws.proofs.CauseLaws.{none-front}
-use Rattle.wt_laws.proofs.Moments.{OfEach, with_progress}
+use Rattle.wt_laws.proofs.Moments.{OfEach}
 use Rattle.wt_laws.proofs.OrderLaws.{has-self}
 use Rattle.wt_laws.specs.Faults.{TakenLast}
 use Rattle.wt_spec.specs.Scan.{Scan, SlotRule, classify, dequeue, fault_ending, has, in_order, scan, unless_ended, visit, with_classified, with_dequeued}

@@ -14,16 +14,16 @@ use Rattle.wt_seam_spec.specs.Streams.{contents, peer_bi, peer_count, peer_uni}
 use Rattle.wt_turn.specs.Log.{Entry, Log, calls_of, events_of, is_open}
 use Rattle.wt_wire.specs.declared.error.ErrorCode.{ErrorCode}
 use Rattle.wt_wire.specs.declared.side.Side.{Side}
-use Rattle.wt_laws.proofs.DatagramOrEnds.{scan-datagrams}
+use Rattle.wt_laws.proofs.DatagramOrEnds.{after-entry, scan-datagrams}
 use Rattle.wt_laws.proofs.Endings.{EndsAt, checks-stay, ends-earlier, first-check, scan-ends, scan-grows, scan-stays, taken-last}
 use Rattle.wt_laws.proofs.Facts.{HasBi, HasUni, HasVerdict, facts-hold}
 use Rattle.wt_laws.proofs.Looks.{from-or}
 use Rattle.wt_laws.proofs.Moments.{IsKept, causes, kept, of-ids, small-bi, small-uni, with_progress}
 use Rattle.wt_laws.specs.Faults.{ClassifiedRightly, ComesOnce, ControlFault, ControlOnce, ControlStopped, DecoderEnded, DecoderOnce, EncoderEnded, EncoderOnce, EndingCause, EndsForCause, FaultyBi, FaultyUni, NoDatagram, OfBi, OfUni, SecondUni, SessionClosed, SessionFault, SettingsComeRead, SettingsRead, TakenLast, VerdictOver}
 use Rattle.wt_laws.specs.Reachable.{IsReachable, is_among}
-use Rattle.wt_spec.specs.Driver.{apply_if, call_view, established, is_moment, is_ready, settled_datagrams, stream_table, transport_view}
+use Rattle.wt_spec.specs.Driver.{call_view, established, is_moment, is_ready, settled_datagrams, stream_table, transport_view}
 use Rattle.wt_spec.specs.Scan.{Scan, bi_ids, bi_rule, check_control, check_datagram, check_qpack, check_session, checks, critical_if, dequeued_datagram, ended_by, fault_ending, in_order, parsed_datagram, scan_bis, scan_order, scan_unis, session_ends, uni_ids, uni_rule, with_fault, without_stops}
-use Rattle.wt_spec.specs.StreamTable.{ByFault, BySession, Classified, Consequence, Dispatched, Ending, Progress, StreamTable, TransportView, bi_consequence, control_offset, decoder_offset, dispatched, encoder_offset, first_at, only_once, or_later, paired, queued_behind, uni_consequence, verdict_of}
+use Rattle.wt_spec.specs.StreamTable.{ByFault, Classified, Dispatched, Ending, Progress, StreamTable, TransportView, bi_consequence, control_offset, decoder_offset, dispatched, encoder_offset, first_at, only_once, or_later, paired, queued_behind, uni_consequence, verdict_of}
 use Rattle.wt_wire.specs.declared.side.StreamEnd.TheVariants as ends
 use Rattle.wt_wire.specs.declared.error.ErrorCode.TheVariants as h3
 use Rattle.wt_proto.specs.declared.verdict.Verdict.TheVariants as verdicts
@@ -259,10 +259,7 @@ pub ends-for-cause : (side : Side) (e : Entry) (log : Log) → EndsForCause side
 unfolding stream_table
 ends-for-cause side e log x n q = at (is_moment e && is_open (e ∷ log)) q
   where
-    abbrev then_ : Bool → StreamTable
-    then_ b = apply_if b (scan_order (transport_view side (e ∷ log)) (call_view (e ∷ log))) (stream_table side log)
-
-    at : (b : Bool) → (then_ b).progress.ending ≡ Some x → EndingCause side (e ∷ log) (stream_table side log) (then_ b) x
+    at : (b : Bool) → (after-entry side e log b).progress.ending ≡ Some x → EndingCause side (e ∷ log) (stream_table side log) (after-entry side e log b) x
     at true q = moment-ends side (e ∷ log) (stream_table side log) n x q
     at false q = absurd (cc)
 
