@@ -81,7 +81,7 @@ unfolding before-close
 fault-closes side log = record {
   fault = λ code e. (before-close side log, ap (λ o. before-close side log ++ close_actions (session_id (established (calls_of log))) o) e);
   session = λ code reason b e. (
-    before-close side log ++ reset_if b (session_id (established (calls_of log))),
+    before-close side log,
     ap (λ o. before-close side log ++ close_actions (session_id (established (calls_of log))) o) e ∙ sym (append_assoc (before-close side log) (reset_if b (session_id (established (calls_of log)))) (actions.Close (code_of h3.NoError) [] ∷ [])),
   );
   none = none-closes side log;
@@ -177,7 +177,9 @@ flushed side log true f g h (Some x) e t = record {
 
     ending-shown : (side : Side) (log : Log) (x : Ending) → (stream_table side log).progress.ending ≡ Some x → list_any closes (pending_actions side log) ≡ true
     ending-shown side log (ByFault code) e = let w = (fault-closes side log).fault code e in rw w.1 (any-later w.0 (actions.Close (code_of code) [] ∷ []) refl)
-    ending-shown side log (BySession code reason b) e = let w = (fault-closes side log).session code reason b e in rw w.1 (any-later w.0 (actions.Close (code_of h3.NoError) [] ∷ []) refl)
+    ending-shown side log (BySession code reason b) e =
+        let w = (fault-closes side log).session code reason b e in
+        rw w.1 (any-later (w.0 ++ reset_if b (session_id (established (calls_of log)))) (actions.Close (code_of h3.NoError) [] ∷ []) refl)
 
 end-flush : (side : Side) (e : Entry) (log : Log) → (is_open (e ∷ log) ≡ false → EndedBy side (e ∷ log)) → (is_moment e ≡ true) → EndFacts side (log_and_flush side log e)
 unfolding flush

@@ -3,7 +3,7 @@ use Rattle.std.specs.Prelude.{[], ◌&&◌, ◌++◌, ◌-◌, ◌∷◌, ◌≡
 use Rattle.std.proofs.Common.{◌∙◌, ap, refl, sym}
 use Rattle.std.specs.List.{list_any}
 use Rattle.wt_seam_spec.specs.Joined.{join_one, joined, newest_first}
-use Rattle.wt_turn.specs.Log.{Called, Entry, Log, Received, Reported, Sent, actions_of, closes, is_open, with_actions}
+use Rattle.wt_turn.specs.Log.{Called, Entry, Log, Received, Reported, Sent, actions_of, calls_of, closes, is_open, with_actions}
 use Rattle.wt_turn.specs.declared.action.Action.{Action}
 use Rattle.wt_turn.specs.declared.turn.Turn.{Turn}
 use Rattle.wt_wire.specs.Codes.{code_of}
@@ -16,7 +16,7 @@ use Rattle.wt_laws.proofs.Steps.{Keeps, blind-actions}
 use Rattle.wt_laws.specs.Causes.{OwnCauses}
 use Rattle.wt_laws.specs.Ended.{EndingGoesOut, EndsWith, close_of, ending_of}
 use Rattle.wt_spec.specs.Answers.{answer_to, is_lawful, log_after}
-use Rattle.wt_spec.specs.Driver.{apply_if, flush, is_moment, log_and_flush, pending_actions}
+use Rattle.wt_spec.specs.Driver.{apply_if, established, flush, is_moment, log_and_flush, pending_actions, reset_if, session_id}
 use Rattle.wt_spec.specs.StreamTable.{ByFault, BySession, Ending, StreamTable}
 use Rattle.wt_turn.specs.declared.action.Action.TheVariants as actions
 use Rattle.wt_wire.specs.declared.error.ErrorCode.TheVariants as h3
@@ -45,7 +45,9 @@ record Since (side : Side) (start log : Log) : Type 0 where
 
 pending-close : (side : Side) (log : Log) (x : Ending) → ending_of side log ≡ Some x → EndsWith (close_of x) (pending_actions side log)
 pending-close side log (ByFault code) e = (fault-closes side log).fault code e
-pending-close side log (BySession code reason b) e = (fault-closes side log).session code reason b e
+pending-close side log (BySession code reason b) e =
+    let w = (fault-closes side log).session code reason b e in
+    (w.0 ++ reset_if b (session_id (established (calls_of log))), w.1)
 
 closes-so : (x : Ending) → closes (close_of x) ≡ true
 closes-so (ByFault code) = refl

@@ -24,7 +24,7 @@ use Rattle.wt_laws.specs.ReplyCauses.{ReplyCause}
 use Rattle.wt_laws.specs.Told.{datagram_told, read_piece}
 use Rattle.wt_spec.specs.Answers.{answer_to, is_client, log_after, run_from}
 use Rattle.wt_spec.specs.Connection.{is_for_session, is_opening, starts_opening, stream_header, well_formed}
-use Rattle.wt_spec.specs.Driver.{call_view, delivers, established, is_moment, pending_actions, releases, session_id, settings_came, settled_datagrams, stream_table}
+use Rattle.wt_spec.specs.Driver.{call_view, delivers, established, is_moment, pending_actions, releases, reset_if, session_id, settings_came, settled_datagrams, stream_table}
 use Rattle.wt_spec.specs.Effect.{driver_error, head_left, is_covered, transport_error}
 use Rattle.wt_spec.specs.Halves.{body_offset, is_accepted}
 use Rattle.wt_spec.specs.Handshake.{Connecting, handshake_state, has_success, response_head}
@@ -206,11 +206,12 @@ pub record OpenExactly (side : Side) (log : Log) : Type 0 where
   pub no_close : is_open log ≡ true → list_any closes (actions_of log) ≡ false
   pub no_fault : is_open log ≡ true → (stream_table side log).progress.ending ≡ None
 
--- a moment that finds a fault closes last, with its code; one at which the session ends, with H3_NO_ERROR; every other closes nothing
+-- A moment that finds a fault closes last, with its code; one at which the session ends, with H3_NO_ERROR, right behind a reset of
+-- the session's stream where a capsule closed it; every other closes nothing.
 pub record FaultCloses (side : Side) (log : Log) : Type 0 where
   pub fault : (code : ErrorCode) → (stream_table side log).progress.ending ≡ Some (ByFault code) → (before : List Action) × (pending_actions side log ≡ before ++ actions.Close (code_of code) [] ∷ [])
   pub session : (code : ℕ) (reason : List ℕ) (b : Bool) → (stream_table side log).progress.ending ≡ Some (BySession code reason b)
-      → (before : List Action) × (pending_actions side log ≡ before ++ actions.Close (code_of h3.NoError) [] ∷ [])
+      → (before : List Action) × (pending_actions side log ≡ before ++ reset_if b (session_id (established (calls_of log))) ++ actions.Close (code_of h3.NoError) [] ∷ [])
   pub none : (stream_table side log).progress.ending ≡ None → list_any closes (pending_actions side log) ≡ false
 
 -- after the end what it is told as never changes
