@@ -84,14 +84,14 @@ in-order-same : (fs : List (Progress → Progress)) → AllSame fs → (p : Prog
 in-order-same [] a p = refl
 in-order-same (f ∷ fs) a p = in-order-same fs a.1 (unless_ended p.ending f p) ∙ unless-same f a.0 p.ending p
 
-abbrev later_checks : TransportView → CallView → Dispatched → List (Progress → Progress)
+abbrev pub later_checks : TransportView → CallView → Dispatched → List (Progress → Progress)
 later_checks t calls d = check_session t calls.session ∷ critical_if t.control_stopped ∷ check_control t d.control ∷ check_qpack t d.encoder ∷ check_qpack t d.decoder ∷ []
 
 -- the first check, which comes where the next may be dequeued
-abbrev first_check : TransportView → CallView → Progress → Progress
+abbrev pub first_check : TransportView → CallView → Progress → Progress
 first_check t calls p = check_datagram (t.ready && calls.datagrams == p.datagrams) t p
 
-as-first : (t : TransportView) (calls : CallView) (d : Dispatched) (p : Progress) → (in_order (checks t calls d) p).datagrams ≡ (unless_ended p.ending (first_check t calls) p).datagrams
+pub as-first : (t : TransportView) (calls : CallView) (d : Dispatched) (p : Progress) → (in_order (checks t calls d) p).datagrams ≡ (unless_ended p.ending (first_check t calls) p).datagrams
 as-first t calls d p =
     in-order-same (later_checks t calls d) (check-session-same t calls.session, (critical-same t.control_stopped, (check-control-same t d.control, (check-qpack-same t d.encoder, (check-qpack-same t d.decoder, tt))))) (unless_ended p.ending (first_check t calls) p)
 
@@ -109,7 +109,7 @@ dequeued-well : (o : Option (List ℕ)) (p : Progress) (piece : List ℕ) → o 
 dequeued-well None p piece e n = absurd (cc)
 dequeued-well (Some x) p piece e n = let y : x ≡ piece = cc in ap (λ z. is_ok (datagram_of z)) (sym y) ∙ parsed-well (datagram_of x) _ n
 
-dequeued-one : (o : Option (List ℕ)) (p : Progress) (piece : List ℕ) → o ≡ Some piece → (dequeued_datagram o p).datagrams ≡ suc p.datagrams
+pub dequeued-one : (o : Option (List ℕ)) (p : Progress) (piece : List ℕ) → o ≡ Some piece → (dequeued_datagram o p).datagrams ≡ suc p.datagrams
 dequeued-one None p piece e = absurd (cc)
 dequeued-one (Some x) p piece e = parsed-same (datagram_of x) (record p { datagrams = suc p.datagrams })
 

@@ -97,10 +97,10 @@ module _ (side : Side) (log : Log) (before after : StreamTable) where
     bi-ends _ a t = λ x f. absurd (cc)
 
   -- what a scan ended at is such a stream
-  abbrev UniEnds : Ending → Type 0
+  abbrev pub UniEnds : Ending → Type 0
   UniEnds x = EndsAt (λ k. is_among (peer_uni side) (peer_count side (events_of log) (peer_uni side)) k ≡ true) (call_view log) (uni_rule (transport_view side log)) before.classified after x
 
-  abbrev BiEnds : Ending → Type 0
+  abbrev pub BiEnds : Ending → Type 0
   BiEnds x = EndsAt (λ k. is_among (peer_bi side) (peer_count side (events_of log) (peer_bi side)) k ≡ true) (call_view log) (bi_rule (transport_view side log)) before.classified after x
 
   uni-cause : (x : Ending) → UniEnds x → EndingCause side log before after x
@@ -210,27 +210,27 @@ module _ (side : Side) (log : Log) (before after : StreamTable) where
 
 module _ (side : Side) (log : Log) (before : StreamTable) (n : before.progress.ending ≡ None) where
   -- the table behind each part of the moment
-  abbrev unis : StreamTable
+  abbrev pub unis : StreamTable
   unis = scan_unis (transport_view side log) (call_view log) (without_stops before)
 
-  abbrev bis : StreamTable
+  abbrev pub bis : StreamTable
   bis = scan_bis (transport_view side log) (call_view log) unis
 
-  abbrev last : StreamTable
+  abbrev pub last : StreamTable
   last = scan_order (transport_view side log) (call_view log) before
 
-  bis-stay : (y : Ending) → unis.progress.ending ≡ Some y → bis ≡ unis
+  pub bis-stay : (y : Ending) → unis.progress.ending ≡ Some y → bis ≡ unis
   bis-stay y e = ap (λ (s : Scan). s.table) (scan-stays (is_ready side log) (call_view log) (bi_rule (transport_view side log)) (bi_ids (transport_view side log)) (record { occupied = 0; table = unis }) y e)
 
   last-stays : (y : Ending) → bis.progress.ending ≡ Some y → last ≡ bis
   last-stays y e = ap (with_progress bis) (checks-stay (checks (transport_view side log) (call_view log) (dispatched (call_view log) bis.classified)) bis.progress y e)
 
-  unis-end : (x : Ending) → unis.progress.ending ≡ Some x → UniEnds side log before unis x
+  pub unis-end : (x : Ending) → unis.progress.ending ≡ Some x → UniEnds side log before unis x
   unis-end x f =
       scan-ends (is_ready side log) (call_view log) (uni_rule (transport_view side log)) (λ k. is_among (peer_uni side) (peer_count side (events_of log) (peer_uni side)) k ≡ true) (uni_ids (transport_view side log)) (record { occupied = 0; table = without_stops before })
       (of-ids _ (peer_uni side) 0 _ (peer_count side (events_of log) (peer_uni side)) (small-uni side) (omega arith) (λ k a. a)) n x f
 
-  bis-end : unis.progress.ending ≡ None → (x : Ending) → bis.progress.ending ≡ Some x → BiEnds side log before bis x
+  pub bis-end : unis.progress.ending ≡ None → (x : Ending) → bis.progress.ending ≡ Some x → BiEnds side log before bis x
   bis-end u x f =
       ends-earlier before.classified unis.classified bis x
       (scan-grows (is_ready side log) (call_view log) (uni_rule (transport_view side log)) (uni_ids (transport_view side log)) (record { occupied = 0; table = without_stops before }))

@@ -43,5 +43,6 @@ pub mod FaultlessLaws
 pub mod NoFault
 pub mod OnceLaws
 pub mod DatagramOrEnds
+pub mod FirstFault
 pub mod EndingOut
 pub mod PendingOut

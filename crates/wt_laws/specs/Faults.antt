@@ -113,9 +113,15 @@ abbrev pub NoneFaulty : List Classified → Type 0
 NoneFaulty [] = Unit {0}
 NoneFaulty (c ∷ cs) = (is_fault c.verdict ≡ false) × NoneFaulty cs
 
--- while the driver ended nothing, no classified stream has a fault
-abbrev pub StreamsFaultless : Side → Log → Type 0
-StreamsFaultless side log = (stream_table side log).progress.ending ≡ None → NoneFaulty (stream_table side log).classified
+-- a stream with a fault is the last of the list
+abbrev pub FaultIsLast : List Classified → Type 0
+FaultIsLast [] = Unit {0}
+FaultIsLast (c ∷ cs) = (is_fault c.verdict ≡ true → cs ≡ []) × FaultIsLast cs
+
+-- while the driver ended nothing, no classified stream has a fault; and behind one that has a fault none is classified
+pub record StreamsFaultless (side : Side) (log : Log) : Type 0 where
+  pub none : (stream_table side log).progress.ending ≡ None → NoneFaulty (stream_table side log).classified
+  pub last : FaultIsLast (stream_table side log).classified
 
 -- behind a stream of this kind no other of it stands in the list
 abbrev pub AtMostOne : (Verdict → Option ℕ) → List Classified → Type 0

@@ -10,4 +10,5 @@ pub mod Laws
 pub mod TurnCauses
 pub mod GivenOnce
 pub mod Faults
+pub mod FirstFault
 pub mod Ended

@@ -5,6 +5,7 @@ use Rattle.wt_laws.proofs.DatagramTold.{datagram-told}
 use Rattle.wt_laws.proofs.EndingOut.{ending-goes-out}
 use Rattle.wt_laws.proofs.FaultLaws.{classified-rightly, ends-for-cause, settings-come-read}
 use Rattle.wt_laws.proofs.FaultlessLaws.{faultless-or-ends}
+use Rattle.wt_laws.proofs.FirstFault.{first-is-told}
 use Rattle.wt_laws.proofs.GivenOnce.{given_once_theorem}
 use Rattle.wt_laws.proofs.NoFault.{streams-faultless}
 use Rattle.wt_laws.proofs.OnceLaws.{once-each}
@@ -49,6 +50,7 @@ driver-is-read side log r = record {
   streams = streams-faultless side log;
   once = once-each side log;
   datagram = λ e earlier goes. datagram-or-ends side e earlier;
+  first = λ e earlier goes. first-is-told side e earlier;
   faultless = λ e earlier goes. faultless-or-ends side e earlier;
 }
 

@@ -15,6 +15,7 @@ use Rattle.wt_laws.specs.Datagrams.{DatagramTold}
 use Rattle.wt_laws.specs.Ended.{EndingGoesOut, PendingGoesOut}
 use Rattle.wt_laws.specs.Exactly.{AsksFirst, ConnectGoesOn, ConnectsAnswer, HeadsGoOut, MaySend, ReceivingCallsAnswer, RequestGoesOn, RequestsAnswer, ResponsesAnswer, SendingCallsAnswer, SessionCallsAnswer}
 use Rattle.wt_laws.specs.Faults.{ClassifiedRightly, DatagramOrEnds, EndsForCause, FaultlessOrEnds, OnceEach, SettingsComeRead, StreamsFaultless}
+use Rattle.wt_laws.specs.FirstFault.{FirstIsTold}
 use Rattle.wt_laws.specs.GivenOnce.{GivenOnce}
 use Rattle.wt_laws.specs.Laws.{ActionsHaveCauses, DatagramsInOrder, FaultCloses, GoesOnFrom, HeadersOut, NothingAfterEnd, OneSession, OpenExactly, ReadsFromStart, ReadsInOrder, ReplyHasCause, RequestTold, ResultStays, SendsAll, SendsEnd, SendsInOrder, SessionStreamOut, SessionTold, SessionsRightly, SettingsOut, StreamsAcceptedRightly, TakenGoesOut, WithinCredit}
 use Rattle.wt_laws.specs.Left.{PendingExactly, is_pending}
@@ -86,9 +87,10 @@ pub record DriverIsRead (side : Side) (log : Log) : Type 0 where
   pub classified : ClassifiedRightly side log  -- a classified stream was opened by the peer, and has its verdict over all bytes that came for it
   pub settings : AtEachEntry (SettingsComeRead side) log  -- SETTINGS came at an entry at which the walk over the first control stream had read them
   pub ending : AtEachEntry (EndsForCause side) log  -- the driver ended the connection at an entry that shows a fault in the stream or datagram that it takes, or behind those taken, or the end of the session
-  pub streams : StreamsFaultless side log  -- while it ended none, no classified stream has a fault
+  pub streams : StreamsFaultless side log  -- while it ended none, no classified stream has a fault; one that has a fault is classified last
   pub once : OnceEach side log  -- while it ended none, the control stream and the QPACK streams were classified once each
   pub datagram : AtEachEntry (DatagramOrEnds side) log  -- the datagram that a moment dequeues is the next that came, and has a quarter id, or the driver ends the connection then
+  pub first : AtEachEntry (FirstIsTold side) log  -- of several faults of one moment the first in the driver's order ends the connection
   pub faultless : AtEachEntry (FaultlessOrEnds side) log  -- a moment at which it doesn't end an open connection shows no fault behind the streams
 
 -- ---- what a call answers
