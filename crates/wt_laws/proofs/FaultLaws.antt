@@ -222,7 +222,7 @@ module _ (side : Side) (log : Log) (before : StreamTable) (n : before.progress.e
   pub bis-stay : (y : Ending) → unis.progress.ending ≡ Some y → bis ≡ unis
   bis-stay y e = ap (λ (s : Scan). s.table) (scan-stays (is_ready side log) (call_view log) (bi_rule (transport_view side log)) (bi_ids (transport_view side log)) (record { occupied = 0; table = unis }) y e)
 
-  last-stays : (y : Ending) → bis.progress.ending ≡ Some y → last ≡ bis
+  pub last-stays : (y : Ending) → bis.progress.ending ≡ Some y → last ≡ bis
   last-stays y e = ap (with_progress bis) (checks-stay (checks (transport_view side log) (call_view log) (dispatched (call_view log) bis.classified)) bis.progress y e)
 
   pub unis-end : (x : Ending) → unis.progress.ending ≡ Some x → UniEnds side log before unis x

@@ -16,7 +16,9 @@ use Rattle.wt_wire.specs.declared.error.ErrorCode.{ErrorCode}
 use Rattle.wt_wire.specs.declared.side.Side.{Side}
 use Rattle.wt_laws.proofs.DatagramOrEnds.{after-entry, as-first, dequeued-one, first_check, scan-datagrams}
 use Rattle.wt_laws.proofs.Endings.{checks-stay}
-use Rattle.wt_laws.proofs.FaultLaws.{bis-end, bis-stay, unis-end}
+use Rattle.wt_laws.proofs.FaultLaws.{bis-end, bis-stay, last-stays, unis-end}
+use Rattle.wt_laws.proofs.Moments.{kept-streams}
+use Rattle.wt_laws.proofs.NoFault.{Faultless, faultless, faultless-kept}
 use Rattle.wt_laws.specs.Faults.{AtMostOne, ComesOnce, ControlOnce, DecoderOnce, EncoderOnce, NoneFaulty, TakesDatagram, is_fault}
 use Rattle.wt_laws.specs.FirstFault.{ControlPasses, DatagramPasses, FirstIsTold, PassesUpToControl, SessionPasses, StreamsPass, TellsFirst}
 use Rattle.wt_spec.specs.Driver.{call_view, established, is_moment, settled_datagrams, stream_table, transport_view}
@@ -271,7 +273,22 @@ module _ (side : Side) (log : Log) (before after : StreamTable) where
 
 -- ---- the law
 
-module _ (side : Side) (log : Log) (before : StreamTable) (n : before.progress.ending ≡ None) where
+-- the last of two equal lists
+snoc-last : (xs ys : List Classified) (x y : Classified) → xs ++ x ∷ [] ≡ ys ++ y ∷ [] → x ≡ y
+snoc-last [] [] x y e = cc
+snoc-last [] (z ∷ ys) x y e = absurd (none-there ys (let f : [] ≡ ys ++ y ∷ [] = cc in f))
+  where
+    none-there : (zs : List Classified) → [] ≡ zs ++ y ∷ [] → ⊥
+    none-there [] f = absurd (cc)
+    none-there (w ∷ zs) f = absurd (cc)
+snoc-last (w ∷ xs) [] x y e = absurd (none-there xs (let f : xs ++ x ∷ [] ≡ [] = cc in f))
+  where
+    none-there : (zs : List Classified) → zs ++ x ∷ [] ≡ [] → ⊥
+    none-there [] f = absurd (cc)
+    none-there (v ∷ zs) f = absurd (cc)
+snoc-last (w ∷ xs) (z ∷ ys) x y e = let f : xs ++ x ∷ [] ≡ ys ++ y ∷ [] = cc in snoc-last xs ys x y f
+
+module _ (side : Side) (log : Log) (before : StreamTable) (n : before.progress.ending ≡ None) (g : Faultless before) where
   abbrev last : StreamTable
   last = scan_order (transport_view side log) (call_view log) before
 
@@ -284,8 +301,34 @@ module _ (side : Side) (log : Log) (before : StreamTable) (n : before.progress.e
   all-left : StreamsPass last.classified → Left side log before last (checks (transport_view side log) (call_view log) (dispatched (call_view log) last.classified)) start
   all-left c = record { is = refl; still = streams-go-on side log before n c }
 
+  -- a stream that was classified with a fault ended the connection
+  stream-told : (earlier : List Classified) (c : Classified) (code : ErrorCode) → last.classified ≡ earlier ++ c ∷ [] → c.verdict ≡ verdicts.Fault code → last.progress.ending ≡ Some (ByFault code)
+  stream-told earlier c code q f = at-unis (scanned side log before n).progress.ending refl
+    where
+      at-bis : (o : Option Ending) → start.ending ≡ o → (scanned side log before n).progress.ending ≡ None → last.progress.ending ≡ Some (ByFault code)
+      at-bis None e u = absurd (let y = last-faultless earlier c (subst NoneFaulty q ((kept-streams Faultless side log (faultless-kept side log) before g).0 e)) in let z = ap is_fault f in cc)
+      at-bis (Some y) e u =
+          let r = bis-end side log before n u y e in
+          let v = bi_verdict_of (contents log r.stream) (end_of (events_of log) r.stream) in
+          let x : Classified = record { id = r.stream; verdict = v; surplus = (bi_consequence (dispatched (call_view log) r.table.classified) r.stream v).surplus } in
+          let l = last-stays side log before n y e in
+          let same = snoc-last r.table.classified earlier x c (sym (ap (λ (t : StreamTable). t.classified) (l ∙ r.is)) ∙ q) in
+          ap (λ (t : StreamTable). t.progress.ending) l ∙ e ∙ sym r.fault ∙ ap (λ (z : Verdict). fault_ending (bi_consequence (dispatched (call_view log) r.table.classified) r.stream z).fault) (ap (λ (z : Classified). z.verdict) same ∙ f)
+
+      at-unis : (o : Option Ending) → (scanned side log before n).progress.ending ≡ o → last.progress.ending ≡ Some (ByFault code)
+      at-unis None e = at-bis start.ending refl e
+      at-unis (Some y) e =
+          let r = unis-end side log before n y e in
+          let v = uni_verdict_of (contents log r.stream) (end_of (events_of log) r.stream) in
+          let x : Classified = record { id = r.stream; verdict = v; surplus = (uni_consequence (dispatched (call_view log) r.table.classified) r.stream v).surplus } in
+          let b = bis-stay side log before n y e in
+          let l = last-stays side log before n y (ap (λ (t : StreamTable). t.progress.ending) b ∙ e) ∙ b in
+          let same = snoc-last r.table.classified earlier x c (sym (ap (λ (t : StreamTable). t.classified) (l ∙ r.is)) ∙ q) in
+          ap (λ (t : StreamTable). t.progress.ending) l ∙ e ∙ sym r.fault ∙ ap (λ (z : Verdict). fault_ending (uni_consequence (dispatched (call_view log) r.table.classified) r.stream z).fault) (ap (λ (z : Classified). z.verdict) same ∙ f)
+
   tells-first : TellsFirst side log before last
   tells-first = record {
+    stream = stream-told;
     datagram = λ piece code c t d. datagram-ends side log before last start none-scanned (all-left c) piece code t d;
     session_fault = λ x code c d e w. session-told side log before last start none-scanned (all-left c) x (walks.Fault code) (ByFault code) d e w refl;
     session_closed = λ x code reason c d e w. session-told side log before last start none-scanned (all-left c) x (walks.Closed code reason) _ d e w refl;
@@ -300,5 +343,5 @@ unfolding stream_table
 first-is-told side e log m o n = at (is_moment e && is_open (e ∷ log)) (and_from (is_moment e) (is_open (e ∷ log)) m o)
   where
     at : (b : Bool) → b ≡ true → TellsFirst side (e ∷ log) (stream_table side log) (after-entry side e log b)
-    at true q = tells-first side (e ∷ log) (stream_table side log) n
+    at true q = tells-first side (e ∷ log) (stream_table side log) n (faultless side log)
     at false q = absurd (cc)

@@ -202,16 +202,23 @@ pub small-bi : (side : Side) → nat_lt (peer_bi side) 4 ≡ true
 small-bi Client = refl
 small-bi Server = refl
 
-pub kept-moment : (P : StreamTable → Type 0) (side : Side) (log : Log) → IsKept (causes side log) P → (t : StreamTable) → P (without_stops t) → P (scan_order (transport_view side log) (call_view log) t)
-kept-moment P side log i t p =
+-- behind the scans, before the checks
+pub kept-streams : (P : StreamTable → Type 0) (side : Side) (log : Log) → IsKept (causes side log) P → (t : StreamTable) → P (without_stops t)
+    → P (scan_bis (transport_view side log) (call_view log) (scan_unis (transport_view side log) (call_view log) (without_stops t)))
+kept-streams P side log i t p =
     let v = transport_view side log in
     let calls = call_view log in
     let unis = kept-scan P i calls (uni_rule v) v.ready (uni_ids v) (record { occupied = 0; table = without_stops t })
     (of-ids (CausedBy (causes side log) calls (uni_rule v)) (peer_uni side) 0 v.unis v.unis (small-uni side) (omega arith) (λ k o f u. AsUni o refl f refl)) p in
-    let bis = kept-scan P i calls (bi_rule v) v.ready (bi_ids v) (record { occupied = 0; table = scan_unis v calls (without_stops t) })
-    (of-ids (CausedBy (causes side log) calls (bi_rule v)) (peer_bi side) 0 v.bis v.bis (small-bi side) (omega arith) (λ k o f u. AsBi o refl f refl)) unis in
+    kept-scan P i calls (bi_rule v) v.ready (bi_ids v) (record { occupied = 0; table = scan_unis v calls (without_stops t) })
+    (of-ids (CausedBy (causes side log) calls (bi_rule v)) (peer_bi side) 0 v.bis v.bis (small-bi side) (omega arith) (λ k o f u. AsBi o refl f refl)) unis
+
+pub kept-moment : (P : StreamTable → Type 0) (side : Side) (log : Log) → IsKept (causes side log) P → (t : StreamTable) → P (without_stops t) → P (scan_order (transport_view side log) (call_view log) t)
+kept-moment P side log i t p =
+    let v = transport_view side log in
+    let calls = call_view log in
     let table = scan_bis v calls (scan_unis v calls (without_stops t)) in
-    kept-checks P i table v calls (dispatched calls table.classified) (check-causes side log table.classified) table.progress bis
+    kept-checks P i table v calls (dispatched calls table.classified) (check-causes side log table.classified) table.progress (kept-streams P side log i t p)
 
 kept-if : (P : StreamTable → Type 0) (f : StreamTable → StreamTable) → KeepsTable P f → (b : Bool) → KeepsTable P (apply_if b f)
 kept-if P f k true t p = k t p

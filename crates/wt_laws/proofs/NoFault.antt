@@ -44,10 +44,10 @@ fault-last [] x n = (λ f. refl, tt)
 fault-last (c ∷ cs) x n = (λ f. absurd (let y = n.0 in cc), fault-last cs x n.1)
 
 -- none has a fault while nothing is ended, and one that has is the last
-abbrev Faultless : StreamTable → Type 0
+abbrev pub Faultless : StreamTable → Type 0
 Faultless t = (t.progress.ending ≡ None → NoneFaulty t.classified) × FaultIsLast t.classified
 
-faultless-kept : (side : Side) (log : Log) → IsKept (causes side log) Faultless
+pub faultless-kept : (side : Side) (log : Log) → IsKept (causes side log) Faultless
 faultless-kept side log = record {
   by_ending = λ t e p. (λ q. absurd (cc), p.1);
   by_moment = λ t p. p;
@@ -60,7 +60,7 @@ faultless-kept side log = record {
   );
 }
 
-faultless : (side : Side) (log : Log) → Faultless (stream_table side log)
+pub faultless : (side : Side) (log : Log) → Faultless (stream_table side log)
 unfolding stream_table
 faultless side [] = (λ n. tt, tt)
 faultless side (e ∷ log) = kept Faultless side e log (faultless-kept side (e ∷ log)) (faultless side log)

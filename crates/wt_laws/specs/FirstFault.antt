@@ -1,6 +1,6 @@
 -- Which of several faults of one moment ends the connection: the first in the order in which the driver looks (the order is this
 -- repository's rule; RFC 9114, section 8, leaves it open).
-use Rattle.std.specs.Prelude.{◌∷◌, ◌≡◌, Err, List, None, Option, Some, drop, false, is_ok, is_some, true, ℕ}
+use Rattle.std.specs.Prelude.{[], ◌++◌, ◌∷◌, ◌≡◌, Err, List, None, Option, Some, drop, false, is_ok, is_some, true, ℕ}
 use Rattle.wt_message.specs.Datagram.{datagram_of}
 use Rattle.wt_proto.specs.ControlWalk.{control_walk_of}
 use Rattle.wt_proto.specs.SessionWalk.{is_over, session_walk_of}
@@ -15,6 +15,7 @@ use Rattle.wt_spec.specs.Driver.{established, is_moment, stream_table}
 use Rattle.wt_spec.specs.StreamTable.{ByFault, BySession, Classified, StreamTable, control_offset, decoder_offset, encoder_offset, first_at}
 use Rattle.wt_wire.specs.declared.side.StreamEnd.TheVariants as ends
 use Rattle.wt_wire.specs.declared.error.ErrorCode.TheVariants as h3
+use Rattle.wt_proto.specs.declared.verdict.Verdict.TheVariants as verdicts
 use Rattle.wt_proto.specs.declared.session_walk.SessionWalk.TheVariants as walks
 
 -- ---- what passes
@@ -45,10 +46,11 @@ pub record PassesUpToControl (side : Side) (log : Log) (before after : StreamTab
 
 -- ---- which is told
 
--- Where what comes before it in this order passes, each of these ends the connection: the datagram that the moment takes, where it is
--- none; the session's fault or its end; that the peer stopped this end's control stream; the fault of its own; the end of a
--- QPACK stream. (Of streams, that the one at fault is classified last: `TakenLast`.)
+-- Where what comes before it in this order passes, each of these ends the connection: the fault of a stream, which is classified last
+-- (`FaultIsLast`); the datagram that the moment takes, where it is none; the session's fault or its end; that the peer stopped this
+-- end's control stream; the fault of its own; the end of a QPACK stream.
 pub record TellsFirst (side : Side) (log : Log) (before after : StreamTable) : Type 0 where
+  pub stream : (earlier : List Classified) (c : Classified) (code : ErrorCode) → after.classified ≡ earlier ++ c ∷ [] → c.verdict ≡ verdicts.Fault code → after.progress.ending ≡ Some (ByFault code)
   pub datagram : (piece : List ℕ) (code : ErrorCode) → StreamsPass after.classified → TakesDatagram log before after piece → datagram_of piece ≡ Err code → after.progress.ending ≡ Some (ByFault code)
   pub session_fault : (s : ℕ × ℕ) (code : ErrorCode) → StreamsPass after.classified → DatagramPasses log before after → established (calls_of log) ≡ Some s → session_walk_of (drop s.1 (contents log s.0)) (end_of (events_of log) s.0) ≡ walks.Fault code
       → after.progress.ending ≡ Some (ByFault code)
