@@ -19,6 +19,7 @@ use Rattle.wt_laws.proofs.Endings.{checks-stay}
 use Rattle.wt_laws.proofs.FaultLaws.{bis-end, bis-stay, last-stays, unis-end}
 use Rattle.wt_laws.proofs.Moments.{kept-streams}
 use Rattle.wt_laws.proofs.NoFault.{Faultless, faultless, faultless-kept}
+use Rattle.wt_laws.proofs.OnceLaws.{bi-not-once, no-offset, once-each, once-kept}
 use Rattle.wt_laws.specs.Faults.{AtMostOne, ComesOnce, ControlOnce, DecoderOnce, EncoderOnce, NoneFaulty, TakesDatagram, is_fault}
 use Rattle.wt_laws.specs.FirstFault.{ControlPasses, DatagramPasses, FirstIsTold, PassesUpToControl, SessionPasses, StreamsPass, TellsFirst}
 use Rattle.wt_spec.specs.Driver.{call_view, established, is_moment, settled_datagrams, stream_table, transport_view}
@@ -288,7 +289,34 @@ snoc-last (w ∷ xs) [] x y e = absurd (none-there xs (let f : xs ++ x ∷ [] �
     none-there (v ∷ zs) f = absurd (cc)
 snoc-last (w ∷ xs) (z ∷ ys) x y e = let f : xs ++ x ∷ [] ≡ ys ++ y ∷ [] = cc in snoc-last xs ys x y f
 
-module _ (side : Side) (log : Log) (before : StreamTable) (n : before.progress.ending ≡ None) (g : Faultless before) where
+-- and what stands before it
+snoc-front : (xs ys : List Classified) (x y : Classified) → xs ++ x ∷ [] ≡ ys ++ y ∷ [] → xs ≡ ys
+snoc-front [] [] x y e = refl
+snoc-front [] (z ∷ ys) x y e = absurd (none-there ys (let f : [] ≡ ys ++ y ∷ [] = cc in f))
+  where
+    none-there : (zs : List Classified) → [] ≡ zs ++ y ∷ [] → ⊥
+    none-there [] f = absurd (cc)
+    none-there (w ∷ zs) f = absurd (cc)
+snoc-front (w ∷ xs) [] x y e = absurd (none-there xs (let f : xs ++ x ∷ [] ≡ [] = cc in f))
+  where
+    none-there : (zs : List Classified) → zs ++ x ∷ [] ≡ [] → ⊥
+    none-there [] f = absurd (cc)
+    none-there (v ∷ zs) f = absurd (cc)
+snoc-front (w ∷ xs) (z ∷ ys) x y e =
+    let f : xs ++ x ∷ [] ≡ ys ++ y ∷ [] = cc in
+    let i : w ≡ z = cc in
+    ap (λ c. c ∷ xs) i ∙ ap (λ zs. z ∷ zs) (snoc-front xs ys x y f)
+
+-- a second of a kind that comes once
+uni-second : (offset : Verdict → Option ℕ) → ComesOnce offset → (calls : CallView) (cs : List Classified) (first : ℕ × ℕ) (k : ℕ) (v : Verdict) → is_some (offset v) ≡ true → first_at offset cs ≡ Some first → (uni_consequence (dispatched calls cs) k v).fault ≡ Some h3.StreamCreation
+uni-second _ ControlOnce calls cs first k (verdicts.Control m) s e = ap (λ (o : Option (ℕ × ℕ)). (only_once o).fault) e
+uni-second _ ControlOnce calls cs first k _ s e = absurd (cc)
+uni-second _ EncoderOnce calls cs first k (verdicts.Encoder m) s e = ap (λ (o : Option (ℕ × ℕ)). (only_once o).fault) e
+uni-second _ EncoderOnce calls cs first k _ s e = absurd (cc)
+uni-second _ DecoderOnce calls cs first k (verdicts.Decoder m) s e = ap (λ (o : Option (ℕ × ℕ)). (only_once o).fault) e
+uni-second _ DecoderOnce calls cs first k _ s e = absurd (cc)
+
+module _ (side : Side) (log : Log) (before : StreamTable) (n : before.progress.ending ≡ None) (g : Faultless before) (o : (offset : Verdict → Option ℕ) → ComesOnce offset → AtMostOne offset before.classified) where
   abbrev last : StreamTable
   last = scan_order (transport_view side log) (call_view log) before
 
@@ -326,9 +354,38 @@ module _ (side : Side) (log : Log) (before : StreamTable) (n : before.progress.e
           let same = snoc-last r.table.classified earlier x c (sym (ap (λ (t : StreamTable). t.classified) (l ∙ r.is)) ∙ q) in
           ap (λ (t : StreamTable). t.progress.ending) l ∙ e ∙ sym r.fault ∙ ap (λ (z : Verdict). fault_ending (uni_consequence (dispatched (call_view log) r.table.classified) r.stream z).fault) (ap (λ (z : Classified). z.verdict) same ∙ f)
 
+  -- and so did a second stream of a kind that comes once
+  second-told : (earlier : List Classified) (c : Classified) (offset : Verdict → Option ℕ) (first : ℕ × ℕ) → last.classified ≡ earlier ++ c ∷ [] → ComesOnce offset → is_some (offset c.verdict) ≡ true → first_at offset earlier ≡ Some first
+      → last.progress.ending ≡ Some (ByFault h3.StreamCreation)
+  second-told earlier c offset first q m s f = at-unis (scanned side log before n).progress.ending refl
+    where
+      at-bis : (e : Option Ending) → start.ending ≡ e → (scanned side log before n).progress.ending ≡ None → last.progress.ending ≡ Some (ByFault h3.StreamCreation)
+      at-bis None e u =
+          absurd (not-second offset earlier c first s f (subst (AtMostOne offset) q (kept-streams (λ (t : StreamTable). t.progress.ending ≡ None → AtMostOne offset t.classified) side log (once-kept side log offset m) before (λ z. o offset m) e)))
+      at-bis (Some y) e u =
+          let r = bis-end side log before n u y e in
+          let v = bi_verdict_of (contents log r.stream) (end_of (events_of log) r.stream) in
+          let x : Classified = record { id = r.stream; verdict = v; surplus = (bi_consequence (dispatched (call_view log) r.table.classified) r.stream v).surplus } in
+          let same = snoc-last r.table.classified earlier x c (sym (ap (λ (t : StreamTable). t.classified) (last-stays side log before n y e ∙ r.is)) ∙ q) in
+          absurd (let i = ap (λ (z : Classified). is_some (offset z.verdict)) same ∙ s in let k = ap is_some (no-offset offset m v (bi-not-once (contents log r.stream) (end_of (events_of log) r.stream))) in cc)
+
+      at-unis : (e : Option Ending) → (scanned side log before n).progress.ending ≡ e → last.progress.ending ≡ Some (ByFault h3.StreamCreation)
+      at-unis None e = at-bis start.ending refl e
+      at-unis (Some y) e =
+          let r = unis-end side log before n y e in
+          let v = uni_verdict_of (contents log r.stream) (end_of (events_of log) r.stream) in
+          let x : Classified = record { id = r.stream; verdict = v; surplus = (uni_consequence (dispatched (call_view log) r.table.classified) r.stream v).surplus } in
+          let b = bis-stay side log before n y e in
+          let l = last-stays side log before n y (ap (λ (t : StreamTable). t.progress.ending) b ∙ e) ∙ b in
+          let w = sym (ap (λ (t : StreamTable). t.classified) (l ∙ r.is)) ∙ q in
+          let i = ap (λ (z : Classified). is_some (offset z.verdict)) (snoc-last r.table.classified earlier x c w) ∙ s in
+          let j = ap (first_at offset) (snoc-front r.table.classified earlier x c w) ∙ f in
+          ap (λ (t : StreamTable). t.progress.ending) l ∙ e ∙ sym r.fault ∙ ap fault_ending (uni-second offset m (call_view log) r.table.classified first r.stream v i j)
+
   tells-first : TellsFirst side log before last
   tells-first = record {
     stream = stream-told;
+    second = second-told;
     datagram = λ piece code c t d. datagram-ends side log before last start none-scanned (all-left c) piece code t d;
     session_fault = λ x code c d e w. session-told side log before last start none-scanned (all-left c) x (walks.Fault code) (ByFault code) d e w refl;
     session_closed = λ x code reason c d e w. session-told side log before last start none-scanned (all-left c) x (walks.Closed code reason) _ d e w refl;
@@ -343,5 +400,5 @@ unfolding stream_table
 first-is-told side e log m o n = at (is_moment e && is_open (e ∷ log)) (and_from (is_moment e) (is_open (e ∷ log)) m o)
   where
     at : (b : Bool) → b ≡ true → TellsFirst side (e ∷ log) (stream_table side log) (after-entry side e log b)
-    at true q = tells-first side (e ∷ log) (stream_table side log) n (faultless side log)
+    at true q = tells-first side (e ∷ log) (stream_table side log) n (faultless side log) (λ offset c. once-each side log offset c n)
     at false q = absurd (cc)

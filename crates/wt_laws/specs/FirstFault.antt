@@ -47,10 +47,12 @@ pub record PassesUpToControl (side : Side) (log : Log) (before after : StreamTab
 -- ---- which is told
 
 -- Where what comes before it in this order passes, each of these ends the connection: the fault of a stream, which is classified last
--- (`FaultIsLast`); the datagram that the moment takes, where it is none; the session's fault or its end; that the peer stopped this
+-- (`FaultIsLast`), or that it is a second one of a kind that comes once; the datagram that the moment takes, where it is none; the session's fault or its end; that the peer stopped this
 -- end's control stream; the fault of its own; the end of a QPACK stream.
 pub record TellsFirst (side : Side) (log : Log) (before after : StreamTable) : Type 0 where
   pub stream : (earlier : List Classified) (c : Classified) (code : ErrorCode) → after.classified ≡ earlier ++ c ∷ [] → c.verdict ≡ verdicts.Fault code → after.progress.ending ≡ Some (ByFault code)
+  pub second : (earlier : List Classified) (c : Classified) (offset : Verdict → Option ℕ) (first : ℕ × ℕ) → after.classified ≡ earlier ++ c ∷ [] → ComesOnce offset → is_some (offset c.verdict) ≡ true → first_at offset earlier ≡ Some first
+      → after.progress.ending ≡ Some (ByFault h3.StreamCreation)
   pub datagram : (piece : List ℕ) (code : ErrorCode) → StreamsPass after.classified → TakesDatagram log before after piece → datagram_of piece ≡ Err code → after.progress.ending ≡ Some (ByFault code)
   pub session_fault : (s : ℕ × ℕ) (code : ErrorCode) → StreamsPass after.classified → DatagramPasses log before after → established (calls_of log) ≡ Some s → session_walk_of (drop s.1 (contents log s.0)) (end_of (events_of log) s.0) ≡ walks.Fault code
       → after.progress.ending ≡ Some (ByFault code)
