@@ -51,7 +51,7 @@ flush-ends side e log p = at (is_moment e) (is_open (e ∷ log)) refl
         (ending-last (session_id (established (calls_of (e ∷ log)))) (stream_table side (e ∷ log)).progress.ending (with_actions (before-close side (e ∷ log)) (e ∷ log))
         (keep-open (before-close side (e ∷ log)) (e ∷ log) (before-closes side (e ∷ log)) o) (while-open (before-close side (e ∷ log)) (e ∷ log) (before-closes side (e ∷ log)) o p))
 
-own-open : (side : Side) (turn : Turn) (log : Log) (a : Action) → ActionCause side turn log a → is_open log ≡ true
+pub own-open : (side : Side) (turn : Turn) (log : Log) (a : Action) → ActionCause side turn log a → is_open log ≡ true
 own-open side turn log (actions.Dial address name) c = ap is_open c.0
 own-open side turn log (actions.Opened id) c = c.0
 own-open side turn log (actions.Send id piece) c = c.0

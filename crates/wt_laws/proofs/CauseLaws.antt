@@ -116,7 +116,7 @@ classified-stop side log t k v x n (AsBi a b c d) = subst (λ (o : Option Stoppe
 
 stops-kept : (side : Side) (log : Log) → IsKept (causes side log) (λ t. StopsFor side log t.classified t.progress.stops)
 stops-kept side log = record {
-  by_ending = λ t e x p. p;
+  by_ending = λ t e p. p;
   by_moment = λ t p. tt;
   by_settings = λ t b x p. p;
   by_datagram = λ t n p. p;
@@ -156,7 +156,7 @@ classified-new side log before t k v x n (AsUni a b c d) = subst (λ (o : Option
 classified-new side log before t k v x n (AsBi a b c d) = subst (λ (o : Option Stopped). AllNew before (listed o)) (sym (ap (λ (y : Consequence). y.stop) d)) (bi-new before (dispatched (call_view log) t.classified) k v n)
 
 -- what isn't in a list isn't in its front
-none-front : (k : ℕ) (cs ds : List Classified) → verdict_of k (cs ++ ds) ≡ None → verdict_of k cs ≡ None
+pub none-front : (k : ℕ) (cs ds : List Classified) → verdict_of k (cs ++ ds) ≡ None → verdict_of k cs ≡ None
 none-front k [] ds n = refl
 none-front k (c ∷ cs) ds n = at (c.id == k) n (none-front k cs ds)
   where
@@ -171,7 +171,7 @@ record NewStops (before : List Classified) (t : StreamTable) : Type 0 where
 
 new-kept : (side : Side) (log : Log) (before : List Classified) → IsKept (causes side log) (NewStops before)
 new-kept side log before = record {
-  by_ending = λ t e c p. record { more = p.more; goes_on = p.goes_on; all_new = p.all_new };
+  by_ending = λ t e p. record { more = p.more; goes_on = p.goes_on; all_new = p.all_new };
   by_moment = λ t p. record { more = p.more; goes_on = p.goes_on; all_new = tt };
   by_settings = λ t b c p. record { more = p.more; goes_on = p.goes_on; all_new = p.all_new };
   by_datagram = λ t c p. record { more = p.more; goes_on = p.goes_on; all_new = p.all_new };

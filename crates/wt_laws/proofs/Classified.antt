@@ -43,7 +43,7 @@ once-more x (c ∷ cs) h o =
 pub of-classified : (c : Causes) (P : List Classified → Type 0) → ((t : StreamTable) (k : ℕ) (v : Verdict) (e : Consequence) → c.classified t k v e → verdict_of k t.classified ≡ None
     → P t.classified → P (t.classified ++ record { id = k; verdict = v; surplus = e.surplus } ∷ [])) → IsKept c (λ t. P t.classified)
 of-classified c P f = record {
-  by_ending = λ t e x p. p;
+  by_ending = λ t e p. p;
   by_moment = λ t p. p;
   by_settings = λ t b x p. p;
   by_datagram = λ t n p. p;

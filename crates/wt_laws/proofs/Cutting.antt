@@ -65,7 +65,7 @@ actions-append (Reported e ∷ more) log = actions-append more log
 actions-append (ReportedLate e ∷ more) log = actions-append more log
 actions-append (Called r ∷ more) log = actions-append more log
 
-take-front : (xs ys : List Action) → take (length (xs ++ ys) - length ys) (xs ++ ys) ≡ xs
+pub take-front : (xs ys : List Action) → take (length (xs ++ ys) - length ys) (xs ++ ys) ≡ xs
 take-front xs ys = let n : length (xs ++ ys) - length ys ≡ length xs = omega (arith, length-append xs ys) in ap (λ n. take n (xs ++ ys)) n ∙ front xs
   where
     front : (zs : List Action) → take (length zs) (zs ++ ys) ≡ zs

@@ -16,6 +16,7 @@ use Rattle.wt_laws.proofs.Reached.{Law, holds, keeps-turn}
 use Rattle.wt_laws.proofs.SessionLaws.{Handshakes, handshakes-before, handshakes-first, handshakes-record, handshakes-same}
 use Rattle.wt_laws.proofs.Steps.{Keeps, by-entries, calls-with, event_of, keeps-steps}
 use Rattle.wt_laws.specs.Causes.{EstablishedBy, FoundDatagram, RecordCause, is_receive}
+use Rattle.wt_laws.specs.Datagrams.{receives}
 use Rattle.wt_laws.specs.Laws.{DatagramsInOrder, more_received, payload_for, payloads_for, received_by}
 use Rattle.wt_laws.specs.Reachable.{AllLawful, Exchange, exchanges}
 use Rattle.wt_laws.specs.ReplyCauses.{ReplyCause}
@@ -30,7 +31,7 @@ use Rattle.wt_turn.specs.declared.turn.Turn.TheVariants as turns
 
 dequeued-kept : (c : Causes) (n : ℕ) → IsKept c (λ t. n ≤ t.progress.datagrams)
 dequeued-kept c n = record {
-  by_ending = λ t e x p. p;
+  by_ending = λ t e p. p;
   by_moment = λ t p. p;
   by_settings = λ t b x p. p;
   by_datagram = λ t x p. omega arith;
@@ -38,7 +39,7 @@ dequeued-kept c n = record {
   by_classified = λ t k v e x q still p. p;
 }
 
-dequeued-stay : (side : Side) (n : ℕ) (e : Entry) (log : Log) → n ≤ (stream_table side log).progress.datagrams → n ≤ (stream_table side (e ∷ log)).progress.datagrams
+pub dequeued-stay : (side : Side) (n : ℕ) (e : Entry) (log : Log) → n ≤ (stream_table side log).progress.datagrams → n ≤ (stream_table side (e ∷ log)).progress.datagrams
 dequeued-stay side n e log p = kept (λ t. n ≤ t.progress.datagrams) side e log (dequeued-kept _ n) p
 
 -- ---- the payloads
@@ -58,27 +59,23 @@ payloads-next s [] x = append-nil (payload_for s (well_formed x))
 payloads-next s (y ∷ ys) x = ap (λ z. payload_for s (well_formed y) ++ z) (payloads-next s ys x) ∙ sym (append_assoc (payload_for s (well_formed y)) (payloads_for s ys) (payload_for s (well_formed x)))
 
 -- what the calls received so far: each datagram that a call received is the next that wasn't passed or received
-abbrev is_received : CallRecord → Bool
-is_received DatagramReceived = true
-is_received _ = false
-
-abbrev payload_in : Option (ℕ × List ℕ) → List ℕ
+abbrev pub payload_in : Option (ℕ × List ℕ) → List ℕ
 payload_in None = []
 payload_in (Some d) = d.1
 
-abbrev payload_at : Option (List ℕ) → List ℕ
+abbrev pub payload_at : Option (List ℕ) → List ℕ
 payload_at None = []
 payload_at (Some piece) = payload_in (well_formed piece)
 
-abbrev with_received : Bool → List ℕ → List (List ℕ) → List (List ℕ)
+abbrev pub with_received : Bool → List ℕ → List (List ℕ) → List (List ℕ)
 with_received true payload got = got ++ payload ∷ []
 with_received false payload got = got
 
-abbrev received : List (List ℕ) → List CallRecord → List (List ℕ)
+abbrev pub received : List (List ℕ) → List CallRecord → List (List ℕ)
 received xs [] = []
-received xs (r ∷ earlier) = with_received (is_received r) (payload_at (slice_get xs (settled_datagrams earlier))) (received xs earlier)
+received xs (r ∷ earlier) = with_received (receives r) (payload_at (slice_get xs (settled_datagrams earlier))) (received xs earlier)
 
-settled-more : (r : CallRecord) (cs : List CallRecord) → settled_datagrams cs ≤ settled_datagrams (r ∷ cs)
+pub settled-more : (r : CallRecord) (cs : List CallRecord) → settled_datagrams cs ≤ settled_datagrams (r ∷ cs)
 settled-more r cs = one-more-le (settles_datagram r) (settled_datagrams cs)
   where
     one-more-le : (b : Bool) (n : ℕ) → n ≤ one_more_if b n
@@ -93,15 +90,15 @@ same-with false x y xs ys f e = e
 received-grows : (xs ys : List (List ℕ)) (cs : List CallRecord) → settled_datagrams cs ≤ length xs → received (xs ++ ys) cs ≡ received xs cs
 received-grows xs ys [] l = refl
 received-grows xs ys (r ∷ cs) l =
-    same-with (is_received r) _ _ _ _ (λ e. ap payload_at (get-append xs ys (settled_datagrams cs) (less r cs e l))) (received-grows xs ys cs (let m = settled-more r cs in omega arith))
+    same-with (receives r) _ _ _ _ (λ e. ap payload_at (get-append xs ys (settled_datagrams cs) (less r cs e l))) (received-grows xs ys cs (let m = settled-more r cs in omega arith))
   where
-    less : (r : CallRecord) (cs : List CallRecord) → is_received r ≡ true → settled_datagrams (r ∷ cs) ≤ length xs → settled_datagrams cs < length xs
+    less : (r : CallRecord) (cs : List CallRecord) → receives r ≡ true → settled_datagrams (r ∷ cs) ≤ length xs → settled_datagrams cs < length xs
     less DatagramReceived cs e l = omega arith
     less _ cs e l = absurd (cc)
 
 -- ---- after every log
 
-record DatagramsSoFar (side : Side) (log : Log) : Type 0 where
+pub record DatagramsSoFar (side : Side) (log : Log) : Type 0 where
   pub handshakes : Handshakes side log
   pub within : settled_datagrams (calls_of log) ≤ length (datagrams_of (events_of log))
   pub dequeued : settled_datagrams (calls_of log) ≤ (stream_table side log).progress.datagrams
@@ -129,7 +126,7 @@ so-far-same side e log c h p =
     }
 
 -- a record that neither settles a datagram nor establishes a session
-so-far-other : (side : Side) (r : CallRecord) (log : Log) → settles_datagram r ≡ false → is_received r ≡ false → establishes r ≡ None → Handshakes side (Called r ∷ log) → DatagramsSoFar side log → DatagramsSoFar side (Called r ∷ log)
+so-far-other : (side : Side) (r : CallRecord) (log : Log) → settles_datagram r ≡ false → receives r ≡ false → establishes r ≡ None → Handshakes side (Called r ∷ log) → DatagramsSoFar side log → DatagramsSoFar side (Called r ∷ log)
 so-far-other side r log s i e h p =
     let c : settled_datagrams (r ∷ calls_of log) ≡ settled_datagrams (calls_of log) = ap (λ b. one_more_if b (settled_datagrams (calls_of log))) s in
     let d : established (r ∷ calls_of log) ≡ established (calls_of log) = ap (λ o. or_earlier o (established (calls_of log))) e in
@@ -144,12 +141,12 @@ so-far-other side r log s i e h p =
     }
 
 -- what is next is the one behind those that are settled
-record NextIs (log : Log) (d : ℕ × List ℕ) : Type 0 where
+pub record NextIs (log : Log) (d : ℕ × List ℕ) : Type 0 where
   pub piece : List ℕ
   pub at : slice_get (datagrams_of (events_of log)) (settled_datagrams (calls_of log)) ≡ Some piece
   pub parsed : well_formed piece ≡ Some d
 
-next-is : (side : Side) (log : Log) (d : ℕ × List ℕ) → next_datagram side log ≡ Some d → NextIs log d × (settled_datagrams (calls_of log) < (stream_table side log).progress.datagrams)
+pub next-is : (side : Side) (log : Log) (d : ℕ × List ℕ) → next_datagram side log ≡ Some d → NextIs log d × (settled_datagrams (calls_of log) < (stream_table side log).progress.datagrams)
 next-is side log d e = at (nat_lt (settled_datagrams (calls_of log)) (stream_table side log).progress.datagrams) refl e
   where
     piece-at : (o : Option (List ℕ)) → slice_get (datagrams_of (events_of log)) (settled_datagrams (calls_of log)) ≡ o → read_datagram o ≡ Some d → NextIs log d
@@ -161,7 +158,7 @@ next-is side log d e = at (nat_lt (settled_datagrams (calls_of log)) (stream_tab
     at true l e = (piece-at (slice_get (datagrams_of (events_of log)) (settled_datagrams (calls_of log))) refl e, ltb-true _ _ l)
     at false l e = absurd (cc)
 
-so-far-settled : (side : Side) (turn : Turn) (r : CallRecord) (log : Log) (b : Bool) → settles_datagram r ≡ true → is_received r ≡ b → establishes r ≡ None → FoundDatagram side turn log b → Handshakes side (Called r ∷ log) → DatagramsSoFar side log → DatagramsSoFar side (Called r ∷ log)
+so-far-settled : (side : Side) (turn : Turn) (r : CallRecord) (log : Log) (b : Bool) → settles_datagram r ≡ true → receives r ≡ b → establishes r ≡ None → FoundDatagram side turn log b → Handshakes side (Called r ∷ log) → DatagramsSoFar side log → DatagramsSoFar side (Called r ∷ log)
 so-far-settled side turn r log b s i e f h p =
     let n = settled_datagrams (calls_of log) in
     let xs = datagrams_of (events_of log) in
@@ -207,7 +204,7 @@ so-far-record side turn DatagramPassed log c p = so-far-settled side turn Datagr
 so-far-record side turn (SessionEstablished id at) log c p = so-far-established side turn id at log c (handshakes-record side turn log (SessionEstablished id at) c p.handshakes) p
 so-far-record side turn _ log c p = so-far-other side _ log refl refl refl (handshakes-record side turn log _ c p.handshakes) p
 
-keeps-datagrams : (side : Side) (turn : Turn) → Keeps side turn (DatagramsSoFar side)
+pub keeps-datagrams : (side : Side) (turn : Turn) → Keeps side turn (DatagramsSoFar side)
 keeps-datagrams side turn = by-entries (record {
   action = λ log a p. so-far-same side (Sent a) log refl (handshakes-same side (Sent a) log refl p.handshakes) p;
   event = λ log e o b p. so-far-same side (Reported e) log refl (handshakes-same side (Reported e) log refl p.handshakes) p;
@@ -218,7 +215,7 @@ keeps-datagrams side turn = by-entries (record {
 
 -- ---- with the replies
 
-keeps-arrivals : (side : Side) (turn : Turn) (xs : List (List ℕ)) → event_of turn ≡ None → Keeps side turn (λ log. datagrams_of (events_of log) ≡ xs)
+pub keeps-arrivals : (side : Side) (turn : Turn) (xs : List (List ℕ)) → event_of turn ≡ None → Keeps side turn (λ log. datagrams_of (events_of log) ≡ xs)
 keeps-arrivals side turn xs n = by-entries (record {
   action = λ log a p. p;
   event = λ log e o b p. absurd (let t = b.told in cc);
@@ -227,12 +224,12 @@ keeps-arrivals side turn xs n = by-entries (record {
   record_ = λ log r c p. p;
 })
 
-receive-brings : (t : Turn) → is_receive t ≡ true → event_of t ≡ None
+pub receive-brings : (t : Turn) → is_receive t ≡ true → event_of t ≡ None
 receive-brings (turns.Call c) e = refl
 receive-brings _ e = absurd (cc)
 
 -- what is passed isn't received
-passed-same : (xs : List (List ℕ)) (after before : List CallRecord) → Passed after before → received xs after ≡ received xs before
+pub passed-same : (xs : List (List ℕ)) (after before : List CallRecord) → Passed after before → received xs after ≡ received xs before
 passed-same xs after before NonePassed = refl
 passed-same xs after before (OnePassed r p s) = passed-same xs after (r ∷ before) s ∙ at r p
   where
@@ -245,10 +242,10 @@ quiet-datagram : (reply : Reply) (got : List (List ℕ)) → is_quiet reply ≡ 
 quiet-datagram (replies.Datagram piece) got q = absurd (cc)
 quiet-datagram _ got q = refl
 
-other-told : (turn : Turn) (r : CallRecord) (reply : Reply) (got : List (List ℕ)) → is_received r ≡ false → Tells turn r reply → more_received (datagram_told reply) got ≡ got
+other-told : (turn : Turn) (r : CallRecord) (reply : Reply) (got : List (List ℕ)) → receives r ≡ false → Tells turn r reply → more_received (datagram_told reply) got ≡ got
 other-told turn r (replies.Datagram piece) got i t = at r i t
   where
-    at : (r : CallRecord) → is_received r ≡ false → Tells turn r (replies.Datagram piece) → got ++ piece ∷ [] ≡ got
+    at : (r : CallRecord) → receives r ≡ false → Tells turn r (replies.Datagram piece) → got ++ piece ∷ [] ≡ got
     at (BytesRead k n) i t = absurd (let z = t.1 in cc)
     at (StreamAccepted k) i t = absurd (cc)
     at DatagramReceived i t = absurd (cc)
@@ -257,10 +254,10 @@ other-told turn r (replies.Datagram piece) got i t = at r i t
     at _ i t = absurd (cc)
 other-told turn r _ got i t = refl
 
-abbrev Arrived : List (List ℕ) → Log → Type 0
+abbrev pub Arrived : List (List ℕ) → Log → Type 0
 Arrived xs log = (more : List (List ℕ)) × (datagrams_of (events_of log) ≡ xs ++ more)
 
-arrived-more : (xs : List (List ℕ)) (e : Entry) (log : Log) → Arrived xs log → Arrived xs (e ∷ log)
+pub arrived-more : (xs : List (List ℕ)) (e : Entry) (log : Log) → Arrived xs log → Arrived xs (e ∷ log)
 arrived-more xs e log a = let g = arrives e log in (a.0 ++ g.0, g.1 ∙ ap (λ ys. ys ++ g.0) a.1 ∙ append_assoc xs a.0 g.0)
 
 keeps-arrived : (side : Side) (turn : Turn) (xs : List (List ℕ)) → Keeps side turn (Arrived xs)
@@ -286,7 +283,7 @@ record DatagramsHold (side : Side) (before : List Exchange) (log : Log) : Type 0
   pub so_far : DatagramsSoFar side log
   pub told : received_by before ≡ received (datagrams_of (events_of log)) (calls_of log)
 
-by-record : (side : Side) (turn : Turn) (xs got : List (List ℕ)) (decided : Log) (reply : Reply) (r : CallRecord) (b : Bool) → is_received r ≡ b → got ≡ received xs (calls_of decided) → ReplyCause side turn decided reply → Tells turn r reply
+by-record : (side : Side) (turn : Turn) (xs got : List (List ℕ)) (decided : Log) (reply : Reply) (r : CallRecord) (b : Bool) → receives r ≡ b → got ≡ received xs (calls_of decided) → ReplyCause side turn decided reply → Tells turn r reply
     → (event_of turn ≡ None → xs ≡ datagrams_of (events_of decided)) → more_received (datagram_told reply) got ≡ received xs (r ∷ calls_of decided)
 by-record side turn xs got decided reply r false i g w t k = other-told turn r reply got i t ∙ g ∙ ap (λ b. with_received b (payload_at (slice_get xs (settled_datagrams (calls_of decided)))) (received xs (calls_of decided))) (sym i)
 by-record side turn xs got decided reply DatagramReceived true i g w t k =
@@ -308,11 +305,11 @@ one-exchange side before log t l p =
         → more_received (datagram_told (answer_to side log t).reply) (received_by before) ≡ received (datagrams_of (events_of (log_after side log t))) (calls_of (log_after side log t))
     at (NoRecord e q) g w k = quiet-datagram (answer_to side log t).reply (received_by before) q ∙ g ∙ ap (received (datagrams_of (events_of (log_after side log t)))) (sym e)
     at (OneRecord r e q) g w k =
-        by-record side t (datagrams_of (events_of (log_after side log t))) (received_by before) (caused side t log l).decided (answer_to side log t).reply r (is_received r) refl g w q k ∙ ap (received (datagrams_of (events_of (log_after side log t)))) (sym e)
+        by-record side t (datagrams_of (events_of (log_after side log t))) (received_by before) (caused side t log l).decided (answer_to side log t).reply r (receives r) refl g w q k ∙ ap (received (datagrams_of (events_of (log_after side log t)))) (sym e)
     at (ThenPolled r e q) g w k =
-        by-record side t (datagrams_of (events_of (log_after side log t))) (received_by before) (caused side t log l).decided (answer_to side log t).reply r (is_received r) refl g w q k ∙ ap (received (datagrams_of (events_of (log_after side log t)))) (sym e)
+        by-record side t (datagrams_of (events_of (log_after side log t))) (received_by before) (caused side t log l).decided (answer_to side log t).reply r (receives r) refl g w q k ∙ ap (received (datagrams_of (events_of (log_after side log t)))) (sym e)
 
-datagrams-first : (side : Side) → DatagramsSoFar side []
+pub datagrams-first : (side : Side) → DatagramsSoFar side []
 unfolding stream_table
 datagrams-first side = record { handshakes = handshakes-first side; within = omega arith; dequeued = omega arith; none = λ q. (refl, refl); prefix = λ s at q. absurd (cc) }
 
@@ -325,4 +322,4 @@ datagrams-law side = record {
 pub datagrams-in-order : (side : Side) (all : List Turn) → AllLawful side [] all → DatagramsInOrder side (exchanges side all) (log_from side [] all)
 datagrams-in-order side all a s at e =
     let p = holds side (DatagramsHold side) (datagrams-law side) all a in
-    (settled_datagrams (calls_of (log_from side [] all)), p.so_far.dequeued, p.told ∙ p.so_far.prefix s at e)
+    (p.so_far.dequeued, p.told ∙ p.so_far.prefix s at e)

@@ -81,7 +81,7 @@ unfolding before-close
 fault-closes side log = record {
   fault = λ code e. (before-close side log, ap (λ o. before-close side log ++ close_actions (session_id (established (calls_of log))) o) e);
   session = λ code reason b e. (
-    before-close side log ++ reset_if b (session_id (established (calls_of log))),
+    before-close side log,
     ap (λ o. before-close side log ++ close_actions (session_id (established (calls_of log))) o) e ∙ sym (append_assoc (before-close side log) (reset_if b (session_id (established (calls_of log)))) (actions.Close (code_of h3.NoError) [] ∷ [])),
   );
   none = none-closes side log;
@@ -113,12 +113,12 @@ record EndFacts (side : Side) (log : Log) : Type 0 where
   pub closed : is_open log ≡ false → EndedBy side log
   pub no_fault : is_open log ≡ true → (stream_table side log).progress.ending ≡ None
 
-same-table : (side : Side) (a : Action) (log : Log) → stream_table side (Sent a ∷ log) ≡ stream_table side log
+pub same-table : (side : Side) (a : Action) (log : Log) → stream_table side (Sent a ∷ log) ≡ stream_table side log
 unfolding stream_table
 same-table side a log = refl
 
 -- a closed connection scans no more
-closed-table : (side : Side) (e : Entry) (log : Log) → is_open (e ∷ log) ≡ false → stream_table side (e ∷ log) ≡ stream_table side log
+pub closed-table : (side : Side) (e : Entry) (log : Log) → is_open (e ∷ log) ≡ false → stream_table side (e ∷ log) ≡ stream_table side log
 unfolding stream_table
 closed-table side e log c = at (is_moment e) (is_open (e ∷ log)) c
   where
@@ -126,7 +126,7 @@ closed-table side e log c = at (is_moment e) (is_open (e ∷ log)) c
     at true o c = rw c refl
     at false o c = refl
 
-late-table : (side : Side) (e : Event) (log : Log) → stream_table side (ReportedLate e ∷ log) ≡ stream_table side log
+pub late-table : (side : Side) (e : Event) (log : Log) → stream_table side (ReportedLate e ∷ log) ≡ stream_table side log
 unfolding stream_table
 late-table side e log = refl
 
@@ -177,7 +177,9 @@ flushed side log true f g h (Some x) e t = record {
 
     ending-shown : (side : Side) (log : Log) (x : Ending) → (stream_table side log).progress.ending ≡ Some x → list_any closes (pending_actions side log) ≡ true
     ending-shown side log (ByFault code) e = let w = (fault-closes side log).fault code e in rw w.1 (any-later w.0 (actions.Close (code_of code) [] ∷ []) refl)
-    ending-shown side log (BySession code reason b) e = let w = (fault-closes side log).session code reason b e in rw w.1 (any-later w.0 (actions.Close (code_of h3.NoError) [] ∷ []) refl)
+    ending-shown side log (BySession code reason b) e =
+        let w = (fault-closes side log).session code reason b e in
+        rw w.1 (any-later (w.0 ++ reset_if b (session_id (established (calls_of log)))) (actions.Close (code_of h3.NoError) [] ∷ []) refl)
 
 end-flush : (side : Side) (e : Entry) (log : Log) → (is_open (e ∷ log) ≡ false → EndedBy side (e ∷ log)) → (is_moment e ≡ true) → EndFacts side (log_and_flush side log e)
 unfolding flush
@@ -207,7 +209,7 @@ unfolding stream_table
 first-end side = record { closed = λ c. absurd (cc); no_fault = λ o. refl }
 
 -- an open connection was neither lost nor closed
-none-lost : (log : Log) → is_open log ≡ true → (list_any loses (events_of log) ≡ false) × (list_any closes (actions_of log) ≡ false)
+pub none-lost : (log : Log) → is_open log ≡ true → (list_any loses (events_of log) ≡ false) × (list_any closes (actions_of log) ≡ false)
 none-lost [] o = (refl, refl)
 none-lost (Received id b ∷ log) o = none-lost log o
 none-lost (ReportedLate e ∷ log) o = none-lost log o

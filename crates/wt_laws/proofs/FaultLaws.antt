@@ -1,24 +1,33 @@
 -- The driver ends a connection for a cause that the peer's bytes and events show, and takes SETTINGS that it read.
-use Rattle.std.specs.Prelude.{[], ◌++◌, ◌==◌, ◌∷◌, ◌≡◌, Bool, List, None, Option, Some, false, if◌then◌else◌, true, ℕ}
-use Rattle.std.proofs.Common.{◌∙◌, ap, refl, subst, sym}
+use Rattle.std.specs.Prelude.{[], ◌&&◌, ◌++◌, ◌==◌, ◌∷◌, ◌≡◌, Bool, Err, List, None, Ok, Option, Result, Some, drop, false, if◌then◌else◌, not, slice_get, suc, true, ℕ}
+use Rattle.std.proofs.Common.{◌∙◌, ap, arith, refl, subst, sym}
+use Rattle.std.proofs.lemmas.Bool.{and_parts, eqb-true, not-true}
+use Rattle.wt_message.specs.Datagram.{datagram_of}
 use Rattle.wt_proto.specs.Bi.{bi_verdict_of}
+use Rattle.wt_proto.specs.ControlWalk.{control_walk_of}
+use Rattle.wt_proto.specs.SessionWalk.{is_over, session_walk_of}
 use Rattle.wt_proto.specs.Uni.{uni_verdict_of}
+use Rattle.wt_proto.specs.declared.session_walk.SessionWalk.{SessionWalk}
 use Rattle.wt_proto.specs.declared.verdict.Verdict.{Verdict}
-use Rattle.wt_seam_spec.specs.Reports.{end_of}
+use Rattle.wt_seam_spec.specs.Reports.{datagrams_of, end_of, is_running}
 use Rattle.wt_seam_spec.specs.Streams.{contents, peer_bi, peer_count, peer_uni}
-use Rattle.wt_turn.specs.Log.{Entry, Log, events_of}
+use Rattle.wt_turn.specs.Log.{Entry, Log, calls_of, events_of, is_open}
 use Rattle.wt_wire.specs.declared.error.ErrorCode.{ErrorCode}
 use Rattle.wt_wire.specs.declared.side.Side.{Side}
+use Rattle.wt_laws.proofs.DatagramOrEnds.{after-entry, scan-datagrams}
+use Rattle.wt_laws.proofs.Endings.{EndsAt, checks-stay, ends-earlier, first-check, scan-ends, scan-grows, scan-stays, taken-last}
 use Rattle.wt_laws.proofs.Facts.{HasBi, HasUni, HasVerdict, facts-hold}
 use Rattle.wt_laws.proofs.Looks.{from-or}
-use Rattle.wt_laws.proofs.Moments.{AsBi, AsUni, ClassifiedAs, IsKept, causes, kept}
-use Rattle.wt_laws.specs.Faults.{ClassifiedRightly, ComesOnce, ControlOnce, DecoderOnce, EncoderOnce, EndingCause, EndsForCause, FaultyBi, FaultyUni, OfBi, OfUni, SecondUni, SettingsComeRead, SettingsRead, VerdictOver}
+use Rattle.wt_laws.proofs.Moments.{IsKept, causes, kept, of-ids, small-bi, small-uni, with_progress}
+use Rattle.wt_laws.specs.Faults.{ClassifiedRightly, ComesOnce, ControlFault, ControlOnce, ControlStopped, DecoderEnded, DecoderOnce, EncoderEnded, EncoderOnce, EndingCause, EndsForCause, FaultyBi, FaultyUni, NoDatagram, OfBi, OfUni, SecondUni, SessionClosed, SessionFault, SettingsComeRead, SettingsRead, TakenLast, VerdictOver}
 use Rattle.wt_laws.specs.Reachable.{IsReachable, is_among}
-use Rattle.wt_spec.specs.Driver.{call_view}
-use Rattle.wt_spec.specs.Scan.{fault_ending}
-use Rattle.wt_spec.specs.StreamTable.{ByFault, Classified, Consequence, Ending, StreamTable, bi_consequence, control_offset, decoder_offset, dispatched, encoder_offset, first_at, only_once, or_later, paired, queued_behind, uni_consequence, verdict_of}
+use Rattle.wt_spec.specs.Driver.{call_view, established, is_moment, is_ready, settled_datagrams, stream_table, transport_view}
+use Rattle.wt_spec.specs.Scan.{Scan, bi_ids, bi_rule, check_control, check_datagram, check_qpack, check_session, checks, critical_if, dequeued_datagram, ended_by, fault_ending, in_order, parsed_datagram, scan_bis, scan_order, scan_unis, session_ends, uni_ids, uni_rule, with_fault, without_stops}
+use Rattle.wt_spec.specs.StreamTable.{ByFault, Classified, Dispatched, Ending, Progress, StreamTable, TransportView, bi_consequence, control_offset, decoder_offset, dispatched, encoder_offset, first_at, only_once, or_later, paired, queued_behind, uni_consequence, verdict_of}
+use Rattle.wt_wire.specs.declared.side.StreamEnd.TheVariants as ends
 use Rattle.wt_wire.specs.declared.error.ErrorCode.TheVariants as h3
 use Rattle.wt_proto.specs.declared.verdict.Verdict.TheVariants as verdicts
+use Rattle.wt_proto.specs.declared.session_walk.SessionWalk.TheVariants as walks
 
 -- ---- what is classified has its verdict over all bytes
 
@@ -49,59 +58,214 @@ first-other offset (c ∷ cs) x k e n = at (offset c.verdict) (c.id == k) refl e
     at None false i e n f = f e n
     at (Some m) false i e n f = let y : (c.id, m) ≡ x = cc in ap (λ (z : ℕ × ℕ). z.0 == k) (sym y) ∙ i
 
--- ---- a stream that is classified with a fault
+-- ---- a stream that is taken with a fault
 
-module _ (side : Side) (log : Log) (cs : List Classified) (d : Classified) (k : ℕ) (n : verdict_of k cs ≡ None) where
-  -- with it classified the connection ends for a cause, where it ends
+module _ (side : Side) (log : Log) (before after : StreamTable) where
+  -- where this fault ends the connection, it does so for a cause
   abbrev Ends : Option ErrorCode → Type 0
-  Ends fault = (x : Ending) → fault_ending fault ≡ Some x → EndingCause side log (cs ++ d ∷ []) x
+  Ends fault = (x : Ending) → fault_ending fault ≡ Some x → EndingCause side log before after x
 
-  by-fault : (code : ErrorCode) → EndingCause side log (cs ++ d ∷ []) (ByFault code) → Ends (Some code)
-  by-fault code c x e = let y : ByFault code ≡ x = cc in subst (EndingCause side log (cs ++ d ∷ [])) y c
+  by-fault : (code : ErrorCode) → EndingCause side log before after (ByFault code) → Ends (Some code)
+  by-fault code c x e = let y : ByFault code ≡ x = cc in subst (EndingCause side log before after) y c
 
-  second : (offset : Verdict → Option ℕ) → ComesOnce offset → (at_ : ℕ) → is_among (peer_uni side) (peer_count side (events_of log) (peer_uni side)) k ≡ true → offset (uni_verdict_of (contents log k) (end_of (events_of log) k)) ≡ Some at_
-      → (o : Option (ℕ × ℕ)) → first_at offset cs ≡ o → Ends (only_once o).fault
-  second offset c at_ a v None q = λ x e. absurd (cc)
-  second offset c at_ a v (Some first) q = by-fault h3.StreamCreation (SecondUni offset c k at_ first a v (first-append offset cs (d ∷ []) first q) (first-other offset cs first k q n))
+  abbrev IsUni : ℕ → Verdict → Type 0
+  IsUni k v = (is_among (peer_uni side) (peer_count side (events_of log) (peer_uni side)) k ≡ true) × (uni_verdict_of (contents log k) (end_of (events_of log) k) ≡ v)
 
-  uni-ends : (v : Verdict) → is_among (peer_uni side) (peer_count side (events_of log) (peer_uni side)) k ≡ true → uni_verdict_of (contents log k) (end_of (events_of log) k) ≡ v → Ends (uni_consequence (dispatched (call_view log) cs) k v).fault
-  uni-ends (verdicts.Fault code) a e = by-fault code (FaultyUni k code a e)
-  uni-ends (verdicts.Control m) a e = second control_offset ControlOnce m a (ap control_offset e) (first_at control_offset cs) refl
-  uni-ends (verdicts.Encoder m) a e = second encoder_offset EncoderOnce m a (ap encoder_offset e) (first_at encoder_offset cs) refl
-  uni-ends (verdicts.Decoder m) a e = second decoder_offset DecoderOnce m a (ap decoder_offset e) (first_at decoder_offset cs) refl
-  uni-ends _ a e = λ x q. absurd (cc)
+  abbrev IsBi : ℕ → Verdict → Type 0
+  IsBi k v = (is_among (peer_bi side) (peer_count side (events_of log) (peer_bi side)) k ≡ true) × (bi_verdict_of (contents log k) (end_of (events_of log) k) ≡ v)
 
-  no-fault : (queued : List Classified) → Ends (queued_behind queued k).fault
-  no-fault [] = λ x q. absurd (cc)
-  no-fault (c ∷ later) = λ x q. absurd (cc)
+  module _ (cs : List Classified) (d : Classified) (k : ℕ) (g : after.classified ≡ cs ++ d ∷ []) (n : verdict_of k cs ≡ None) where
+    second : (offset : Verdict → Option ℕ) → ComesOnce offset → (m : ℕ) (v : Verdict) → IsUni k v → TakenLast before after k v → offset v ≡ Some m → (o : Option (ℕ × ℕ)) → first_at offset cs ≡ o → Ends (only_once o).fault
+    second offset c m v a t e None q = λ x f. absurd (cc)
+    second offset c m v a t e (Some first) q = by-fault h3.StreamCreation
+        (SecondUni offset c k m v first a.0 a.1 t e (ap (first_at offset) g ∙ first-append offset cs (d ∷ []) first q) (first-other offset cs first k q n))
 
-  bi-ends : (v : Verdict) → is_among (peer_bi side) (peer_count side (events_of log) (peer_bi side)) k ≡ true → bi_verdict_of (contents log k) (end_of (events_of log) k) ≡ v → Ends (bi_consequence (dispatched (call_view log) cs) k v).fault
-  bi-ends (verdicts.Fault code) a e = by-fault code (FaultyBi k code a e)
-  bi-ends (verdicts.Request headers m) a e = no-fault (dispatched (call_view log) cs).requests
-  bi-ends _ a e = λ x q. absurd (cc)
+    uni-ends : (v : Verdict) → IsUni k v → TakenLast before after k v → Ends (uni_consequence (dispatched (call_view log) cs) k v).fault
+    uni-ends (verdicts.Fault code) a t = by-fault code (FaultyUni k code a.0 a.1 t)
+    uni-ends (verdicts.Control m) a t = second control_offset ControlOnce m (verdicts.Control m) a t refl (first_at control_offset cs) refl
+    uni-ends (verdicts.Encoder m) a t = second encoder_offset EncoderOnce m (verdicts.Encoder m) a t refl (first_at encoder_offset cs) refl
+    uni-ends (verdicts.Decoder m) a t = second decoder_offset DecoderOnce m (verdicts.Decoder m) a t refl (first_at decoder_offset cs) refl
+    uni-ends _ a t = λ x f. absurd (cc)
 
-classified-ends : (side : Side) (log : Log) (t : StreamTable) (d : Classified) (k : ℕ) (v : Verdict) (e : Consequence) (n : verdict_of k t.classified ≡ None) → ClassifiedAs side log t k v e → Ends side log t.classified d k n e.fault
-classified-ends side log t d k v e n (AsUni a u f c) = λ x q. uni-ends side log t.classified d k n v a u x (ap (λ (y : Consequence). fault_ending y.fault) (sym c) ∙ q)
-classified-ends side log t d k v e n (AsBi a u f c) = λ x q. bi-ends side log t.classified d k n v a u x (ap (λ (y : Consequence). fault_ending y.fault) (sym c) ∙ q)
+    no-fault : (queued : List Classified) → Ends (queued_behind queued k).fault
+    no-fault [] = λ x f. absurd (cc)
+    no-fault (c ∷ later) = λ x f. absurd (cc)
+
+    bi-ends : (v : Verdict) → IsBi k v → TakenLast before after k v → Ends (bi_consequence (dispatched (call_view log) cs) k v).fault
+    bi-ends (verdicts.Fault code) a t = by-fault code (FaultyBi k code a.0 a.1 t)
+    bi-ends (verdicts.Request headers m) a t = no-fault (dispatched (call_view log) cs).requests
+    bi-ends _ a t = λ x f. absurd (cc)
+
+  -- what a scan ended at is such a stream
+  abbrev pub UniEnds : Ending → Type 0
+  UniEnds x = EndsAt (λ k. is_among (peer_uni side) (peer_count side (events_of log) (peer_uni side)) k ≡ true) (call_view log) (uni_rule (transport_view side log)) before.classified after x
+
+  abbrev pub BiEnds : Ending → Type 0
+  BiEnds x = EndsAt (λ k. is_among (peer_bi side) (peer_count side (events_of log) (peer_bi side)) k ≡ true) (call_view log) (bi_rule (transport_view side log)) before.classified after x
+
+  uni-cause : (x : Ending) → UniEnds x → EndingCause side log before after x
+  uni-cause x r =
+      let v = uni_verdict_of (contents log r.stream) (end_of (events_of log) r.stream) in
+      let e = uni_consequence (dispatched (call_view log) r.table.classified) r.stream v in
+      uni-ends r.table.classified (record { id = r.stream; verdict = v; surplus = e.surplus }) r.stream (ap (λ (t : StreamTable). t.classified) r.is) r.fresh v (r.named, refl) (taken-last before after x r) x r.fault
+
+  bi-cause : (x : Ending) → BiEnds x → EndingCause side log before after x
+  bi-cause x r =
+      let v = bi_verdict_of (contents log r.stream) (end_of (events_of log) r.stream) in
+      let e = bi_consequence (dispatched (call_view log) r.table.classified) r.stream v in
+      bi-ends r.table.classified (record { id = r.stream; verdict = v; surplus = e.surplus }) r.stream (ap (λ (t : StreamTable). t.classified) r.is) r.fresh v (r.named, refl) (taken-last before after x r) x r.fault
+
+  -- ---- a check that finds something
+
+  ending-is : (e : Ending) (p : Progress) (x : Ending) → EndingCause side log before after e → (ended_by e p).ending ≡ Some x → EndingCause side log before after x
+  ending-is e p x c f = let y : e ≡ x = cc in subst (EndingCause side log before after) y c
+
+  datagram-cause : (b : Bool) (p : Progress) (x : Ending) → ((transport_view side log).ready && settled_datagrams (calls_of log) == p.datagrams) ≡ b → p.ending ≡ None → p.datagrams ≡ before.progress.datagrams
+      → after.progress.datagrams ≡ (check_datagram b (transport_view side log) p).datagrams → (check_datagram b (transport_view side log) p).ending ≡ Some x → EndingCause side log before after x
+  datagram-cause false p x q n s g f = absurd (cc)
+  datagram-cause true p x q n s g f = at-next (slice_get (datagrams_of (events_of log)) p.datagrams) refl g f
+    where
+      settled : settled_datagrams (calls_of log) ≡ p.datagrams
+      settled = eqb-true (settled_datagrams (calls_of log)) p.datagrams (and_parts (transport_view side log).ready (settled_datagrams (calls_of log) == p.datagrams) q).1
+
+      parsed : (piece : List ℕ) (r : Result (ℕ × List ℕ) ErrorCode) → datagram_of piece ≡ r → slice_get (datagrams_of (events_of log)) p.datagrams ≡ Some piece
+          → after.progress.datagrams ≡ (parsed_datagram r (record p { datagrams = suc p.datagrams })).datagrams → (parsed_datagram r (record p { datagrams = suc p.datagrams })).ending ≡ Some x → EndingCause side log before after x
+      parsed piece (Ok datagram) d e g f = absurd (cc)
+      parsed piece (Err code) d e g f =
+          ending-is (ByFault code) (record p { datagrams = suc p.datagrams }) x
+          (NoDatagram piece code (record { next = ap (slice_get (datagrams_of (events_of log))) (sym s) ∙ e; settled = settled ∙ s; counted = g ∙ ap suc s }) d) f
+
+      at-next : (o : Option (List ℕ)) → slice_get (datagrams_of (events_of log)) p.datagrams ≡ o → after.progress.datagrams ≡ (dequeued_datagram o p).datagrams → (dequeued_datagram o p).ending ≡ Some x → EndingCause side log before after x
+      at-next None e g f = absurd (cc)
+      at-next (Some piece) e g f = parsed piece (datagram_of piece) refl e g f
+
+  walk-cause : (s : ℕ × ℕ) (w : SessionWalk) (p : Progress) (x : Ending) → established (calls_of log) ≡ Some s → session_walk_of (drop s.1 (contents log s.0)) (end_of (events_of log) s.0) ≡ w → p.ending ≡ None
+      → (session_ends w (is_over (session_walk_of (drop s.1 (contents log s.0)) ends.Running)) p).ending ≡ Some x → EndingCause side log before after x
+  walk-cause s walks.Running p x e w n f = absurd (cc)
+  walk-cause s (walks.Closed code reason) p x e w n f = ending-is _ p x (SessionClosed s code reason e w) f
+  walk-cause s (walks.Fault code) p x e w n f = ending-is (ByFault code) p x (SessionFault s code e w) f
+
+  session-cause : (o : Option (ℕ × ℕ)) (p : Progress) (x : Ending) → established (calls_of log) ≡ o → p.ending ≡ None → (check_session (transport_view side log) o p).ending ≡ Some x → EndingCause side log before after x
+  session-cause None p x e n f = absurd (cc)
+  session-cause (Some s) p x e n f = walk-cause s (session_walk_of (drop s.1 (contents log s.0)) (end_of (events_of log) s.0)) p x e refl n f
+
+  critical-cause : (b : Bool) (p : Progress) (x : Ending) → (b ≡ true → EndingCause side log before after (ByFault h3.ClosedCriticalStream)) → p.ending ≡ None → (critical_if b p).ending ≡ Some x → EndingCause side log before after x
+  critical-cause true p x c n f = ending-is (ByFault h3.ClosedCriticalStream) p x (c refl) f
+  critical-cause false p x c n f = absurd (cc)
+
+  fault-cause : (o : Option ErrorCode) (p : Progress) (x : Ending) → ((code : ErrorCode) → o ≡ Some code → EndingCause side log before after (ByFault code)) → p.ending ≡ None → (with_fault o p).ending ≡ Some x → EndingCause side log before after x
+  fault-cause None p x c n f = absurd (cc)
+  fault-cause (Some code) p x c n f = ending-is (ByFault code) p x (c code refl) f
+
+  control-cause : (o : Option (ℕ × ℕ)) (p : Progress) (x : Ending) → first_at control_offset after.classified ≡ o → p.ending ≡ None → (check_control (transport_view side log) o p).ending ≡ Some x → EndingCause side log before after x
+  control-cause None p x e n f = absurd (cc)
+  control-cause (Some c) p x e n f = fault-cause (control_walk_of (drop c.1 (contents log c.0)) (end_of (events_of log) c.0)).fault _ x (λ code. ControlFault c code e) n f
+
+  qpack-cause : (o : Option (ℕ × ℕ)) (p : Progress) (x : Ending) → ((c : ℕ × ℕ) → o ≡ Some c → is_running (end_of (events_of log) c.0) ≡ false → EndingCause side log before after (ByFault h3.ClosedCriticalStream)) → p.ending ≡ None
+      → (check_qpack (transport_view side log) o p).ending ≡ Some x → EndingCause side log before after x
+  qpack-cause None p x k n f = absurd (cc)
+  qpack-cause (Some c) p x k n f = critical-cause (not (is_running (end_of (events_of log) c.0))) p x (λ b. k c refl (not-true _ b)) n f
+
+  -- the checks, and from which of them on
+  abbrev view : TransportView
+  view = transport_view side log
+
+  abbrev sorted : Dispatched
+  sorted = dispatched (call_view log) after.classified
+
+  abbrev from_encoder : List (Progress → Progress)
+  from_encoder = check_qpack view sorted.encoder ∷ check_qpack view sorted.decoder ∷ []
+
+  abbrev from_control : List (Progress → Progress)
+  from_control = check_control view sorted.control ∷ from_encoder
+
+  abbrev from_stop : List (Progress → Progress)
+  from_stop = critical_if view.control_stopped ∷ from_control
+
+  abbrev from_session : List (Progress → Progress)
+  from_session = check_session view (established (calls_of log)) ∷ from_stop
+
+  encoder-on : (p : Progress) (x : Ending) → p.ending ≡ None → (in_order from_encoder p).ending ≡ Some x → EndingCause side log before after x
+  encoder-on p x n e =
+      first-check (check_qpack view sorted.encoder) (check_qpack view sorted.decoder ∷ []) p x n e (λ f h. qpack-cause sorted.encoder p x EncoderEnded n f)
+      (λ m g. first-check (check_qpack view sorted.decoder) [] (check_qpack view sorted.encoder p) x m g (λ f h. qpack-cause sorted.decoder (check_qpack view sorted.encoder p) x DecoderEnded m f) (λ k h. absurd (cc)))
+
+  control-on : (p : Progress) (x : Ending) → p.ending ≡ None → (in_order from_control p).ending ≡ Some x → EndingCause side log before after x
+  control-on p x n e = first-check (check_control view sorted.control) from_encoder p x n e (λ f h. control-cause sorted.control p x refl n f) (λ m g. encoder-on (check_control view sorted.control p) x m g)
+
+  stop-on : (p : Progress) (x : Ending) → p.ending ≡ None → (in_order from_stop p).ending ≡ Some x → EndingCause side log before after x
+  stop-on p x n e = first-check (critical_if view.control_stopped) from_control p x n e (λ f h. critical-cause view.control_stopped p x ControlStopped n f) (λ m g. control-on (critical_if view.control_stopped p) x m g)
+
+  session-on : (p : Progress) (x : Ending) → p.ending ≡ None → (in_order from_session p).ending ≡ Some x → EndingCause side log before after x
+  session-on p x n e =
+      first-check (check_session view (established (calls_of log))) from_stop p x n e (λ f h. session-cause (established (calls_of log)) p x refl n f) (λ m g. stop-on (check_session view (established (calls_of log)) p) x m g)
+
+  checks-cause : (p : Progress) (x : Ending) → p.ending ≡ None → p.datagrams ≡ before.progress.datagrams → after.progress ≡ in_order (checks view (call_view log) sorted) p → (in_order (checks view (call_view log) sorted) p).ending ≡ Some x → EndingCause side log before after x
+  checks-cause p x n s g e =
+      first-check (λ u. check_datagram (view.ready && settled_datagrams (calls_of log) == u.datagrams) view u) from_session p x n e
+      (λ f h. datagram-cause (view.ready && settled_datagrams (calls_of log) == p.datagrams) p x refl n s (ap (λ (z : Progress). z.datagrams) (g ∙ h)) f)
+      (λ m k. session-on (check_datagram (view.ready && settled_datagrams (calls_of log) == p.datagrams) view p) x m k)
+
+-- ---- a moment that ends the connection
+
+module _ (side : Side) (log : Log) (before : StreamTable) (n : before.progress.ending ≡ None) where
+  -- the table behind each part of the moment
+  abbrev pub unis : StreamTable
+  unis = scan_unis (transport_view side log) (call_view log) (without_stops before)
+
+  abbrev pub bis : StreamTable
+  bis = scan_bis (transport_view side log) (call_view log) unis
+
+  abbrev pub last : StreamTable
+  last = scan_order (transport_view side log) (call_view log) before
+
+  pub bis-stay : (y : Ending) → unis.progress.ending ≡ Some y → bis ≡ unis
+  bis-stay y e = ap (λ (s : Scan). s.table) (scan-stays (is_ready side log) (call_view log) (bi_rule (transport_view side log)) (bi_ids (transport_view side log)) (record { occupied = 0; table = unis }) y e)
+
+  pub last-stays : (y : Ending) → bis.progress.ending ≡ Some y → last ≡ bis
+  last-stays y e = ap (with_progress bis) (checks-stay (checks (transport_view side log) (call_view log) (dispatched (call_view log) bis.classified)) bis.progress y e)
+
+  pub unis-end : (x : Ending) → unis.progress.ending ≡ Some x → UniEnds side log before unis x
+  unis-end x f =
+      scan-ends (is_ready side log) (call_view log) (uni_rule (transport_view side log)) (λ k. is_among (peer_uni side) (peer_count side (events_of log) (peer_uni side)) k ≡ true) (uni_ids (transport_view side log)) (record { occupied = 0; table = without_stops before })
+      (of-ids _ (peer_uni side) 0 _ (peer_count side (events_of log) (peer_uni side)) (small-uni side) (omega arith) (λ k a. a)) n x f
+
+  pub bis-end : unis.progress.ending ≡ None → (x : Ending) → bis.progress.ending ≡ Some x → BiEnds side log before bis x
+  bis-end u x f =
+      ends-earlier before.classified unis.classified bis x
+      (scan-grows (is_ready side log) (call_view log) (uni_rule (transport_view side log)) (uni_ids (transport_view side log)) (record { occupied = 0; table = without_stops before }))
+      (scan-ends (is_ready side log) (call_view log) (bi_rule (transport_view side log)) (λ k. is_among (peer_bi side) (peer_count side (events_of log) (peer_bi side)) k ≡ true) (bi_ids (transport_view side log)) (record { occupied = 0; table = unis })
+      (of-ids _ (peer_bi side) 0 _ (peer_count side (events_of log) (peer_bi side)) (small-bi side) (omega arith) (λ k a. a)) u x f)
+
+  moment-ends : (x : Ending) → last.progress.ending ≡ Some x → EndingCause side log before last x
+  moment-ends x f = at-unis unis.progress.ending refl
+    where
+      at-bis : (o : Option Ending) → bis.progress.ending ≡ o → unis.progress.ending ≡ None → EndingCause side log before last x
+      at-bis (Some y) e u =
+          let w = last-stays y e in
+          subst (λ (t : StreamTable). EndingCause side log before t x) (sym w) (bi-cause side log before bis x (bis-end u x (ap (λ (t : StreamTable). t.progress.ending) (sym w) ∙ f)))
+      at-bis None e u = checks-cause side log before last bis.progress x e (scan-datagrams (transport_view side log) (call_view log) (without_stops before)) refl f
+
+      at-unis : (o : Option Ending) → unis.progress.ending ≡ o → EndingCause side log before last x
+      at-unis (Some y) e =
+          let b = bis-stay y e in
+          let w = last-stays y (ap (λ (t : StreamTable). t.progress.ending) b ∙ e) ∙ b in
+          subst (λ (t : StreamTable). EndingCause side log before t x) (sym w) (uni-cause side log before unis x (unis-end x (ap (λ (t : StreamTable). t.progress.ending) (sym w) ∙ f)))
+      at-unis None e = at-bis bis.progress.ending refl e
 
 -- ---- the laws
 
-ends-kept : (side : Side) (log : Log) → IsKept (causes side log) (λ t. (x : Ending) → t.progress.ending ≡ Some x → EndingCause side log t.classified x)
-ends-kept side log = record {
-  by_ending = λ t e c p x q. let y : e ≡ x = cc in subst (EndingCause side log t.classified) y c;
-  by_moment = λ t p. p;
-  by_settings = λ t b c p. p;
-  by_datagram = λ t c p. p;
-  by_dequeued = λ t k p. p;
-  by_classified = λ t k v e c n still p. classified-ends side log t (record { id = k; verdict = v; surplus = e.surplus }) k v e n c;
-}
-
 pub ends-for-cause : (side : Side) (e : Entry) (log : Log) → EndsForCause side e log
-ends-for-cause side e log x n q = kept (λ t. (x : Ending) → t.progress.ending ≡ Some x → EndingCause side (e ∷ log) t.classified x) side e log (ends-kept side (e ∷ log)) (λ y z. absurd (cc)) x q
+unfolding stream_table
+ends-for-cause side e log x n q = at (is_moment e && is_open (e ∷ log)) q
+  where
+    at : (b : Bool) → (after-entry side e log b).progress.ending ≡ Some x → EndingCause side (e ∷ log) (stream_table side log) (after-entry side e log b) x
+    at true q = moment-ends side (e ∷ log) (stream_table side log) n x q
+    at false q = absurd (cc)
 
 read-kept : (side : Side) (log : Log) → IsKept (causes side log) (λ t. t.progress.settings ≡ true → SettingsRead side log t.classified)
 read-kept side log = record {
-  by_ending = λ t e c p. p;
+  by_ending = λ t e p. p;
   by_moment = λ t p. p;
   by_settings = λ t b c p q. from-or t.progress.settings b p c q;
   by_datagram = λ t c p. p;

@@ -12,6 +12,7 @@ pub mod RequestLaws
 pub mod SessionLaws
 pub mod ReadLaws
 pub mod DatagramLaws
+pub mod DatagramTold
 pub mod EndLaws
 pub mod AfterEnd
 pub mod Cutting
@@ -36,8 +37,12 @@ pub mod Recorded
 pub mod TurnCauses
 pub mod GivenOnce
 pub mod RequestTold
+pub mod Endings
 pub mod FaultLaws
 pub mod FaultlessLaws
 pub mod NoFault
 pub mod OnceLaws
 pub mod DatagramOrEnds
+pub mod FirstFault
+pub mod EndingOut
+pub mod PendingOut

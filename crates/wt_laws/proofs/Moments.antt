@@ -1,37 +1,35 @@
 -- What each moment keeps of the driver's table: a property that every way of writing the table keeps.
-use Rattle.std.specs.Prelude.{[], ◌%◌, ◌&&◌, ◌*◌, ◌+◌, ◌/◌, ◌<◌, ◌==◌, ◌||◌, ◌∷◌, ◌≡◌, Bool, Err, List, None, Ok, Option, Result, Some, drop, false, if◌then◌else◌, is_some, nat_lt, not, slice_get, suc, true, zero, ℕ}
+use Rattle.std.specs.Prelude.{[], ◌%◌, ◌&&◌, ◌*◌, ◌+◌, ◌/◌, ◌<◌, ◌==◌, ◌||◌, ◌∷◌, ◌≡◌, Bool, Err, List, None, Ok, Option, Result, Some, drop, false, if◌then◌else◌, is_some, nat_lt, slice_get, suc, true, zero, ℕ}
 use Rattle.std.proofs.Common.{arith, refl, subst}
-use Rattle.std.proofs.lemmas.Bool.{eq-eqb, lt-ltb, ltb-true, not-true}
+use Rattle.std.proofs.lemmas.Bool.{eq-eqb, lt-ltb, ltb-true}
 use Rattle.wt_proto.specs.Bi.{bi_verdict_of}
 use Rattle.wt_message.specs.Datagram.{datagram_of}
 use Rattle.wt_proto.specs.ControlWalk.{control_walk_of}
-use Rattle.wt_proto.specs.SessionWalk.{is_over, session_walk_of}
+use Rattle.wt_proto.specs.SessionWalk.{session_walk_of}
 use Rattle.wt_proto.specs.Uni.{is_final, uni_verdict_of}
 use Rattle.wt_proto.specs.declared.session_walk.SessionWalk.{SessionWalk}
 use Rattle.wt_proto.specs.declared.verdict.Verdict.{Verdict}
-use Rattle.wt_seam_spec.specs.Reports.{datagrams_of, end_of, is_running}
+use Rattle.wt_seam_spec.specs.Reports.{datagrams_of, end_of}
 use Rattle.wt_seam_spec.specs.Streams.{contents, peer_bi, peer_count, peer_uni}
 use Rattle.wt_turn.specs.Log.{Entry, Log, events_of, is_open}
 use Rattle.wt_wire.specs.declared.error.ErrorCode.{ErrorCode}
 use Rattle.wt_wire.specs.declared.side.Side.{Side}
 use Rattle.wt_wire.specs.declared.side.Side.TheVariants.{Client, Server}
-use Rattle.wt_laws.specs.Faults.{ControlFault, ControlStopped, DecoderEnded, EncoderEnded, EndingCause, NoDatagram, SessionClosed, SessionFault, SettingsRead}
+use Rattle.wt_laws.specs.Faults.{SettingsRead}
 use Rattle.wt_laws.specs.Reachable.{is_among}
 use Rattle.wt_spec.specs.Driver.{apply_if, call_view, is_moment, stream_table, transport_view}
 use Rattle.wt_spec.specs.Scan.{Scan, SlotRule, bi_ids, bi_rule, check_control, check_datagram, check_qpack, check_session, checks, classify, critical_if, dequeue, dequeued_datagram, ended_by, has, in_order, parsed_datagram, scan, scan_bis, scan_order, scan_unis, session_ends, stream_ids, uni_ids, uni_rule, unless_ended, visit, with_classified, with_fault, without_stops}
 use Rattle.wt_spec.specs.StreamTable.{ByFault, BySession, CallView, Classified, Consequence, Dispatched, Ending, Progress, StreamTable, TransportView, bi_consequence, dispatched, uni_consequence, verdict_of}
-use Rattle.wt_wire.specs.declared.side.StreamEnd.TheVariants as ends
 use Rattle.wt_wire.specs.declared.error.ErrorCode.TheVariants as h3
 use Rattle.wt_proto.specs.declared.session_walk.SessionWalk.TheVariants as walks
 
 -- ---- the ways in which a moment writes the table
 
--- why a stream is classified, at the table so far, why one more datagram is dequeued, and, with these streams classified, why the
--- connection ends and why SETTINGS came
+-- why a stream is classified, at the table so far, why one more datagram is dequeued, and, with these streams classified, why
+-- SETTINGS came (why the connection ends: `Endings`)
 pub record Causes : Type 1 where
   pub classified : StreamTable → ℕ → Verdict → Consequence → Type 0
   pub datagram : ℕ → Type 0
-  pub ending : List Classified → Ending → Type 0
   pub settings : List Classified → Type 0
 
 abbrev pub with_progress : StreamTable → Progress → StreamTable
@@ -39,7 +37,7 @@ with_progress t p = record t { progress = p }
 
 -- a property that each way keeps
 pub record IsKept (c : Causes) (P : StreamTable → Type 0) : Type 0 where
-  pub by_ending : (t : StreamTable) (e : Ending) → c.ending t.classified e → P t → P (with_progress t (ended_by e t.progress))
+  pub by_ending : (t : StreamTable) (e : Ending) → P t → P (with_progress t (ended_by e t.progress))
   pub by_moment : (t : StreamTable) → P t → P (without_stops t)
   pub by_settings : (t : StreamTable) (b : Bool) → (b ≡ true → c.settings t.classified) → P t → P (with_progress t (record t.progress { settings = t.progress.settings || b }))
   pub by_datagram : (t : StreamTable) → c.datagram t.progress.datagrams → P t → P (with_progress t (record t.progress { datagrams = suc t.progress.datagrams }))
@@ -56,9 +54,13 @@ abbrev pub CausedBy : Causes → CallView → SlotRule → ℕ → Type 0
 CausedBy c calls rule k =
     is_final (rule.verdict k) ≡ true → (t : StreamTable) → c.classified t k (rule.verdict k) (rule.consequence (dispatched calls t.classified) k (rule.verdict k))
 
+-- it holds of each of these
+abbrev pub OfEach : (ℕ → Type 0) → List ℕ → Type 0
+OfEach P [] = Unit {0}
+OfEach P (k ∷ ks) = P k × OfEach P ks
+
 abbrev pub AllCaused : Causes → CallView → SlotRule → List ℕ → Type 0
-AllCaused c calls rule [] = Unit {0}
-AllCaused c calls rule (k ∷ ks) = CausedBy c calls rule k × AllCaused c calls rule ks
+AllCaused c calls rule ks = OfEach (CausedBy c calls rule) ks
 
 module _ {c : Causes} (P : StreamTable → Type 0) (i : IsKept c P) (calls : CallView) (rule : SlotRule) where
   kept-classify : (b : Bool) (k : ℕ) (s : Scan) → is_final (rule.verdict k) ≡ b → CausedBy c calls rule k → verdict_of k s.table.classified ≡ None → s.table.progress.ending ≡ None → P s.table → P (classify b calls rule k s).table
@@ -89,51 +91,39 @@ module _ {c : Causes} (P : StreamTable → Type 0) (i : IsKept c P) (calls : Cal
 
 -- ---- the checks
 
--- what the checks behind the scan find is a cause
-pub record CheckCauses (c : Causes) (cs : List Classified) (t : TransportView) (session : Option (ℕ × ℕ)) (d : Dispatched) : Type 0 where
+-- what the checks behind the scan dequeue and read has a cause
+pub record CheckCauses (c : Causes) (cs : List Classified) (t : TransportView) (d : Dispatched) : Type 0 where
   pub datagram : (n : ℕ) → is_some (t.datagram n) ≡ true → c.datagram n
-  pub no_datagram : (n : ℕ) (piece : List ℕ) (code : ErrorCode) → t.datagram n ≡ Some piece → datagram_of piece ≡ Err code → c.ending cs (ByFault code)
-  pub session_fault : (s : ℕ × ℕ) (code : ErrorCode) → session ≡ Some s → session_walk_of (drop s.1 (t.contents s.0)) (t.end s.0) ≡ walks.Fault code → c.ending cs (ByFault code)
-  pub session_closed : (s : ℕ × ℕ) (code : ℕ) (reason : List ℕ) → session ≡ Some s → session_walk_of (drop s.1 (t.contents s.0)) (t.end s.0) ≡ walks.Closed code reason
-      → c.ending cs (BySession code reason (is_over (session_walk_of (drop s.1 (t.contents s.0)) ends.Running)))
-  pub stopped : t.control_stopped ≡ true → c.ending cs (ByFault h3.ClosedCriticalStream)
-  pub control_fault : (x : ℕ × ℕ) (code : ErrorCode) → d.control ≡ Some x → (control_walk_of (drop x.1 (t.contents x.0)) (t.end x.0)).fault ≡ Some code → c.ending cs (ByFault code)
   pub settings : (x : ℕ × ℕ) → d.control ≡ Some x → is_some (control_walk_of (drop x.1 (t.contents x.0)) (t.end x.0)).settings ≡ true → c.settings cs
-  pub encoder : (x : ℕ × ℕ) → d.encoder ≡ Some x → not (is_running (t.end x.0)) ≡ true → c.ending cs (ByFault h3.ClosedCriticalStream)
-  pub decoder : (x : ℕ × ℕ) → d.decoder ≡ Some x → not (is_running (t.end x.0)) ≡ true → c.ending cs (ByFault h3.ClosedCriticalStream)
 
 module _ {c : Causes} (P : StreamTable → Type 0) (i : IsKept c P) (table : StreamTable) where
   abbrev At : Progress → Type 0
   At p = P (with_progress table p)
 
-  -- an ending by this fault has a cause
-  abbrev Faults : ErrorCode → Type 0
-  Faults code = c.ending table.classified (ByFault code)
+  kept-critical : (b : Bool) (p : Progress) → At p → At (critical_if b p)
+  kept-critical true p h = i.by_ending (with_progress table p) (ByFault h3.ClosedCriticalStream) h
+  kept-critical false p h = h
 
-  kept-critical : (b : Bool) (p : Progress) → (b ≡ true → Faults h3.ClosedCriticalStream) → At p → At (critical_if b p)
-  kept-critical true p f h = i.by_ending (with_progress table p) (ByFault h3.ClosedCriticalStream) (f refl) h
-  kept-critical false p f h = h
+  kept-parsed : (r : Result (ℕ × List ℕ) ErrorCode) (p : Progress) → At p → At (parsed_datagram r p)
+  kept-parsed (Ok d) p h = h
+  kept-parsed (Err code) p h = i.by_ending (with_progress table p) (ByFault code) h
 
-  kept-parsed : (r : Result (ℕ × List ℕ) ErrorCode) (p : Progress) → ((code : ErrorCode) → r ≡ Err code → Faults code) → At p → At (parsed_datagram r p)
-  kept-parsed (Ok d) p f h = h
-  kept-parsed (Err code) p f h = i.by_ending (with_progress table p) (ByFault code) (f code refl) h
+  kept-datagram : (o : Option (List ℕ)) (p : Progress) → (is_some o ≡ true → c.datagram p.datagrams) → At p → At (dequeued_datagram o p)
+  kept-datagram None p q h = h
+  kept-datagram (Some piece) p q h = kept-parsed (datagram_of piece) (record p { datagrams = suc p.datagrams }) (i.by_datagram (with_progress table p) (q refl) h)
 
-  kept-datagram : (o : Option (List ℕ)) (p : Progress) → (is_some o ≡ true → c.datagram p.datagrams) → ((piece : List ℕ) (code : ErrorCode) → o ≡ Some piece → datagram_of piece ≡ Err code → Faults code) → At p → At (dequeued_datagram o p)
-  kept-datagram None p q f h = h
-  kept-datagram (Some piece) p q f h = kept-parsed (datagram_of piece) (record p { datagrams = suc p.datagrams }) (λ code e. f piece code refl e) (i.by_datagram (with_progress table p) (q refl) h)
+  kept-session-ends : (w : SessionWalk) (b : Bool) (p : Progress) → At p → At (session_ends w b p)
+  kept-session-ends walks.Running b p h = h
+  kept-session-ends (walks.Closed code reason) b p h = i.by_ending (with_progress table p) (BySession code reason b) h
+  kept-session-ends (walks.Fault code) b p h = i.by_ending (with_progress table p) (ByFault code) h
 
-  kept-session-ends : (w : SessionWalk) (b : Bool) (p : Progress) → ((code : ErrorCode) → w ≡ walks.Fault code → Faults code) → ((code : ℕ) (reason : List ℕ) → w ≡ walks.Closed code reason → c.ending table.classified (BySession code reason b)) → At p → At (session_ends w b p)
-  kept-session-ends walks.Running b p f g h = h
-  kept-session-ends (walks.Closed code reason) b p f g h = i.by_ending (with_progress table p) (BySession code reason b) (g code reason refl) h
-  kept-session-ends (walks.Fault code) b p f g h = i.by_ending (with_progress table p) (ByFault code) (f code refl) h
+  kept-with-fault : (o : Option ErrorCode) (p : Progress) → At p → At (with_fault o p)
+  kept-with-fault None p h = h
+  kept-with-fault (Some code) p h = i.by_ending (with_progress table p) (ByFault code) h
 
-  kept-with-fault : (o : Option ErrorCode) (p : Progress) → ((code : ErrorCode) → o ≡ Some code → Faults code) → At p → At (with_fault o p)
-  kept-with-fault None p f h = h
-  kept-with-fault (Some code) p f h = i.by_ending (with_progress table p) (ByFault code) (f code refl) h
-
-  kept-qpack : (t : TransportView) (o : Option (ℕ × ℕ)) (p : Progress) → ((x : ℕ × ℕ) → o ≡ Some x → not (is_running (t.end x.0)) ≡ true → Faults h3.ClosedCriticalStream) → At p → At (check_qpack t o p)
-  kept-qpack t None p f h = h
-  kept-qpack t (Some x) p f h = kept-critical _ p (f x refl) h
+  kept-qpack : (t : TransportView) (o : Option (ℕ × ℕ)) (p : Progress) → At p → At (check_qpack t o p)
+  kept-qpack t None p h = h
+  kept-qpack t (Some x) p h = kept-critical _ p h
 
   abbrev AllKeep : List (Progress → Progress) → Type 0
   AllKeep [] = Unit {0}
@@ -147,33 +137,27 @@ module _ {c : Causes} (P : StreamTable → Type 0) (i : IsKept c P) (table : Str
   kept-in-order [] a p h = h
   kept-in-order (f ∷ fs) a p h = kept-in-order fs a.1 _ (kept-check f a.0 p.ending p h)
 
-  module _ (t : TransportView) (calls : CallView) (d : Dispatched) (q : CheckCauses c table.classified t calls.session d) where
+  module _ (t : TransportView) (calls : CallView) (d : Dispatched) (q : CheckCauses c table.classified t d) where
     kept-check-datagram : (b : Bool) (p : Progress) → At p → At (check_datagram b t p)
-    kept-check-datagram true p h = kept-datagram (t.datagram p.datagrams) p (q.datagram p.datagrams) (λ piece code. q.no_datagram p.datagrams piece code) h
+    kept-check-datagram true p h = kept-datagram (t.datagram p.datagrams) p (q.datagram p.datagrams) h
     kept-check-datagram false p h = h
 
-    kept-session : (o : Option (ℕ × ℕ)) → calls.session ≡ o → (p : Progress) → At p → At (check_session t o p)
-    kept-session None e p h = h
-    kept-session (Some s) e p h = kept-session-ends (session_walk_of (drop s.1 (t.contents s.0)) (t.end s.0)) _ p (λ code. q.session_fault s code e) (λ code reason. q.session_closed s code reason e) h
+    kept-session : (o : Option (ℕ × ℕ)) (p : Progress) → At p → At (check_session t o p)
+    kept-session None p h = h
+    kept-session (Some s) p h = kept-session-ends (session_walk_of (drop s.1 (t.contents s.0)) (t.end s.0)) _ p h
 
     kept-control : (o : Option (ℕ × ℕ)) → d.control ≡ o → (p : Progress) → At p → At (check_control t o p)
     kept-control None e p h = h
-    kept-control (Some x) e p h = kept-with-fault _ _ (λ code. q.control_fault x code e) (i.by_settings (with_progress table p) _ (q.settings x e) h)
+    kept-control (Some x) e p h = kept-with-fault _ _ (i.by_settings (with_progress table p) _ (q.settings x e) h)
 
     kept-checks : (p : Progress) → At p → At (in_order (checks t calls d) p)
     kept-checks p h = kept-in-order (checks t calls d) (
       (λ u g. kept-check-datagram (t.ready && calls.datagrams == u.datagrams) u g),
       (
-        (λ u g. kept-session calls.session refl u g),
+        (λ u g. kept-session calls.session u g),
         (
-          (λ u g. kept-critical t.control_stopped u q.stopped g),
-          (
-            (λ u g. kept-control d.control refl u g),
-            (
-              (λ u g. kept-qpack t d.encoder u q.encoder g),
-              ((λ u g. kept-qpack t d.decoder u q.decoder g), tt),
-            ),
-          ),
+          (λ u g. kept-critical t.control_stopped u g),
+          ((λ u g. kept-control d.control refl u g), ((λ u g. kept-qpack t d.encoder u g), ((λ u g. kept-qpack t d.decoder u g), tt))),
         ),
       ),
     ) p h
@@ -191,23 +175,12 @@ abbrev pub causes : Side → Log → Causes
 causes side log = record {
   classified = ClassifiedAs side log;
   datagram = λ n. is_some (slice_get (datagrams_of (events_of log)) n) ≡ true;
-  ending = EndingCause side log;
   settings = SettingsRead side log;
 }
 
--- what the checks find at this log is a cause
-check-causes : (side : Side) (log : Log) (cs : List Classified) → CheckCauses (causes side log) cs (transport_view side log) (call_view log).session (dispatched (call_view log) cs)
-check-causes side log cs = record {
-  datagram = λ n e. e;
-  no_datagram = NoDatagram;
-  session_fault = SessionFault;
-  session_closed = SessionClosed;
-  stopped = ControlStopped;
-  control_fault = ControlFault;
-  settings = λ x e r. record { control = x; first = e; read = r };
-  encoder = λ x e r. EncoderEnded x e (not-true _ r);
-  decoder = λ x e r. DecoderEnded x e (not-true _ r);
-}
+-- what the checks dequeue and read at this log has a cause
+check-causes : (side : Side) (log : Log) (cs : List Classified) → CheckCauses (causes side log) cs (transport_view side log) (dispatched (call_view log) cs)
+check-causes side log cs = record { datagram = λ n e. e; settings = λ x e r. record { control = x; first = e; read = r } }
 
 is-among : (kind n count : ℕ) → nat_lt kind 4 ≡ true → is_among kind (n + suc count) (4 * n + kind) ≡ true
 is-among kind n count e =
@@ -216,30 +189,36 @@ is-among kind n count e =
     let d : (4 * n + kind) / 4 < n + suc count = omega arith in
     rw (eq-eqb ((4 * n + kind) % 4) kind m, lt-ltb ((4 * n + kind) / 4) (n + suc count) d) refl
 
-caused-ids : (c : Causes) (calls : CallView) (rule : SlotRule) (kind n count total : ℕ) → nat_lt kind 4 ≡ true → n + count ≡ total
-    → ((k : ℕ) → is_among kind total k ≡ true → CausedBy c calls rule k) → AllCaused c calls rule (stream_ids kind n count)
-caused-ids c calls rule kind n zero total l e f = tt
-caused-ids c calls rule kind n (suc count) total l e f =
-    (f (4 * n + kind) (subst (λ t. is_among kind t (4 * n + kind) ≡ true) e (is-among kind n count l)), caused-ids c calls rule kind (suc n) count total l (omega arith) f)
+-- what holds of all streams of a kind holds of each of these ids
+pub of-ids : (P : ℕ → Type 0) (kind n count total : ℕ) → nat_lt kind 4 ≡ true → n + count ≡ total → ((k : ℕ) → is_among kind total k ≡ true → P k) → OfEach P (stream_ids kind n count)
+of-ids P kind n zero total l e f = tt
+of-ids P kind n (suc count) total l e f = (f (4 * n + kind) (subst (λ t. is_among kind t (4 * n + kind) ≡ true) e (is-among kind n count l)), of-ids P kind (suc n) count total l (omega arith) f)
 
-small-uni : (side : Side) → nat_lt (peer_uni side) 4 ≡ true
+pub small-uni : (side : Side) → nat_lt (peer_uni side) 4 ≡ true
 small-uni Client = refl
 small-uni Server = refl
 
-small-bi : (side : Side) → nat_lt (peer_bi side) 4 ≡ true
+pub small-bi : (side : Side) → nat_lt (peer_bi side) 4 ≡ true
 small-bi Client = refl
 small-bi Server = refl
+
+-- behind the scans, before the checks
+pub kept-streams : (P : StreamTable → Type 0) (side : Side) (log : Log) → IsKept (causes side log) P → (t : StreamTable) → P (without_stops t)
+    → P (scan_bis (transport_view side log) (call_view log) (scan_unis (transport_view side log) (call_view log) (without_stops t)))
+kept-streams P side log i t p =
+    let v = transport_view side log in
+    let calls = call_view log in
+    let unis = kept-scan P i calls (uni_rule v) v.ready (uni_ids v) (record { occupied = 0; table = without_stops t })
+    (of-ids (CausedBy (causes side log) calls (uni_rule v)) (peer_uni side) 0 v.unis v.unis (small-uni side) (omega arith) (λ k o f u. AsUni o refl f refl)) p in
+    kept-scan P i calls (bi_rule v) v.ready (bi_ids v) (record { occupied = 0; table = scan_unis v calls (without_stops t) })
+    (of-ids (CausedBy (causes side log) calls (bi_rule v)) (peer_bi side) 0 v.bis v.bis (small-bi side) (omega arith) (λ k o f u. AsBi o refl f refl)) unis
 
 pub kept-moment : (P : StreamTable → Type 0) (side : Side) (log : Log) → IsKept (causes side log) P → (t : StreamTable) → P (without_stops t) → P (scan_order (transport_view side log) (call_view log) t)
 kept-moment P side log i t p =
     let v = transport_view side log in
     let calls = call_view log in
-    let unis = kept-scan P i calls (uni_rule v) v.ready (uni_ids v) (record { occupied = 0; table = without_stops t })
-    (caused-ids (causes side log) calls (uni_rule v) (peer_uni side) 0 v.unis v.unis (small-uni side) (omega arith) (λ k o f u. AsUni o refl f refl)) p in
-    let bis = kept-scan P i calls (bi_rule v) v.ready (bi_ids v) (record { occupied = 0; table = scan_unis v calls (without_stops t) })
-    (caused-ids (causes side log) calls (bi_rule v) (peer_bi side) 0 v.bis v.bis (small-bi side) (omega arith) (λ k o f u. AsBi o refl f refl)) unis in
     let table = scan_bis v calls (scan_unis v calls (without_stops t)) in
-    kept-checks P i table v calls (dispatched calls table.classified) (check-causes side log table.classified) table.progress bis
+    kept-checks P i table v calls (dispatched calls table.classified) (check-causes side log table.classified) table.progress (kept-streams P side log i t p)
 
 kept-if : (P : StreamTable → Type 0) (f : StreamTable → StreamTable) → KeepsTable P f → (b : Bool) → KeepsTable P (apply_if b f)
 kept-if P f k true t p = k t p

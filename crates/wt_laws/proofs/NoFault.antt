@@ -1,4 +1,4 @@
--- While the driver ended nothing, no classified stream has a fault.
+-- While the driver ended nothing, no classified stream has a fault; one that has a fault is classified last.
 use Rattle.std.specs.Prelude.{[], ◌++◌, ◌∷◌, ◌≡◌, List, None, Option, Some, false, ℕ}
 use Rattle.std.proofs.Common.{◌∙◌, ap, refl, sym}
 use Rattle.wt_proto.specs.declared.verdict.Verdict.{Verdict}
@@ -6,7 +6,7 @@ use Rattle.wt_turn.specs.Log.{Log}
 use Rattle.wt_wire.specs.declared.error.ErrorCode.{ErrorCode}
 use Rattle.wt_wire.specs.declared.side.Side.{Side}
 use Rattle.wt_laws.proofs.Moments.{AsBi, AsUni, ClassifiedAs, IsKept, causes, kept}
-use Rattle.wt_laws.specs.Faults.{NoneFaulty, StreamsFaultless, is_fault}
+use Rattle.wt_laws.specs.Faults.{FaultIsLast, NoneFaulty, StreamsFaultless, is_fault}
 use Rattle.wt_spec.specs.Driver.{call_view, stream_table}
 use Rattle.wt_spec.specs.Scan.{fault_ending}
 use Rattle.wt_spec.specs.StreamTable.{Classified, Consequence, Dispatched, StreamTable, bi_consequence, dispatched, uni_consequence}
@@ -39,17 +39,31 @@ classified-none : (side : Side) (log : Log) (t : StreamTable) (k : ℕ) (v : Ver
 classified-none side log t k v e (AsUni a u f c) n = uni-none (dispatched (call_view log) t.classified) k v (same-fault e _ c n)
 classified-none side log t k v e (AsBi a u f c) n = bi-none (dispatched (call_view log) t.classified) k v (same-fault e _ c n)
 
-faultless-kept : (side : Side) (log : Log) → IsKept (causes side log) (λ t. t.progress.ending ≡ None → NoneFaulty t.classified)
+fault-last : (cs : List Classified) (x : Classified) → NoneFaulty cs → FaultIsLast (cs ++ x ∷ [])
+fault-last [] x n = (λ f. refl, tt)
+fault-last (c ∷ cs) x n = (λ f. absurd (let y = n.0 in cc), fault-last cs x n.1)
+
+-- none has a fault while nothing is ended, and one that has is the last
+abbrev pub Faultless : StreamTable → Type 0
+Faultless t = (t.progress.ending ≡ None → NoneFaulty t.classified) × FaultIsLast t.classified
+
+pub faultless-kept : (side : Side) (log : Log) → IsKept (causes side log) Faultless
 faultless-kept side log = record {
-  by_ending = λ t e c p q. absurd (cc);
+  by_ending = λ t e p. (λ q. absurd (cc), p.1);
   by_moment = λ t p. p;
   by_settings = λ t b c p. p;
   by_datagram = λ t c p. p;
   by_dequeued = λ t k p. p;
-  by_classified = λ t k v e c n still p q. none-more t.classified (record { id = k; verdict = v; surplus = e.surplus }) (p still) (classified-none side log t k v e c q);
+  by_classified = λ t k v e c n still p. (
+    λ q. none-more t.classified (record { id = k; verdict = v; surplus = e.surplus }) (p.0 still) (classified-none side log t k v e c q),
+    fault-last t.classified (record { id = k; verdict = v; surplus = e.surplus }) (p.0 still),
+  );
 }
 
-pub streams-faultless : (side : Side) (log : Log) → StreamsFaultless side log
+pub faultless : (side : Side) (log : Log) → Faultless (stream_table side log)
 unfolding stream_table
-streams-faultless side [] = λ n. tt
-streams-faultless side (e ∷ log) = kept (λ t. t.progress.ending ≡ None → NoneFaulty t.classified) side e log (faultless-kept side (e ∷ log)) (streams-faultless side log)
+faultless side [] = (λ n. tt, tt)
+faultless side (e ∷ log) = kept Faultless side e log (faultless-kept side (e ∷ log)) (faultless side log)
+
+pub streams-faultless : (side : Side) (log : Log) → StreamsFaultless side log
+streams-faultless side log = let p = faultless side log in record { none = p.0; last = p.1 }

@@ -33,7 +33,7 @@ use Rattle.wt_wire.specs.declared.side.StreamEnd.TheVariants as ends
 -- ---- a bidirectional stream is none of them
 
 -- the verdict is that of a stream that comes once
-abbrev is_once : Verdict → Bool
+abbrev pub is_once : Verdict → Bool
 is_once (verdicts.Control at) = true
 is_once (verdicts.Encoder at) = true
 is_once (verdicts.Decoder at) = true
@@ -101,11 +101,11 @@ or-not-once : (o : Option Verdict) (v : Verdict) → NotOnce o → is_once v ≡
 or-not-once None v p q = q
 or-not-once (Some w) v p q = p
 
-bi-not-once : (bytes : List ℕ) (end : StreamEnd) → is_once (bi_verdict_of bytes end) ≡ false
+pub bi-not-once : (bytes : List ℕ) (end : StreamEnd) → is_once (bi_verdict_of bytes end) ≡ false
 unfolding bi_verdict_of
 bi-not-once bytes end = or-not-once (walk bi_decides 0 None 0 bytes).stop _ (walk-not-once bi_decides decides-not-once bytes 0 None 0 tt) (unfinished-not-once end)
 
-no-offset : (offset : Verdict → Option ℕ) → ComesOnce offset → (v : Verdict) → is_once v ≡ false → offset v ≡ None
+pub no-offset : (offset : Verdict → Option ℕ) → ComesOnce offset → (v : Verdict) → is_once v ≡ false → offset v ≡ None
 no-offset _ ControlOnce (verdicts.Control m) e = absurd (cc)
 no-offset _ ControlOnce _ e = refl
 no-offset _ EncoderOnce (verdicts.Encoder m) e = absurd (cc)
@@ -161,9 +161,9 @@ classified-once side log offset c t k v e (AsUni a u f q) n p = uni-once offset 
 classified-once side log offset c t k v e (AsBi a u f q) n p =
     one-other offset t.classified (record { id = k; verdict = v; surplus = e.surplus }) (no-offset offset c v (ap is_once (sym u) ∙ bi-not-once (contents log k) (end_of (events_of log) k))) p
 
-once-kept : (side : Side) (log : Log) (offset : Verdict → Option ℕ) → ComesOnce offset → IsKept (causes side log) (λ t. t.progress.ending ≡ None → AtMostOne offset t.classified)
+pub once-kept : (side : Side) (log : Log) (offset : Verdict → Option ℕ) → ComesOnce offset → IsKept (causes side log) (λ t. t.progress.ending ≡ None → AtMostOne offset t.classified)
 once-kept side log offset c = record {
-  by_ending = λ t e x p q. absurd (cc);
+  by_ending = λ t e p q. absurd (cc);
   by_moment = λ t p. p;
   by_settings = λ t b x p. p;
   by_datagram = λ t x p. p;

@@ -77,7 +77,7 @@ record Ordered (kind : ℕ) (t : StreamTable) : Type 0 where
 abbrev AllBefore : ℕ → ℕ → List Classified → Type 0
 AllBefore kind k cs = (j : ℕ) → j % 4 ≡ kind → j < k → IsKnown j cs
 
-has-self : (k : ℕ) (xs : List ℕ) (b : Bool) → has k xs ≡ b → has k (if b then xs else k ∷ xs) ≡ true
+pub has-self : (k : ℕ) (xs : List ℕ) (b : Bool) → has k xs ≡ b → has k (if b then xs else k ∷ xs) ≡ true
 has-self k xs true e = e
 has-self k xs false e = ap (λ (c : Bool). c || has k xs) (eq-eqb k k refl)
 

@@ -11,6 +11,7 @@ use Rattle.wt_turn.specs.declared.action.Action.{Action}
 use Rattle.wt_turn.specs.declared.turn.Turn.{Turn}
 use Rattle.wt_wire.specs.declared.side.Side.{Side}
 use Rattle.wt_laws.proofs.Classified.{classified-stays, of-classified}
+use Rattle.wt_laws.proofs.DatagramTold.{datagrams-same, datagrams-stay}
 use Rattle.wt_laws.proofs.Moments.{kept}
 use Rattle.wt_laws.proofs.SessionLaws.{settings-stay}
 use Rattle.wt_laws.specs.Reachable.{AllLawful}
@@ -92,7 +93,7 @@ has-more k j xs e = or_right (j == k) _ e
 
 dequeued-stays : (side : Side) (k : ℕ) (e : Entry) (log : Log) → has k (stream_table side log).dequeued ≡ true → has k (stream_table side (e ∷ log)).dequeued ≡ true
 dequeued-stays side k e log p = kept (λ t. has k t.dequeued ≡ true) side e log (record {
-  by_ending = λ t e x p. p;
+  by_ending = λ t e p. p;
   by_moment = λ t p. p;
   by_settings = λ t b x p. p;
   by_datagram = λ t n p. p;
@@ -112,7 +113,7 @@ call-stays test (Called r) log p = or_right (test r) _ p
 call-stays test _ log p = p
 
 pub stays-behind : (side : Side) (more log : Log) → StaysSo side log (more ++ log)
-stays-behind side [] log = record { dequeued = λ k p. p; verdict = λ k v p. p; order = ([], sym (append-nil (stream_table side log).classified)); released = λ k p. p; delivered = λ k p. p; settings = λ p. p }
+stays-behind side [] log = record { dequeued = λ k p. p; verdict = λ k v p. p; order = ([], sym (append-nil (stream_table side log).classified)); released = λ k p. p; delivered = λ k p. p; settings = λ p. p; datagrams = datagrams-same side log }
 stays-behind side (e ∷ more) log =
     let s = stays-behind side more log in
     record {
@@ -122,6 +123,7 @@ stays-behind side (e ∷ more) log =
       released = λ k p. call-stays (releases k) e (more ++ log) (s.released k p);
       delivered = λ k p. call-stays (delivers k) e (more ++ log) (s.delivered k p);
       settings = λ p. settings-stay side e (more ++ log) (s.settings p);
+      datagrams = datagrams-stay side log e (more ++ log) s.datagrams;
     }
 
 -- ---- after the end

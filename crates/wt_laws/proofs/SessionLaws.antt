@@ -40,7 +40,7 @@ use Rattle.wt_proto.specs.declared.verdict.Verdict.TheVariants as verdicts
 
 settings-kept : (c : Causes) → IsKept c (λ t. t.progress.settings ≡ true)
 settings-kept c = record {
-  by_ending = λ t e x p. p;
+  by_ending = λ t e p. p;
   by_moment = λ t p. p;
   by_settings = λ t b x p. or_left t.progress.settings b p;
   by_datagram = λ t n p. p;

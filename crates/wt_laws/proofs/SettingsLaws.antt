@@ -1,4 +1,4 @@
--- This end's SETTINGS: out as far as credit goes, while the connection is open.
+-- This end's SETTINGS: out as far as credit went while the connection was open, also at the moment that ended it.
 use Rattle.std.specs.Prelude.{[], ◌%◌, ◌&&◌, ◌*◌, ◌++◌, ◌+◌, ◌<◌, ◌==◌, ◌^◌, ◌||◌, ◌∷◌, ◌≡◌, ◌≢◌, ◌≤◌, Bool, List, None, Option, Some, drop, false, if◌then◌else◌, length, nat_lt, not, suc, take, true, zero, ℕ}
 use Rattle.std.proofs.Common.{◌∙◌, ap, arith, refl, subst, sym}
 use Rattle.std.proofs.lemmas.Bool.{and_parts, eq-eqb, eqb-false, eqb-true, lt-ltb, ltb-false, ltb-true, not-true, or_left}
@@ -11,7 +11,7 @@ use Rattle.wt_seam_spec.specs.Outgoing.{streams_allowed}
 use Rattle.wt_seam_spec.specs.Reports.{bis_allowed, credit, end_of, is_connected, is_running, unis_allowed}
 use Rattle.wt_seam_spec.specs.Sent.{sent_on}
 use Rattle.wt_seam_spec.specs.Streams.{can_send, local_bi, local_count, local_uni, one_more_if, stream_count}
-use Rattle.wt_turn.specs.Log.{CallRecord, Called, Connected, Entry, Event, Log, MaxData, MaxUni, OpeningStarted, Received, Reported, ReportedLate, Sent, StreamAccepted, actions_of, all_events_of, calls_of, events_of, is_open, with_actions}
+use Rattle.wt_turn.specs.Log.{CallRecord, Called, Connected, Entry, Event, Log, Loss, MaxData, MaxUni, OpeningStarted, Received, Reported, ReportedLate, Sent, StreamAccepted, actions_of, all_events_of, calls_of, events_of, is_open, with_actions}
 use Rattle.wt_turn.specs.declared.action.Action.{Action}
 use Rattle.wt_turn.specs.declared.datagram_fact.DatagramFact.{DatagramFact}
 use Rattle.wt_turn.specs.declared.turn.Turn.{Turn}
@@ -84,14 +84,18 @@ own-silent side turn (a ∷ own) log s c = rw (own-piece side turn a log s c.0, 
 
 -- ---- what is out
 
+-- once a stream is allowed, the control stream was opened, and is out as far as credit goes
+pub record AsAllowed (side : Side) (log : Log) : Type 0 where
+  pub opened : nat_lt 0 (unis_allowed (events_of log)) ≡ true → local_count (actions_of log) (local_uni side) ≢ 0
+  pub out : nat_lt 0 (unis_allowed (events_of log)) ≡ true → sent_on (actions_of log) (local_uni side) ≡ take (credit (events_of log) (local_uni side)) local_control_bytes
+
 pub record ControlOut (side : Side) (log : Log) : Type 0 where
   pub untouched : Untouched side log
   pub count : ℕ
   pub is : sent_on (actions_of log) (local_uni side) ≡ take count local_control_bytes
   pub within : count ≤ credit (events_of log) (local_uni side)
   pub unconnected : is_connected (all_events_of log) ≡ false → (count ≡ 0) × (unis_allowed (events_of log) ≡ 0)
-  pub opened : is_open log ≡ true → nat_lt 0 (unis_allowed (events_of log)) ≡ true → local_count (actions_of log) (local_uni side) ≢ 0
-  pub out : is_open log ≡ true → nat_lt 0 (unis_allowed (events_of log)) ≡ true → sent_on (actions_of log) (local_uni side) ≡ take (credit (events_of log) (local_uni side)) local_control_bytes
+  pub as_allowed : AsAllowed side log
 
 -- what goes on behind a prefix
 take-on : (n m : ℕ) (xs : List ℕ) → n ≤ m → take n xs ++ drop (length (take n xs)) (take m xs) ≡ take m xs
@@ -208,8 +212,10 @@ sent-now side log r = at (nat_lt 0 (unis_allowed (events_of log))) refl
       is = out-of side log true a r;
       within = rw (same-events-with (pending_actions side log) log) (omega arith);
       unconnected = λ c. absurd (let x = (r.unconnected (ap is_connected (sym (same-all-with (pending_actions side log) log)) ∙ c)).1 in let y = ltb-true 0 (unis_allowed (events_of log)) a in omega arith);
-      opened = λ o n. opens-control side log a;
-      out = λ o n. out-of side log true a r ∙ ap (λ es. take (credit es (local_uni side)) local_control_bytes) (sym (same-events-with (pending_actions side log) log));
+      as_allowed = record {
+        opened = λ n. opens-control side log a;
+        out = λ n. out-of side log true a r ∙ ap (λ es. take (credit es (local_uni side)) local_control_bytes) (sym (same-events-with (pending_actions side log) log));
+      };
     }
     at false a = record {
       untouched = keeps-untouched side (pending_actions side log) log r.untouched;
@@ -217,18 +223,20 @@ sent-now side log r = at (nat_lt 0 (unis_allowed (events_of log))) refl
       is = out-of side log false a r ∙ r.is;
       within = rw (same-events-with (pending_actions side log) log) r.within;
       unconnected = λ c. let x = r.unconnected (ap is_connected (sym (same-all-with (pending_actions side log) log)) ∙ c) in (x.0, ap unis_allowed (same-events-with (pending_actions side log) log) ∙ x.1);
-      opened = λ o n. absurd (let y = ap (λ es. nat_lt 0 (unis_allowed es)) (sym (same-events-with (pending_actions side log) log)) ∙ n in cc);
-      out = λ o n. absurd (let y = ap (λ es. nat_lt 0 (unis_allowed es)) (sym (same-events-with (pending_actions side log) log)) ∙ n in cc);
+      as_allowed = record {
+        opened = λ n. absurd (let y = ap (λ es. nat_lt 0 (unis_allowed es)) (sym (same-events-with (pending_actions side log) log)) ∙ n in cc);
+        out = λ n. absurd (let y = ap (λ es. nat_lt 0 (unis_allowed es)) (sym (same-events-with (pending_actions side log) log)) ∙ n in cc);
+      };
     }
 
--- behind a moment: sent where the connection is open, else nothing is asked
-behind-moment : (side : Side) (e : Entry) (log : Log) → is_moment e ≡ true → Ready side (e ∷ log) → ControlOut side (log_and_flush side log e)
+-- behind a moment: sent where the connection is open, else it was sent before
+behind-moment : (side : Side) (e : Entry) (log : Log) → is_moment e ≡ true → Ready side (e ∷ log) → (is_open (e ∷ log) ≡ false → AsAllowed side (e ∷ log)) → ControlOut side (log_and_flush side log e)
 unfolding flush
-behind-moment side e log m r = at (is_open (e ∷ log)) refl
+behind-moment side e log m r f = at (is_open (e ∷ log)) refl
   where
     at : (b : Bool) → is_open (e ∷ log) ≡ b → ControlOut side (apply_if (is_moment e && is_open (e ∷ log)) (with_actions (pending_actions side (e ∷ log))) (e ∷ log))
     at true o = rw (m, o) (sent-now side (e ∷ log) r)
-    at false o = rw (m, o) (record { untouched = r.untouched; count = r.count; is = r.is; within = r.within; unconnected = r.unconnected; opened = λ p n. absurd (cc); out = λ p n. absurd (cc) })
+    at false o = rw (m, o) (record { untouched = r.untouched; count = r.count; is = r.is; within = r.within; unconnected = r.unconnected; as_allowed = f o })
 
 -- ---- each entry
 
@@ -297,6 +305,11 @@ ready-event side turn e log o b p =
       unconnected = λ c. let f = before-connected side turn log e b c in ((p.unconnected f).0, (connected-event side turn log e b c (p.unconnected f).1).1);
     }
 
+-- a loss changes neither how many are allowed nor the credit
+lost-event : (side : Side) (e : Event) (log : Log) → is_open log ≡ true → AsAllowed side log → is_open (Reported e ∷ log) ≡ false → AsAllowed side (Reported e ∷ log)
+lost-event side (Loss reason) log o p c = record { opened = p.opened; out = p.out }
+lost-event side _ log o p c = absurd (cc)
+
 late-event : (side : Side) (turn : Turn) (e : Event) (log : Log) → is_open log ≡ false → Brings side turn log e → ControlOut side log → ControlOut side (ReportedLate e ∷ log)
 late-event side turn e log o b p = record {
   untouched = record {
@@ -309,8 +322,7 @@ late-event side turn e log o b p = record {
   is = p.is;
   within = p.within;
   unconnected = λ c. p.unconnected (before-connected side turn log e b c);
-  opened = λ x n. absurd (let y : is_open log ≡ true = x in cc);
-  out = λ x n. absurd (let y : is_open log ≡ true = x in cc);
+  as_allowed = record { opened = p.as_allowed.opened; out = p.as_allowed.out };
 }
 
 -- ---- records
@@ -342,7 +354,7 @@ not-control side log own k s p c = at (k == local_uni side) refl
         let g = ap unis_allowed (p.untouched.facts_hold.same_events parts.0) in
         let h : 0 < unis_allowed (events_of log) = omega arith in
         let y : stream_count side log (local_uni side) ≡ 0 = ap (stream_count side log) (sym e) ∙ z in
-        p.opened parts.0 (lt-ltb 0 (unis_allowed (events_of log)) h) (omega arith)
+        p.as_allowed.opened (lt-ltb 0 (unis_allowed (events_of log)) h) (omega arith)
 
     at : (b : Bool) → (k == local_uni side) ≡ b → b ≡ false
     at false e = refl
@@ -370,6 +382,20 @@ new-accept-record side turn log _ n c = refl
 pub none-either : (a b : Bool) → a ≡ false → b ≡ false → (a || b) ≡ false
 none-either a b p q = rw (p, q) refl
 
+-- a call's own actions send nothing on it
+own-same : (side : Side) (turn : Turn) (log : Log) (own : List Action) → OwnCauses side turn log own → Untouched side log → sent_on (actions_of (with_actions own log)) (local_uni side) ≡ sent_on (actions_of log) (local_uni side)
+own-same side turn log own c u =
+    sent-with (local_uni side) own log ∙ ap (λ xs. sent_on (actions_of log) (local_uni side) ++ xs) (own-silent side turn own log (silent side log u) c) ∙ append-nil (sent_on (actions_of log) (local_uni side))
+
+closed-call : (side : Side) (turn : Turn) (log : Log) (own : List Action) (r : CallRecord) → OwnCauses side turn log own → ControlOut side log → AsAllowed side (Called r ∷ with_actions own log)
+closed-call side turn log own r c p =
+    let same = same-events-with own log in
+    let allowed = λ (n : nat_lt 0 (unis_allowed (events_of (with_actions own log))) ≡ true). ap (λ es. nat_lt 0 (unis_allowed es)) (sym same) ∙ n in
+    record {
+      opened = λ n z. let l = counts-with (local_uni side) own log in p.as_allowed.opened (allowed n) (omega arith);
+      out = λ n. own-same side turn log own c p.untouched ∙ p.as_allowed.out (allowed n) ∙ ap (λ es. take (credit es (local_uni side)) local_control_bytes) (sym same);
+    }
+
 ready-call : (side : Side) (turn : Turn) (log : Log) (own : List Action) (r : CallRecord) → OwnCauses side turn log own → CallCause side turn log own r → ControlOut side log → Ready side (Called r ∷ with_actions own log)
 ready-call side turn log own r c d p =
     let u = keeps-untouched side own log p.untouched in
@@ -382,7 +408,7 @@ ready-call side turn log own r c d p =
         accepted = none-either (accepts_stream (local_uni side) r) _ (new-accept-record side turn (with_actions own log) r u.opening x) u.accepted;
       };
       count = p.count;
-      is = sent-with (local_uni side) own log ∙ ap (λ xs. sent_on (actions_of log) (local_uni side) ++ xs) (own-silent side turn own log (silent side log p.untouched) c) ∙ append-nil (sent_on (actions_of log) (local_uni side)) ∙ p.is;
+      is = own-same side turn log own c p.untouched ∙ p.is;
       within = rw (same-events-with own log) p.within;
       unconnected = λ q. let z = p.unconnected (ap is_connected (sym (same-all-with own log)) ∙ q) in (z.0, ap unis_allowed (same-events-with own log) ∙ z.1);
     }
@@ -403,10 +429,10 @@ ready-byte side turn id b log o r p = record {
 
 pub keeps-control : (side : Side) (turn : Turn) → Keeps side turn (ControlOut side)
 keeps-control side turn = record {
-  event = λ log e o b p. behind-moment side (Reported e) log refl (ready-event side turn e log o b p);
+  event = λ log e o b p. behind-moment side (Reported e) log refl (ready-event side turn e log o b p) (lost-event side e log o p.as_allowed);
   late = λ log e o b p. late-event side turn e log o b p;
-  byte = λ log id b o r p. behind-moment side (Received id b) log refl (ready-byte side turn id b log o r p);
-  call = λ log own r c d p. behind-moment side (Called r) (with_actions own log) refl (ready-call side turn log own r c d p);
+  byte = λ log id b o r p. behind-moment side (Received id b) log refl (ready-byte side turn id b log o r p) (λ c. absurd (cc));
+  call = λ log own r c d p. behind-moment side (Called r) (with_actions own log) refl (ready-call side turn log own r c d p) (λ z. closed-call side turn log own r c p);
 }
 
 pub first-control : (side : Side) → ControlOut side []
@@ -416,11 +442,10 @@ first-control side = record {
   is = refl;
   within = omega arith;
   unconnected = λ c. (refl, refl);
-  opened = λ o n. absurd (cc);
-  out = λ o n. absurd (cc);
+  as_allowed = record { opened = λ n. absurd (cc); out = λ n. absurd (cc) };
 }
 
 pub settings-out : (side : Side) (log : Log) → IsReachable side log → SettingsOut side log
 settings-out side log r =
     let p = reached (ControlOut side) (first-control side) (keeps-control side) log r in
-    record { opened = p.opened; out = p.out; prefix = (p.count, p.is) }
+    record { opened = p.as_allowed.opened; out = p.as_allowed.out; prefix = (p.count, p.is) }

@@ -1,5 +1,5 @@
 -- What the driver's state says of the peer: what a stream is classified by, when SETTINGS came, and why the driver ends a connection.
-use Rattle.std.specs.Prelude.{[], ◌==◌, ◌∷◌, ◌≡◌, Bool, Err, List, None, Option, Some, drop, false, is_ok, is_some, slice_get, true, ℕ}
+use Rattle.std.specs.Prelude.{[], ◌++◌, ◌==◌, ◌∷◌, ◌≡◌, ◌≢◌, Bool, Err, List, None, Option, Some, drop, false, is_ok, is_some, slice_get, suc, true, ℕ}
 use Rattle.wt_message.specs.Datagram.{datagram_of}
 use Rattle.wt_proto.specs.Bi.{bi_verdict_of}
 use Rattle.wt_proto.specs.ControlWalk.{control_walk_of}
@@ -13,7 +13,8 @@ use Rattle.wt_wire.specs.declared.error.ErrorCode.{ErrorCode}
 use Rattle.wt_wire.specs.declared.side.Side.{Side}
 use Rattle.wt_laws.specs.Reachable.{is_among}
 use Rattle.wt_spec.specs.Driver.{established, is_moment, is_ready, settings_came, settled_datagrams, stream_table}
-use Rattle.wt_spec.specs.StreamTable.{ByFault, BySession, Classified, Ending, control_offset, decoder_offset, encoder_offset, first_at, verdict_of}
+use Rattle.wt_spec.specs.Scan.{has}
+use Rattle.wt_spec.specs.StreamTable.{ByFault, BySession, Classified, Ending, StreamTable, control_offset, decoder_offset, encoder_offset, first_at, verdict_of}
 use Rattle.wt_wire.specs.declared.side.StreamEnd.TheVariants as ends
 use Rattle.wt_wire.specs.declared.error.ErrorCode.TheVariants as h3
 use Rattle.wt_proto.specs.declared.verdict.Verdict.TheVariants as verdicts
@@ -34,22 +35,43 @@ pub data ComesOnce : (Verdict → Option ℕ) → Type 0 where
   EncoderOnce : ComesOnce encoder_offset
   DecoderOnce : ComesOnce decoder_offset
 
--- Why the driver ends a connection at the moment that ends the log, with these classified streams: a unidirectional stream has a
--- fault, or is a second one of a kind that comes once; a bidirectional one has a fault; a datagram is none; the session's stream
--- has a fault, or closes the session; the peer stopped this end's control stream; its own has a fault; or a QPACK stream ended.
-pub data EndingCause (side : Side) (log : Log) (cs : List Classified) : Ending → Type 0 where
-  FaultyUni : (k : ℕ) (code : ErrorCode) → is_among (peer_uni side) (peer_count side (events_of log) (peer_uni side)) k ≡ true → uni_verdict_of (contents log k) (end_of (events_of log) k) ≡ verdicts.Fault code → EndingCause side log cs (ByFault code)
-  SecondUni : (offset : Verdict → Option ℕ) → ComesOnce offset → (k at : ℕ) (first : ℕ × ℕ) → is_among (peer_uni side) (peer_count side (events_of log) (peer_uni side)) k ≡ true → offset (uni_verdict_of (contents log k) (end_of (events_of log) k)) ≡ Some at
-      → first_at offset cs ≡ Some first → (first.0 == k) ≡ false → EndingCause side log cs (ByFault h3.StreamCreation)
-  FaultyBi : (k : ℕ) (code : ErrorCode) → is_among (peer_bi side) (peer_count side (events_of log) (peer_bi side)) k ≡ true → bi_verdict_of (contents log k) (end_of (events_of log) k) ≡ verdicts.Fault code → EndingCause side log cs (ByFault code)
-  NoDatagram : (n : ℕ) (piece : List ℕ) (code : ErrorCode) → slice_get (datagrams_of (events_of log)) n ≡ Some piece → datagram_of piece ≡ Err code → EndingCause side log cs (ByFault code)
-  SessionFault : (s : ℕ × ℕ) (code : ErrorCode) → established (calls_of log) ≡ Some s → session_walk_of (drop s.1 (contents log s.0)) (end_of (events_of log) s.0) ≡ walks.Fault code → EndingCause side log cs (ByFault code)
+-- Stream k is taken by a moment that leads from one table to the other: by then it was dequeued; no earlier moment classified it;
+-- this one does, with this verdict, and as the last stream, since behind an ending nothing is done.
+pub record TakenLast (before after : StreamTable) (k : ℕ) (v : Verdict) : Type 0 where
+  pub dequeued : has k after.dequeued ≡ true
+  pub fresh : verdict_of k before.classified ≡ None
+  pub verdict : verdict_of k after.classified ≡ Some v
+  pub earlier : List Classified
+  pub last : Classified
+  pub order : after.classified ≡ earlier ++ last ∷ []
+  pub same : last.id ≡ k
+
+-- This datagram is taken by the moment that ends the log, which leads from one table to the other: it is the next that came behind
+-- those that were dequeued before, all of which were received or passed.
+pub record TakesDatagram (log : Log) (before after : StreamTable) (piece : List ℕ) : Type 0 where
+  pub next : slice_get (datagrams_of (events_of log)) before.progress.datagrams ≡ Some piece
+  pub settled : settled_datagrams (calls_of log) ≡ before.progress.datagrams
+  pub counted : after.progress.datagrams ≡ suc before.progress.datagrams
+
+-- Why the driver ends a connection at the moment that ends the log, which leads from one table to the other: a unidirectional
+-- stream that it takes has a fault, or is a second one of a kind that comes once; a bidirectional one that it takes has a fault; a
+-- datagram that it takes is none; the session's stream has a fault, or closes the session; the peer stopped this end's control
+-- stream; its own, the first that was classified, has a fault; or the first of a kind of its QPACK streams ended.
+pub data EndingCause (side : Side) (log : Log) (before after : StreamTable) : Ending → Type 0 where
+  FaultyUni : (k : ℕ) (code : ErrorCode) → is_among (peer_uni side) (peer_count side (events_of log) (peer_uni side)) k ≡ true → uni_verdict_of (contents log k) (end_of (events_of log) k) ≡ verdicts.Fault code
+      → TakenLast before after k (verdicts.Fault code) → EndingCause side log before after (ByFault code)
+  SecondUni : (offset : Verdict → Option ℕ) → ComesOnce offset → (k at : ℕ) (v : Verdict) (first : ℕ × ℕ) → is_among (peer_uni side) (peer_count side (events_of log) (peer_uni side)) k ≡ true → uni_verdict_of (contents log k) (end_of (events_of log) k) ≡ v
+      → TakenLast before after k v → offset v ≡ Some at → first_at offset after.classified ≡ Some first → (first.0 == k) ≡ false → EndingCause side log before after (ByFault h3.StreamCreation)
+  FaultyBi : (k : ℕ) (code : ErrorCode) → is_among (peer_bi side) (peer_count side (events_of log) (peer_bi side)) k ≡ true → bi_verdict_of (contents log k) (end_of (events_of log) k) ≡ verdicts.Fault code
+      → TakenLast before after k (verdicts.Fault code) → EndingCause side log before after (ByFault code)
+  NoDatagram : (piece : List ℕ) (code : ErrorCode) → TakesDatagram log before after piece → datagram_of piece ≡ Err code → EndingCause side log before after (ByFault code)
+  SessionFault : (s : ℕ × ℕ) (code : ErrorCode) → established (calls_of log) ≡ Some s → session_walk_of (drop s.1 (contents log s.0)) (end_of (events_of log) s.0) ≡ walks.Fault code → EndingCause side log before after (ByFault code)
   SessionClosed : (s : ℕ × ℕ) (code : ℕ) (reason : List ℕ) → established (calls_of log) ≡ Some s → session_walk_of (drop s.1 (contents log s.0)) (end_of (events_of log) s.0) ≡ walks.Closed code reason
-      → EndingCause side log cs (BySession code reason (is_over (session_walk_of (drop s.1 (contents log s.0)) ends.Running)))
-  ControlStopped : is_some (stop_of (events_of log) (local_uni side)) ≡ true → EndingCause side log cs (ByFault h3.ClosedCriticalStream)
-  ControlFault : (c : ℕ × ℕ) (code : ErrorCode) → first_at control_offset cs ≡ Some c → (control_walk_of (drop c.1 (contents log c.0)) (end_of (events_of log) c.0)).fault ≡ Some code → EndingCause side log cs (ByFault code)
-  EncoderEnded : (c : ℕ × ℕ) → first_at encoder_offset cs ≡ Some c → is_running (end_of (events_of log) c.0) ≡ false → EndingCause side log cs (ByFault h3.ClosedCriticalStream)
-  DecoderEnded : (c : ℕ × ℕ) → first_at decoder_offset cs ≡ Some c → is_running (end_of (events_of log) c.0) ≡ false → EndingCause side log cs (ByFault h3.ClosedCriticalStream)
+      → EndingCause side log before after (BySession code reason (is_over (session_walk_of (drop s.1 (contents log s.0)) ends.Running)))
+  ControlStopped : is_some (stop_of (events_of log) (local_uni side)) ≡ true → EndingCause side log before after (ByFault h3.ClosedCriticalStream)
+  ControlFault : (c : ℕ × ℕ) (code : ErrorCode) → first_at control_offset after.classified ≡ Some c → (control_walk_of (drop c.1 (contents log c.0)) (end_of (events_of log) c.0)).fault ≡ Some code → EndingCause side log before after (ByFault code)
+  EncoderEnded : (c : ℕ × ℕ) → first_at encoder_offset after.classified ≡ Some c → is_running (end_of (events_of log) c.0) ≡ false → EndingCause side log before after (ByFault h3.ClosedCriticalStream)
+  DecoderEnded : (c : ℕ × ℕ) → first_at decoder_offset after.classified ≡ Some c → is_running (end_of (events_of log) c.0) ≡ false → EndingCause side log before after (ByFault h3.ClosedCriticalStream)
 
 -- the walk over the first control stream that was classified has read the peer's SETTINGS
 pub record SettingsRead (side : Side) (log : Log) (cs : List Classified) : Type 0 where
@@ -57,9 +79,10 @@ pub record SettingsRead (side : Side) (log : Log) (cs : List Classified) : Type 
   pub first : first_at control_offset cs ≡ Some control
   pub read : is_some (control_walk_of (drop control.1 (contents log control.0)) (end_of (events_of log) control.0)).settings ≡ true
 
--- an entry after which the driver ends the connection ends it for a cause
+-- an entry after which the driver ends the connection ends it for a cause in what that very entry takes or shows
 abbrev pub EndsForCause : Side → Entry → Log → Type 0
-EndsForCause side e log = (x : Ending) → (stream_table side log).progress.ending ≡ None → (stream_table side (e ∷ log)).progress.ending ≡ Some x → EndingCause side (e ∷ log) (stream_table side (e ∷ log)).classified x
+EndsForCause side e log =
+    (x : Ending) → (stream_table side log).progress.ending ≡ None → (stream_table side (e ∷ log)).progress.ending ≡ Some x → EndingCause side (e ∷ log) (stream_table side log) (stream_table side (e ∷ log)) x
 
 -- an entry after which the peer's SETTINGS came is one at which they were read
 abbrev pub SettingsComeRead : Side → Entry → Log → Type 0
@@ -90,9 +113,15 @@ abbrev pub NoneFaulty : List Classified → Type 0
 NoneFaulty [] = Unit {0}
 NoneFaulty (c ∷ cs) = (is_fault c.verdict ≡ false) × NoneFaulty cs
 
--- while the driver ended nothing, no classified stream has a fault
-abbrev pub StreamsFaultless : Side → Log → Type 0
-StreamsFaultless side log = (stream_table side log).progress.ending ≡ None → NoneFaulty (stream_table side log).classified
+-- a stream with a fault is the last of the list
+abbrev pub FaultIsLast : List Classified → Type 0
+FaultIsLast [] = Unit {0}
+FaultIsLast (c ∷ cs) = (is_fault c.verdict ≡ true → cs ≡ []) × FaultIsLast cs
+
+-- while the driver ended nothing, no classified stream has a fault; and behind one that has a fault none is classified
+pub record StreamsFaultless (side : Side) (log : Log) : Type 0 where
+  pub none : (stream_table side log).progress.ending ≡ None → NoneFaulty (stream_table side log).classified
+  pub last : FaultIsLast (stream_table side log).classified
 
 -- behind a stream of this kind no other of it stands in the list
 abbrev pub AtMostOne : (Verdict → Option ℕ) → List Classified → Type 0
@@ -104,8 +133,11 @@ abbrev pub OnceEach : Side → Log → Type 0
 OnceEach side log = (offset : Verdict → Option ℕ) → ComesOnce offset → (stream_table side log).progress.ending ≡ None → AtMostOne offset (stream_table side log).classified
 
 -- A moment that finds the connection open and this end's SETTINGS out, or ready to go out, with every dequeued datagram received or
--- passed, dequeues the next that came; where the driver doesn't end the connection then, that one has a quarter id.
-abbrev pub DatagramOrEnds : Side → Entry → Log → Type 0
-DatagramOrEnds side e log =
-    (piece : List ℕ) → is_moment e ≡ true → is_open (e ∷ log) ≡ true → is_ready side (e ∷ log) ≡ true → settled_datagrams (calls_of (e ∷ log)) ≡ (stream_table side log).progress.datagrams
-    → slice_get (datagrams_of (events_of (e ∷ log))) (stream_table side log).progress.datagrams ≡ Some piece → (stream_table side (e ∷ log)).progress.ending ≡ None → is_ok (datagram_of piece) ≡ true
+-- passed, dequeues the next that came; where the driver doesn't end the connection then, that one has a quarter id. None is
+-- dequeued otherwise.
+pub record DatagramOrEnds (side : Side) (e : Entry) (log : Log) : Type 0 where
+  pub next : (piece : List ℕ) → is_moment e ≡ true → is_open (e ∷ log) ≡ true → is_ready side (e ∷ log) ≡ true → settled_datagrams (calls_of (e ∷ log)) ≡ (stream_table side log).progress.datagrams
+      → slice_get (datagrams_of (events_of (e ∷ log))) (stream_table side log).progress.datagrams ≡ Some piece → (stream_table side (e ∷ log)).progress.ending ≡ None
+      → TakesDatagram (e ∷ log) (stream_table side log) (stream_table side (e ∷ log)) piece × (is_ok (datagram_of piece) ≡ true)
+  pub only : (stream_table side (e ∷ log)).progress.datagrams ≢ (stream_table side log).progress.datagrams
+      → (piece : List ℕ) × TakesDatagram (e ∷ log) (stream_table side log) (stream_table side (e ∷ log)) piece × (is_ready side (e ∷ log) ≡ true)

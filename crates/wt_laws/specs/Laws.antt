@@ -24,7 +24,7 @@ use Rattle.wt_laws.specs.ReplyCauses.{ReplyCause}
 use Rattle.wt_laws.specs.Told.{datagram_told, read_piece}
 use Rattle.wt_spec.specs.Answers.{answer_to, is_client, log_after, run_from}
 use Rattle.wt_spec.specs.Connection.{is_for_session, is_opening, starts_opening, stream_header, well_formed}
-use Rattle.wt_spec.specs.Driver.{call_view, delivers, established, is_moment, pending_actions, releases, session_id, settings_came, stream_table}
+use Rattle.wt_spec.specs.Driver.{call_view, delivers, established, is_moment, pending_actions, releases, reset_if, session_id, settings_came, settled_datagrams, stream_table}
 use Rattle.wt_spec.specs.Effect.{driver_error, head_left, is_covered, transport_error}
 use Rattle.wt_spec.specs.Halves.{body_offset, is_accepted}
 use Rattle.wt_spec.specs.Handshake.{Connecting, handshake_state, has_success, response_head}
@@ -184,11 +184,12 @@ abbrev pub received_by : List Exchange → List (List ℕ)
 received_by [] = []
 received_by (x ∷ before) = more_received (datagram_told x.answer.reply) (received_by before)
 
--- they are the payloads of the first so many datagrams that were dequeued and name the session
+-- they are the payloads of those that name the session among the datagrams that calls received or passed, which are the first so
+-- many that were dequeued
 abbrev pub DatagramsInOrder : Side → List Exchange → Log → Type 0
 DatagramsInOrder side before log =
     (s at : ℕ) → established (calls_of log) ≡ Some (s, at)
-    → (count : ℕ) × (count ≤ (stream_table side log).progress.datagrams) × (received_by before ≡ payloads_for s (take count (datagrams_of (events_of log))))
+    → (settled_datagrams (calls_of log) ≤ (stream_table side log).progress.datagrams) × (received_by before ≡ payloads_for s (take (settled_datagrams (calls_of log)) (datagrams_of (events_of log))))
 
 -- ---- the end
 
@@ -205,11 +206,12 @@ pub record OpenExactly (side : Side) (log : Log) : Type 0 where
   pub no_close : is_open log ≡ true → list_any closes (actions_of log) ≡ false
   pub no_fault : is_open log ≡ true → (stream_table side log).progress.ending ≡ None
 
--- a moment that finds a fault closes last, with its code; one at which the session ends, with H3_NO_ERROR; every other closes nothing
+-- A moment that finds a fault closes last, with its code; one at which the session ends, with H3_NO_ERROR, right behind a reset of
+-- the session's stream where a capsule closed it; every other closes nothing.
 pub record FaultCloses (side : Side) (log : Log) : Type 0 where
   pub fault : (code : ErrorCode) → (stream_table side log).progress.ending ≡ Some (ByFault code) → (before : List Action) × (pending_actions side log ≡ before ++ actions.Close (code_of code) [] ∷ [])
   pub session : (code : ℕ) (reason : List ℕ) (b : Bool) → (stream_table side log).progress.ending ≡ Some (BySession code reason b)
-      → (before : List Action) × (pending_actions side log ≡ before ++ actions.Close (code_of h3.NoError) [] ∷ [])
+      → (before : List Action) × (pending_actions side log ≡ before ++ reset_if b (session_id (established (calls_of log))) ++ actions.Close (code_of h3.NoError) [] ∷ [])
   pub none : (stream_table side log).progress.ending ≡ None → list_any closes (pending_actions side log) ≡ false
 
 -- after the end what it is told as never changes
@@ -277,11 +279,12 @@ ReplyHasCause side log turn = (middle : Log) × IsDuring side log turn middle ×
 
 -- ---- this end's SETTINGS
 
--- While the connection is open and a unidirectional stream is allowed, this end's control stream was opened, and its
--- type and SETTINGS are out as far as credit goes; what is out is at every time a prefix of them.
+-- Once a unidirectional stream is allowed, this end's control stream was opened, and its type and SETTINGS are out as far as
+-- credit went while the connection was open, also at and behind the moment that ended it; what is out is at every time a prefix
+-- of them.
 pub record SettingsOut (side : Side) (log : Log) : Type 0 where
-  pub opened : is_open log ≡ true → nat_lt 0 (unis_allowed (events_of log)) ≡ true → local_count (actions_of log) (local_uni side) ≢ 0
-  pub out : is_open log ≡ true → nat_lt 0 (unis_allowed (events_of log)) ≡ true → sent_on (actions_of log) (local_uni side) ≡ take (credit (events_of log) (local_uni side)) local_control_bytes
+  pub opened : nat_lt 0 (unis_allowed (events_of log)) ≡ true → local_count (actions_of log) (local_uni side) ≢ 0
+  pub out : nat_lt 0 (unis_allowed (events_of log)) ≡ true → sent_on (actions_of log) (local_uni side) ≡ take (credit (events_of log) (local_uni side)) local_control_bytes
   pub prefix : (n : ℕ) × (sent_on (actions_of log) (local_uni side) ≡ take n local_control_bytes)
 
 -- ---- the session's own stream

@@ -3,9 +3,12 @@ pub mod ReplyCauses
 pub mod Reachable
 pub mod Told
 pub mod Left
+pub mod Datagrams
 pub mod Runs
 pub mod Exactly
 pub mod Laws
 pub mod TurnCauses
 pub mod GivenOnce
 pub mod Faults
+pub mod FirstFault
+pub mod Ended

@@ -5,6 +5,7 @@ use Rattle.wt_proto.specs.declared.verdict.Verdict.{Verdict}
 use Rattle.wt_turn.specs.Log.{Event, Log, ReportedLate, calls_of, is_open}
 use Rattle.wt_turn.specs.declared.turn.Turn.{Turn}
 use Rattle.wt_wire.specs.declared.side.Side.{Side}
+use Rattle.wt_laws.specs.Datagrams.{DatagramsStay}
 use Rattle.wt_laws.specs.Reachable.{AllLawful}
 use Rattle.wt_spec.specs.Answers.{AtUnlawful, Finished, answer_to, answers_from, answers_to, is_lawful, log_from, run}
 use Rattle.wt_spec.specs.Driver.{delivers, releases, settings_came, stream_table}
@@ -29,7 +30,7 @@ abbrev pub RunsLawful : Side → List Turn → Type 0
 RunsLawful side all = AllLawful side [] all → (run side all).stop ≡ Finished
 
 -- What is dequeued stays so, and what is classified, with its verdict and its place in the order; so do streams that an
--- accept gave or passed, requests that were delivered, and that SETTINGS came.
+-- accept gave or passed, requests that were delivered, that SETTINGS came, and what datagrams came and were received.
 pub record StaysSo (side : Side) (earlier later : Log) : Type 0 where
   pub dequeued : (k : ℕ) → has k (stream_table side earlier).dequeued ≡ true → has k (stream_table side later).dequeued ≡ true
   pub verdict : (k : ℕ) (v : Verdict) → verdict_of k (stream_table side earlier).classified ≡ Some v → verdict_of k (stream_table side later).classified ≡ Some v
@@ -37,6 +38,7 @@ pub record StaysSo (side : Side) (earlier later : Log) : Type 0 where
   pub released : (k : ℕ) → list_any (releases k) (calls_of earlier) ≡ true → list_any (releases k) (calls_of later) ≡ true
   pub delivered : (k : ℕ) → list_any (delivers k) (calls_of earlier) ≡ true → list_any (delivers k) (calls_of later) ≡ true
   pub settings : settings_came side earlier ≡ true → settings_came side later ≡ true
+  pub datagrams : DatagramsStay side earlier later
 
 -- a turn of the transport after the end is answered Done, and nothing goes out
 pub record DoneLate (side : Side) (log : Log) (turn : Turn) : Type 0 where

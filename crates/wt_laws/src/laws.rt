@@ -53,7 +53,8 @@ pub fn reads_give_what_came()
     ensures reads { (side : Side) (all : List Turn) → AllLawful side [] all → ReadsInOrder side (exchanges side all) (log_from side [] all) }
 {}
 
-/// The datagrams received are the first so many of the session that were dequeued.
+/// The datagrams received are those of the session among the first so many that were dequeued, which
+/// calls received or passed.
 #[tactic(auto, using(crate::proofs::Theorems::datagrams_theorem))]
 pub fn datagrams_come_in_order()
     ensures datagrams { (side : Side) (all : List Turn) → AllLawful side [] all → DatagramsInOrder side (exchanges side all) (log_from side [] all) }
@@ -82,7 +83,8 @@ pub fn pieces_may_be_cut()
     ensures cut { (side : Side) (log : Log) (id : ℕ) (first second : List ℕ) → CutsWell side log id first second }
 {}
 
-/// This end's SETTINGS are out as far as credit goes, while the connection is open.
+/// This end's SETTINGS are out as far as credit went while the connection was open, also at the moment
+/// that ended it.
 #[tactic(auto, using(crate::proofs::Theorems::settings_theorem))]
 pub fn settings_go_out()
     ensures settings { (side : Side) (log : Log) → IsReachable side log → SettingsOut side log }
@@ -138,7 +140,8 @@ pub fn runs_answer_the_longest_lawful_prefix()
     ensures lawful { (side : Side) (all : List Turn) → RunsLawful side all }
 {}
 
-/// What is dequeued, classified, released, delivered or settled by SETTINGS stays so, and in its order.
+/// What is dequeued, classified, released, delivered or settled by SETTINGS stays so, and in its
+/// order; so do the datagrams that came and those that were received.
 #[tactic(auto, using(crate::proofs::Theorems::stays_theorem))]
 pub fn what_is_settled_stays()
     ensures stays { (side : Side) (more earlier : Log) → StaysSo side earlier (more ++ earlier) }

@@ -1,7 +1,10 @@
 //! What each turn adds, with its cause in that turn: further laws, each a function with an empty body
 //! whose contract is the law.
 ghost use Rattle.std.specs.Prelude.{◌≡◌, List, [], true};
+ghost use Rattle.wt_laws.specs.Datagrams.{DatagramTold};
+ghost use Rattle.wt_laws.specs.Ended.{EndingGoesOut, PendingGoesOut};
 ghost use Rattle.wt_laws.specs.Faults.{ClassifiedRightly, DatagramOrEnds, EndsForCause, FaultlessOrEnds, OnceEach, SettingsComeRead, StreamsFaultless};
+ghost use Rattle.wt_laws.specs.FirstFault.{FirstIsTold};
 ghost use Rattle.wt_laws.specs.GivenOnce.{GivenOnce};
 ghost use Rattle.wt_laws.specs.Reachable.{AllLawful, IsReachable, exchanges};
 ghost use Rattle.wt_laws.specs.TurnCauses.{ActionsWentOut, EntriesHaveCauses, ReplyIsRecorded};
@@ -27,8 +30,10 @@ pub fn streams_are_given_once()
 
 /// What the driver's state says of the peer is in what came from it: a classified stream has its
 /// verdict over all bytes, SETTINGS came where the first control stream has them, and a connection
-/// that the driver ends has a fault, or its session ended; where it ends none, no classified
-/// stream has a fault, those that come once came once, and there is no fault behind them.
+/// that the driver ends has a fault in the very stream or datagram that the moment takes, or behind
+/// those that were taken, or its session ended; where it ends none, no classified stream has a
+/// fault, those that come once came once, and there is no fault behind them. Of several faults of
+/// one moment the first in the driver's order is told.
 #[tactic(auto)]
 pub fn the_drivers_state_is_read()
     ensures classified { (side : Side) (log : Log) → IsReachable side log → ClassifiedRightly side log }
@@ -38,4 +43,19 @@ pub fn the_drivers_state_is_read()
     ensures streams { (side : Side) (log : Log) → StreamsFaultless side log }
     ensures once { (side : Side) (log : Log) → OnceEach side log }
     ensures datagram { (side : Side) (e : Entry) (log : Log) → DatagramOrEnds side e log }
+    ensures first { (side : Side) (e : Entry) (log : Log) → FirstIsTold side e log }
+{}
+
+/// What the driver sends at a moment goes out right behind it, and the close with which it ends a
+/// connection is the last action of that turn's answer.
+#[tactic(auto)]
+pub fn endings_go_out()
+    ensures answer { (side : Side) (log : Log) (turn : Turn) → is_lawful side log turn ≡ true → EndingGoesOut side log turn }
+    ensures moment { (side : Side) (log : Log) → IsReachable side log → PendingGoesOut side log }
+{}
+
+/// A datagram that a receive gives is the first of the session's that no earlier call received.
+#[tactic(auto)]
+pub fn the_next_datagram_is_given()
+    ensures given { (side : Side) (log : Log) (turn : Turn) → IsReachable side log → is_lawful side log turn ≡ true → DatagramTold side log turn }
 {}

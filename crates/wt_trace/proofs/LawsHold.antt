@@ -1,11 +1,15 @@
 -- Every run keeps the laws.
 use Rattle.std.proofs.Common.{arith, ◌≡◌, ◌<◌, ℕ, List, length, subst, sym, take, true}
 use Rattle.wt_laws.proofs.DatagramOrEnds.{datagram-or-ends}
+use Rattle.wt_laws.proofs.DatagramTold.{datagram-told}
+use Rattle.wt_laws.proofs.EndingOut.{ending-goes-out}
 use Rattle.wt_laws.proofs.FaultLaws.{classified-rightly, ends-for-cause, settings-come-read}
 use Rattle.wt_laws.proofs.FaultlessLaws.{faultless-or-ends}
+use Rattle.wt_laws.proofs.FirstFault.{first-is-told}
 use Rattle.wt_laws.proofs.GivenOnce.{given_once_theorem}
 use Rattle.wt_laws.proofs.NoFault.{streams-faultless}
 use Rattle.wt_laws.proofs.OnceLaws.{once-each}
+use Rattle.wt_laws.proofs.PendingOut.{pending-goes-out}
 use Rattle.wt_laws.proofs.RequestTold.{request_told_theorem}
 use Rattle.wt_laws.proofs.Theorems.{accepted_theorem, action_theorem, after_end_theorem, asks_first_theorem, connect_theorem, connects_theorem, datagrams_theorem, ended_theorem, fault_theorem, headers_theorem, heads_theorem, late_theorem, later_theorem, one_session_theorem, open_theorem, order_theorem, own_reads_theorem, pending_theorem, reads_theorem, receiving_calls_theorem, reply_theorem, request_theorem, requests_theorem, responses_theorem, result_theorem, sending_calls_theorem, sends_all_theorem, sends_end_theorem, sends_theorem, session_calls_theorem, session_stream_theorem, session_told_theorem, sessions_theorem, settings_theorem, stays_theorem, taken_theorem, within_credit_theorem}
 use Rattle.wt_laws.proofs.TurnCauses.{entries_theorem, recorded_theorem, went_out_theorem}
@@ -46,6 +50,7 @@ driver-is-read side log r = record {
   streams = streams-faultless side log;
   once = once-each side log;
   datagram = λ e earlier goes. datagram-or-ends side e earlier;
+  first = λ e earlier goes. first-is-told side e earlier;
   faultless = λ e earlier goes. faultless-or-ends side e earlier;
 }
 
@@ -65,6 +70,7 @@ laws side all =
       reads = λ n l. reads_theorem side (take n all) (lawful-at side all n l);
       local_reads = λ n l. own_reads_theorem side (log_at side all n);
       datagrams = λ n l. datagrams_theorem side (take n all) (lawful-at side all n l);
+      next_datagram = λ n turn l e. datagram-told side (log_at side all n) turn (before n l) (lawful n turn l e);
       pending = λ n turn l e. pending_theorem side (log_at side all n) turn (lawful n turn l e);
       none_pending = λ n turn l e. ended_theorem side (log_at side all n) turn (lawful n turn l e);
       calls = λ n l. calls-answer side (log_at side all n);
@@ -75,7 +81,8 @@ laws side all =
       caused = λ n l. action_theorem side (log_at side all n) (reach n l);
       entries = λ n turn l e. entries_theorem side (log_at side all n) turn (lawful n turn l e);
       opened = λ n l. open_theorem side (log_at side all n) (reach n l);
-      faults = λ n l moment goes. fault_theorem side moment;
+      faults = λ n l. record { closes = λ moment goes. fault_theorem side moment; went_out = pending-goes-out side (log_at side all n) (reach n l) };
+      endings = λ n turn l e. ending-goes-out side (log_at side all n) turn (lawful n turn l e);
       driver = λ n l. driver-is-read side (log_at side all n) (reach n l);
       result_stays = λ n turn l e. result_theorem side (log_at side all n) turn (lawful n turn l e);
       after_end = λ n l. after_end_theorem side (log_at side all n) (reach n l);

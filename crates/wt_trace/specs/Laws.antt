@@ -11,8 +11,11 @@ use Rattle.wt_wire.specs.HeaderList.{Fields}
 use Rattle.wt_wire.specs.declared.lookup.ConnectOutcome.{ConnectOutcome}
 use Rattle.wt_wire.specs.declared.lookup.Lookup.{Lookup}
 use Rattle.wt_wire.specs.declared.side.Side.{Side}
+use Rattle.wt_laws.specs.Datagrams.{DatagramTold}
+use Rattle.wt_laws.specs.Ended.{EndingGoesOut, PendingGoesOut}
 use Rattle.wt_laws.specs.Exactly.{AsksFirst, ConnectGoesOn, ConnectsAnswer, HeadsGoOut, MaySend, ReceivingCallsAnswer, RequestGoesOn, RequestsAnswer, ResponsesAnswer, SendingCallsAnswer, SessionCallsAnswer}
 use Rattle.wt_laws.specs.Faults.{ClassifiedRightly, DatagramOrEnds, EndsForCause, FaultlessOrEnds, OnceEach, SettingsComeRead, StreamsFaultless}
+use Rattle.wt_laws.specs.FirstFault.{FirstIsTold}
 use Rattle.wt_laws.specs.GivenOnce.{GivenOnce}
 use Rattle.wt_laws.specs.Laws.{ActionsHaveCauses, DatagramsInOrder, FaultCloses, GoesOnFrom, HeadersOut, NothingAfterEnd, OneSession, OpenExactly, ReadsFromStart, ReadsInOrder, ReplyHasCause, RequestTold, ResultStays, SendsAll, SendsEnd, SendsInOrder, SessionStreamOut, SessionTold, SessionsRightly, SettingsOut, StreamsAcceptedRightly, TakenGoesOut, WithinCredit}
 use Rattle.wt_laws.specs.Left.{PendingExactly, is_pending}
@@ -42,9 +45,11 @@ OfExchanges side Law all answers = (n : ℕ) → n ≤ length answers → Law (e
 
 -- ---- laws of a moment, and of what is over
 
--- each moment up to the end of the log closes where it finds a fault, with its code, or the session's end
-abbrev pub FaultsClose : Side → Log → Type 0
-FaultsClose side log = (moment : Log) → GoesOnFrom moment log → FaultCloses side moment
+-- Each moment up to the end of the log closes where it finds a fault, with its code, or the session's end; and what it sends went
+-- out right behind it.
+pub record FaultsClose (side : Side) (log : Log) : Type 0 where
+  pub closes : (moment : Log) → GoesOnFrom moment log → FaultCloses side moment
+  pub went_out : PendingGoesOut side log
 
 -- once the connection has ended, what it is told as stays
 abbrev pub ResultStaysAfterEnd : Side → Log → Turn → Type 0
@@ -81,10 +86,11 @@ AtEachEntry Law log = (e : Entry) (earlier : Log) → GoesOnFrom (e ∷ earlier)
 pub record DriverIsRead (side : Side) (log : Log) : Type 0 where
   pub classified : ClassifiedRightly side log  -- a classified stream was opened by the peer, and has its verdict over all bytes that came for it
   pub settings : AtEachEntry (SettingsComeRead side) log  -- SETTINGS came at an entry at which the walk over the first control stream had read them
-  pub ending : AtEachEntry (EndsForCause side) log  -- the driver ended the connection at an entry that shows a fault in what came, or the end of the session
-  pub streams : StreamsFaultless side log  -- while it ended none, no classified stream has a fault
+  pub ending : AtEachEntry (EndsForCause side) log  -- the driver ended the connection at an entry that shows a fault in the stream or datagram that it takes, or behind those taken, or the end of the session
+  pub streams : StreamsFaultless side log  -- while it ended none, no classified stream has a fault; one that has a fault is classified last
   pub once : OnceEach side log  -- while it ended none, the control stream and the QPACK streams were classified once each
-  pub datagram : AtEachEntry (DatagramOrEnds side) log  -- the datagram that a moment dequeues has a quarter id, or the driver ends the connection then
+  pub datagram : AtEachEntry (DatagramOrEnds side) log  -- the datagram that a moment dequeues is the next that came, and has a quarter id, or the driver ends the connection then
+  pub first : AtEachEntry (FirstIsTold side) log  -- of several faults of one moment the first in the driver's order ends the connection
   pub faultless : AtEachEntry (FaultlessOrEnds side) log  -- a moment at which it doesn't end an open connection shows no fault behind the streams
 
 -- ---- what a call answers
@@ -145,6 +151,7 @@ pub record KeepsLaws (side : Side) (all : List Turn) (answers : List Answer) : T
   pub reads : OfExchanges side (ReadsInOrder side) all answers
   pub local_reads : Throughout side (ReadsFromStart side) all answers
   pub datagrams : OfExchanges side (DatagramsInOrder side) all answers
+  pub next_datagram : AtEachTurn side (DatagramTold side) all answers
   pub pending : AtEachTurn side (PendingExactly side) all answers
   pub none_pending : AtEachTurn side (NonePendingAfterEnd side) all answers
   pub calls : Throughout side (CallsAnswer side) all answers
@@ -156,6 +163,7 @@ pub record KeepsLaws (side : Side) (all : List Turn) (answers : List Answer) : T
   pub entries : AtEachTurn side (EntriesHaveCauses side) all answers
   pub opened : Throughout side (OpenExactly side) all answers
   pub faults : Throughout side (FaultsClose side) all answers
+  pub endings : AtEachTurn side (EndingGoesOut side) all answers
   pub driver : Throughout side (DriverIsRead side) all answers
   pub result_stays : AtEachTurn side (ResultStaysAfterEnd side) all answers
   pub after_end : Throughout side NothingAfterEnd all answers

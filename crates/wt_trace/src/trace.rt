@@ -1,6 +1,8 @@
 //! A whole list of turns.
 ghost use Rattle.std.specs.Prelude.{◌≡◌, [], IfErr, List, length, take};
 ghost use Rattle.wt_core.specs.CoreState.{Refines};
+ghost use Rattle.wt_laws.specs.Datagrams.{DatagramTold};
+ghost use Rattle.wt_laws.specs.Ended.{EndingGoesOut};
 ghost use Rattle.wt_laws.specs.GivenOnce.{GivenOnce};
 ghost use Rattle.wt_laws.specs.Laws.{ActionsHaveCauses, DatagramsInOrder, HeadersOut, NothingAfterEnd, OneSession, OpenExactly, ReadsFromStart, ReadsInOrder, ReplyHasCause, RequestTold, SendsAll, SendsEnd, SendsInOrder, SessionStreamOut, SessionTold, SessionsRightly, SettingsOut, StreamsAcceptedRightly, TakenGoesOut, WithinCredit};
 ghost use Rattle.wt_laws.specs.Left.{PendingExactly};
@@ -42,7 +44,7 @@ impl From<OutOfMemory> for TraceError {
 ///
 /// `trace` says them whole, `answers` and `each` one by one, `lawful`, `stop` and `complete` up to where.
 /// The clauses after these say what is true of them, of every list: where a session is established, which
-/// requests, streams and datagrams are given and in what order, what reads give (`sessions` to `datagrams`);
+/// requests, streams and datagrams are given and in what order, what reads give (`sessions` to `next_datagram`);
 /// where a call is pending, what it answers, why each reply and each action comes (`pending` to `entries`);
 /// what ends the connection and where in the peer's bytes that is read, how it is told, and what stays
 /// (`opened` to `settled`); what goes out (`settings` to `taken`); and that a piece may come in two parts
@@ -64,6 +66,7 @@ pub fn run_trace(alloc: Global, side: Side, turns: &[Turn]) -> Result<Answers, T
     ensures reads { IfAnswered result (OfExchanges side (ReadsInOrder side) turns.now) }
     ensures local_reads { IfAnswered result (Throughout side (ReadsFromStart side) turns.now) }
     ensures datagrams { IfAnswered result (OfExchanges side (DatagramsInOrder side) turns.now) }
+    ensures next_datagram { IfAnswered result (AtEachTurn side (DatagramTold side) turns.now) }
     ensures pending { IfAnswered result (AtEachTurn side (PendingExactly side) turns.now) }
     ensures none_pending { IfAnswered result (AtEachTurn side (NonePendingAfterEnd side) turns.now) }
     ensures calls { IfAnswered result (Throughout side (CallsAnswer side) turns.now) }
@@ -75,6 +78,7 @@ pub fn run_trace(alloc: Global, side: Side, turns: &[Turn]) -> Result<Answers, T
     ensures entries { IfAnswered result (AtEachTurn side (EntriesHaveCauses side) turns.now) }
     ensures opened { IfAnswered result (Throughout side (OpenExactly side) turns.now) }
     ensures faults { IfAnswered result (Throughout side (FaultsClose side) turns.now) }
+    ensures endings { IfAnswered result (AtEachTurn side (EndingGoesOut side) turns.now) }
     ensures driver { IfAnswered result (Throughout side (DriverIsRead side) turns.now) }
     ensures result_stays { IfAnswered result (AtEachTurn side (ResultStaysAfterEnd side) turns.now) }
     ensures after_end { IfAnswered result (Throughout side NothingAfterEnd turns.now) }

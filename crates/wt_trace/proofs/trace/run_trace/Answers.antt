@@ -1,4 +1,6 @@
 use Rattle.std.proofs.Common.{◌≡◌, [], length, take}
+use Rattle.wt_laws.specs.Datagrams.{DatagramTold}
+use Rattle.wt_laws.specs.Ended.{EndingGoesOut}
 use Rattle.wt_laws.specs.GivenOnce.{GivenOnce}
 use Rattle.wt_laws.specs.Laws.{ActionsHaveCauses, DatagramsInOrder, HeadersOut, NothingAfterEnd, OneSession, OpenExactly, ReadsFromStart, ReadsInOrder, ReplyHasCause, RequestTold, SendsAll, SendsEnd, SendsInOrder, SessionStreamOut, SessionTold, SessionsRightly, SettingsOut, StreamsAcceptedRightly, TakenGoesOut, WithinCredit}
 use Rattle.wt_laws.specs.Left.{PendingExactly}
@@ -59,6 +61,9 @@ returns-clause-local_reads c = answered c.args.side c.args.turns.now _ (Througho
 pub returns-clause-datagrams : goal.returns-clause-datagrams
 returns-clause-datagrams c = answered c.args.side c.args.turns.now _ (OfExchanges c.args.side (DatagramsInOrder c.args.side) c.args.turns.now) c.run_turns.ensures.trace (laws c.args.side c.args.turns.now).datagrams
 
+pub returns-clause-next_datagram : goal.returns-clause-next_datagram
+returns-clause-next_datagram c = answered c.args.side c.args.turns.now _ (AtEachTurn c.args.side (DatagramTold c.args.side) c.args.turns.now) c.run_turns.ensures.trace (laws c.args.side c.args.turns.now).next_datagram
+
 pub returns-clause-pending : goal.returns-clause-pending
 returns-clause-pending c = answered c.args.side c.args.turns.now _ (AtEachTurn c.args.side (PendingExactly c.args.side) c.args.turns.now) c.run_turns.ensures.trace (laws c.args.side c.args.turns.now).pending
 
@@ -91,6 +96,9 @@ returns-clause-opened c = answered c.args.side c.args.turns.now _ (Throughout c.
 
 pub returns-clause-faults : goal.returns-clause-faults
 returns-clause-faults c = answered c.args.side c.args.turns.now _ (Throughout c.args.side (FaultsClose c.args.side) c.args.turns.now) c.run_turns.ensures.trace (laws c.args.side c.args.turns.now).faults
+
+pub returns-clause-endings : goal.returns-clause-endings
+returns-clause-endings c = answered c.args.side c.args.turns.now _ (AtEachTurn c.args.side (EndingGoesOut c.args.side) c.args.turns.now) c.run_turns.ensures.trace (laws c.args.side c.args.turns.now).endings
 
 pub returns-clause-driver : goal.returns-clause-driver
 returns-clause-driver c = answered c.args.side c.args.turns.now _ (Throughout c.args.side (DriverIsRead c.args.side) c.args.turns.now) c.run_turns.ensures.trace (laws c.args.side c.args.turns.now).driver

@@ -1,0 +1,404 @@
+-- Of several faults of one moment the first in the driver's order ends the connection.
+use Rattle.std.specs.Prelude.{[], ◌&&◌, ◌++◌, ◌==◌, ◌∷◌, ◌≡◌, Bool, Err, List, None, Ok, Option, Result, Some, drop, false, is_ok, is_some, not, slice_get, suc, true, ℕ}
+use Rattle.std.proofs.Common.{◌∙◌, ap, arith, refl, subst, sym}
+use Rattle.std.proofs.lemmas.Bool.{and_from, and_parts, eqb-true}
+use Rattle.wt_message.specs.Datagram.{datagram_of}
+use Rattle.wt_proto.specs.Bi.{bi_verdict_of}
+use Rattle.wt_proto.specs.ControlWalk.{control_walk_of}
+use Rattle.wt_proto.specs.SessionWalk.{is_over, session_walk_of}
+use Rattle.wt_proto.specs.Uni.{uni_verdict_of}
+use Rattle.wt_proto.specs.declared.session_walk.SessionWalk.{SessionWalk}
+use Rattle.wt_proto.specs.declared.verdict.Verdict.{Verdict}
+use Rattle.wt_seam_spec.specs.Reports.{datagrams_of, end_of, is_running}
+use Rattle.wt_seam_spec.specs.Streams.{contents}
+use Rattle.wt_turn.specs.Log.{Entry, Log, calls_of, events_of, is_open}
+use Rattle.wt_wire.specs.declared.error.ErrorCode.{ErrorCode}
+use Rattle.wt_wire.specs.declared.side.Side.{Side}
+use Rattle.wt_laws.proofs.DatagramOrEnds.{after-entry, as-first, dequeued-one, first_check, scan-datagrams}
+use Rattle.wt_laws.proofs.Endings.{checks-stay}
+use Rattle.wt_laws.proofs.FaultLaws.{bis-end, bis-stay, last-stays, unis-end}
+use Rattle.wt_laws.proofs.Moments.{kept-streams}
+use Rattle.wt_laws.proofs.NoFault.{Faultless, faultless, faultless-kept}
+use Rattle.wt_laws.proofs.OnceLaws.{bi-not-once, no-offset, once-each, once-kept}
+use Rattle.wt_laws.specs.Faults.{AtMostOne, ComesOnce, ControlOnce, DecoderOnce, EncoderOnce, NoneFaulty, TakesDatagram, is_fault}
+use Rattle.wt_laws.specs.FirstFault.{ControlPasses, DatagramPasses, FirstIsTold, PassesUpToControl, SessionPasses, StreamsPass, TellsFirst}
+use Rattle.wt_spec.specs.Driver.{call_view, established, is_moment, settled_datagrams, stream_table, transport_view}
+use Rattle.wt_spec.specs.Scan.{check_control, check_datagram, check_qpack, check_session, checks, critical_if, dequeued_datagram, fault_ending, in_order, parsed_datagram, scan_bis, scan_order, scan_unis, session_ends, unless_ended, with_fault, without_stops}
+use Rattle.wt_spec.specs.StreamTable.{ByFault, CallView, Classified, Dispatched, Ending, Progress, StreamTable, TransportView, bi_consequence, control_offset, decoder_offset, dispatched, encoder_offset, first_at, only_once, or_later, paired, queued_behind, uni_consequence}
+use Rattle.wt_wire.specs.declared.side.StreamEnd.TheVariants as ends
+use Rattle.wt_wire.specs.declared.error.ErrorCode.TheVariants as h3
+use Rattle.wt_proto.specs.declared.verdict.Verdict.TheVariants as verdicts
+use Rattle.wt_proto.specs.declared.session_walk.SessionWalk.TheVariants as walks
+
+-- ---- a stream that ends the connection doesn't pass
+
+last-faultless : (cs : List Classified) (x : Classified) → NoneFaulty (cs ++ x ∷ []) → is_fault x.verdict ≡ false
+last-faultless [] x n = n.0
+last-faultless (c ∷ cs) x n = last-faultless cs x n.1
+
+first-more : (offset : Verdict → Option ℕ) (cs : List Classified) (x : Classified) → is_some (offset x.verdict) ≡ true → first_at offset (cs ++ x ∷ []) ≡ None → ⊥
+first-more offset [] x s n = at (offset x.verdict) s n
+  where
+    at : (o : Option ℕ) → is_some o ≡ true → or_later (paired x.id o) None ≡ None → ⊥
+    at None s n = absurd (cc)
+    at (Some m) s n = absurd (cc)
+first-more offset (c ∷ cs) x s n = at (paired c.id (offset c.verdict)) n (first-more offset cs x s)
+  where
+    at : (o : Option (ℕ × ℕ)) → or_later o (first_at offset (cs ++ x ∷ [])) ≡ None → (first_at offset (cs ++ x ∷ []) ≡ None → ⊥) → ⊥
+    at None n f = f n
+    at (Some y) n f = absurd (cc)
+
+not-second : (offset : Verdict → Option ℕ) (cs : List Classified) (x : Classified) (first : ℕ × ℕ) → is_some (offset x.verdict) ≡ true → first_at offset cs ≡ Some first → AtMostOne offset (cs ++ x ∷ []) → ⊥
+not-second offset [] x first s e a = absurd (cc)
+not-second offset (c ∷ cs) x first s e a = at (offset c.verdict) e a.0 (λ f. not-second offset cs x first s f a.1)
+  where
+    at : (o : Option ℕ) → or_later (paired c.id o) (first_at offset cs) ≡ Some first → (is_some o ≡ true → first_at offset (cs ++ x ∷ []) ≡ None) → (first_at offset cs ≡ Some first → ⊥) → ⊥
+    at None e a f = f e
+    at (Some m) e a f = first-more offset cs x s (a refl)
+
+module _ (calls : CallView) (cs : List Classified) (x : Classified) (p : StreamsPass (cs ++ x ∷ [])) where
+  once-passes : (offset : Verdict → Option ℕ) → ComesOnce offset → is_some (offset x.verdict) ≡ true → (o : Option (ℕ × ℕ)) → first_at offset cs ≡ o → (only_once o).fault ≡ None
+  once-passes offset c s None e = refl
+  once-passes offset c s (Some first) e = absurd (not-second offset cs x first s e (p.once offset c))
+
+  uni-passes : (v : Verdict) → x.verdict ≡ v → (uni_consequence (dispatched calls cs) x.id v).fault ≡ None
+  uni-passes (verdicts.Fault code) e = absurd (let y = last-faultless cs x p.faultless in let z = ap is_fault e in cc)
+  uni-passes (verdicts.Control m) e = once-passes control_offset ControlOnce (ap (λ v. is_some (control_offset v)) e) (first_at control_offset cs) refl
+  uni-passes (verdicts.Encoder m) e = once-passes encoder_offset EncoderOnce (ap (λ v. is_some (encoder_offset v)) e) (first_at encoder_offset cs) refl
+  uni-passes (verdicts.Decoder m) e = once-passes decoder_offset DecoderOnce (ap (λ v. is_some (decoder_offset v)) e) (first_at decoder_offset cs) refl
+  uni-passes _ e = refl
+
+  bi-passes : (v : Verdict) → x.verdict ≡ v → (bi_consequence (dispatched calls cs) x.id v).fault ≡ None
+  bi-passes (verdicts.Fault code) e = absurd (let y = last-faultless cs x p.faultless in let z = ap is_fault e in cc)
+  bi-passes (verdicts.Request headers m) e = at (dispatched calls cs).requests
+    where
+      at : (queued : List Classified) → (queued_behind queued x.id).fault ≡ None
+      at [] = refl
+      at (c ∷ later) = refl
+  bi-passes _ e = refl
+
+-- where all classified streams pass, the scan ends nothing
+module _ (side : Side) (log : Log) (before : StreamTable) (n : before.progress.ending ≡ None) where
+  abbrev scanned : StreamTable
+  scanned = scan_unis (transport_view side log) (call_view log) (without_stops before)
+
+  abbrev table : StreamTable
+  table = scan_bis (transport_view side log) (call_view log) scanned
+
+  streams-go-on : StreamsPass table.classified → table.progress.ending ≡ None
+  streams-go-on p = at-unis scanned.progress.ending refl
+    where
+      at-bis : (o : Option Ending) → table.progress.ending ≡ o → scanned.progress.ending ≡ None → o ≡ None
+      at-bis None e u = refl
+      at-bis (Some y) e u =
+          let r = bis-end side log before n u y e in
+          let v = bi_verdict_of (contents log r.stream) (end_of (events_of log) r.stream) in
+          let x : Classified = record { id = r.stream; verdict = v; surplus = (bi_consequence (dispatched (call_view log) r.table.classified) r.stream v).surplus } in
+          let q : StreamsPass (r.table.classified ++ x ∷ []) = subst StreamsPass (ap (λ (t : StreamTable). t.classified) r.is) p in
+          absurd (let f = ap fault_ending (bi-passes (call_view log) r.table.classified x q v refl) in let g = r.fault in cc)
+
+      at-unis : (o : Option Ending) → scanned.progress.ending ≡ o → table.progress.ending ≡ None
+      at-unis None e = at-bis table.progress.ending refl e
+      at-unis (Some y) e =
+          let r = unis-end side log before n y e in
+          let v = uni_verdict_of (contents log r.stream) (end_of (events_of log) r.stream) in
+          let x : Classified = record { id = r.stream; verdict = v; surplus = (uni_consequence (dispatched (call_view log) r.table.classified) r.stream v).surplus } in
+          let q : StreamsPass (r.table.classified ++ x ∷ []) = subst StreamsPass (ap (λ (t : StreamTable). t.classified) (bis-stay side log before n y e ∙ r.is)) p in
+          absurd (let f = ap fault_ending (uni-passes (call_view log) r.table.classified x q v refl) in let g = r.fault in cc)
+
+-- ---- the checks, as far as they pass
+
+fault-goes : (o : Option ErrorCode) (u : Progress) → o ≡ None → u.ending ≡ None → (with_fault o u).ending ≡ None
+fault-goes None u e n = n
+fault-goes (Some code) u e n = absurd (cc)
+
+fault-told : (o : Option ErrorCode) (u : Progress) (code : ErrorCode) → o ≡ Some code → (with_fault o u).ending ≡ Some (ByFault code)
+fault-told None u code e = absurd (cc)
+fault-told (Some c) u code e = let y : c ≡ code = cc in ap (λ z. Some (ByFault z)) y
+
+critical-told : (b : Bool) (u : Progress) → b ≡ true → (critical_if b u).ending ≡ Some (ByFault h3.ClosedCriticalStream)
+critical-told true u e = refl
+critical-told false u e = absurd (cc)
+
+critical-goes : (b : Bool) (u : Progress) → b ≡ false → u.ending ≡ None → (critical_if b u).ending ≡ None
+critical-goes true u e n = absurd (cc)
+critical-goes false u e n = n
+
+parsed-told : (r : Result (ℕ × List ℕ) ErrorCode) (u : Progress) (code : ErrorCode) → r ≡ Err code → (parsed_datagram r u).ending ≡ Some (ByFault code)
+parsed-told (Ok d) u code e = absurd (cc)
+parsed-told (Err c) u code e = let y : c ≡ code = cc in ap (λ z. Some (ByFault z)) y
+
+dequeued-told : (o : Option (List ℕ)) (u : Progress) (piece : List ℕ) (code : ErrorCode) → o ≡ Some piece → datagram_of piece ≡ Err code → (dequeued_datagram o u).ending ≡ Some (ByFault code)
+dequeued-told None u piece code e d = absurd (cc)
+dequeued-told (Some x) u piece code e d = let y : x ≡ piece = cc in parsed-told (datagram_of x) (record u { datagrams = suc u.datagrams }) code (ap datagram_of y ∙ d)
+
+module _ (side : Side) (log : Log) (before after : StreamTable) where
+  abbrev view : TransportView
+  view = transport_view side log
+
+  abbrev sorted : Dispatched
+  sorted = dispatched (call_view log) after.classified
+
+  abbrev from_encoder : List (Progress → Progress)
+  from_encoder = check_qpack view sorted.encoder ∷ check_qpack view sorted.decoder ∷ []
+
+  abbrev from_control : List (Progress → Progress)
+  from_control = check_control view sorted.control ∷ from_encoder
+
+  abbrev from_stop : List (Progress → Progress)
+  from_stop = critical_if view.control_stopped ∷ from_control
+
+  abbrev from_session : List (Progress → Progress)
+  from_session = check_session view (established (calls_of log)) ∷ from_stop
+
+  -- these checks are left to be made, and nothing was found before them
+  record Left (fs : List (Progress → Progress)) (q : Progress) : Type 0 where
+    pub is : after.progress ≡ in_order fs q
+    pub still : q.ending ≡ None
+
+  passes : (f : Progress → Progress) (fs : List (Progress → Progress)) (q : Progress) → Left (f ∷ fs) q → (f q).ending ≡ None → Left fs (f q)
+  passes f fs q a e = record { is = a.is ∙ ap (λ (o : Option Ending). in_order fs (unless_ended o f q)) a.still; still = e }
+
+  tells : (f : Progress → Progress) (fs : List (Progress → Progress)) (q : Progress) (x : Ending) → Left (f ∷ fs) q → (f q).ending ≡ Some x → after.progress.ending ≡ Some x
+  tells f fs q x a e = ap (λ (z : Progress). z.ending) (a.is ∙ ap (λ (o : Option Ending). in_order fs (unless_ended o f q)) a.still ∙ checks-stay fs (f q) x e) ∙ e
+
+  module _ (p : Progress) (s : p.datagrams ≡ before.progress.datagrams) (l : Left (checks view (call_view log) sorted) p) where
+    abbrev behind_datagram : Progress
+    behind_datagram = first_check view (call_view log) p
+
+    abbrev behind_session : Progress
+    behind_session = check_session view (established (calls_of log)) behind_datagram
+
+    abbrev behind_stop : Progress
+    behind_stop = critical_if view.control_stopped behind_session
+
+    abbrev behind_control : Progress
+    behind_control = check_control view sorted.control behind_stop
+
+    counted : after.progress.datagrams ≡ behind_datagram.datagrams
+    counted = ap (λ (z : Progress). z.datagrams) l.is ∙ as-first view (call_view log) sorted p ∙ ap (λ (o : Option Ending). (unless_ended o (first_check view (call_view log)) p).datagrams) l.still
+
+    datagram-goes : DatagramPasses log before after → (b : Bool) → (view.ready && settled_datagrams (calls_of log) == p.datagrams) ≡ b → after.progress.datagrams ≡ (check_datagram b view p).datagrams → (check_datagram b view p).ending ≡ None
+    datagram-goes d false e c = l.still
+    datagram-goes d true e c = at (slice_get (datagrams_of (events_of log)) p.datagrams) refl c
+      where
+        settled : settled_datagrams (calls_of log) ≡ p.datagrams
+        settled = eqb-true (settled_datagrams (calls_of log)) p.datagrams (and_parts view.ready (settled_datagrams (calls_of log) == p.datagrams) e).1
+
+        well : (r : Result (ℕ × List ℕ) ErrorCode) → is_ok r ≡ true → (parsed_datagram r (record p { datagrams = suc p.datagrams })).ending ≡ None
+        well (Ok x) o = l.still
+        well (Err code) o = absurd (cc)
+
+        at : (o : Option (List ℕ)) → slice_get (datagrams_of (events_of log)) p.datagrams ≡ o → after.progress.datagrams ≡ (dequeued_datagram o p).datagrams → (dequeued_datagram o p).ending ≡ None
+        at None q c = l.still
+        at (Some piece) q c =
+            well (datagram_of piece) (d piece (record { next = ap (slice_get (datagrams_of (events_of log))) (sym s) ∙ q; settled = settled ∙ s; counted = c ∙ dequeued-one (Some piece) p piece refl ∙ ap suc s }))
+
+    datagram-told : (piece : List ℕ) (code : ErrorCode) → TakesDatagram log before after piece → datagram_of piece ≡ Err code → (b : Bool) → after.progress.datagrams ≡ (check_datagram b view p).datagrams → (check_datagram b view p).ending ≡ Some (ByFault code)
+    datagram-told piece code t d false c = absurd (let x = t.counted in omega arith)
+    datagram-told piece code t d true c = dequeued-told (slice_get (datagrams_of (events_of log)) p.datagrams) p piece code (ap (slice_get (datagrams_of (events_of log))) s ∙ t.next) d
+
+    -- ---- how far the checks are left
+
+    left-session : DatagramPasses log before after → Left from_session behind_datagram
+    left-session d = passes (first_check view (call_view log)) from_session p l (datagram-goes d (view.ready && settled_datagrams (calls_of log) == p.datagrams) refl counted)
+
+    session-goes : SessionPasses log → (q : Progress) → q.ending ≡ None → (o : Option (ℕ × ℕ)) → established (calls_of log) ≡ o → (check_session view o q).ending ≡ None
+    session-goes c q n None e = n
+    session-goes c q n (Some x) e = ap (λ (w : SessionWalk). (session_ends w (is_over (session_walk_of (drop x.1 (contents log x.0)) ends.Running)) q).ending) (c x e) ∙ n
+
+    left-stop : DatagramPasses log before after → SessionPasses log → Left from_stop behind_session
+    left-stop d c = let a = left-session d in passes (check_session view (established (calls_of log))) from_stop behind_datagram a (session-goes c behind_datagram a.still (established (calls_of log)) refl)
+
+    left-control : PassesUpToControl side log before after → Left from_control behind_stop
+    left-control c = let a = left-stop c.datagram c.session in passes (critical_if view.control_stopped) from_control behind_session a (critical-goes view.control_stopped behind_session c.unstopped a.still)
+
+    control-goes : ControlPasses log after.classified → (q : Progress) → q.ending ≡ None → (o : Option (ℕ × ℕ)) → sorted.control ≡ o → (check_control view o q).ending ≡ None
+    control-goes c q n None e = n
+    control-goes c q n (Some x) e = fault-goes (control_walk_of (drop x.1 (contents log x.0)) (end_of (events_of log) x.0)).fault _ (c x e) n
+
+    left-encoder : PassesUpToControl side log before after → ControlPasses log after.classified → Left from_encoder behind_control
+    left-encoder c d = let a = left-control c in passes (check_control view sorted.control) from_encoder behind_stop a (control-goes d behind_stop a.still sorted.control refl)
+
+    qpack-told : (x : ℕ × ℕ) (q : Progress) (o : Option (ℕ × ℕ)) → o ≡ Some x → is_running (end_of (events_of log) x.0) ≡ false → (check_qpack view o q).ending ≡ Some (ByFault h3.ClosedCriticalStream)
+    qpack-told x q None e r = absurd (cc)
+    qpack-told x q (Some y) e r = let z : y ≡ x = cc in critical-told (not (is_running (end_of (events_of log) y.0))) q (ap (λ (w : ℕ × ℕ). not (is_running (end_of (events_of log) w.0))) z ∙ ap not r)
+
+    -- the decoder's end is told, or the encoder's, with the same code
+    decoder-told : (x : ℕ × ℕ) (q : Progress) → Left from_encoder q → sorted.decoder ≡ Some x → is_running (end_of (events_of log) x.0) ≡ false → after.progress.ending ≡ Some (ByFault h3.ClosedCriticalStream)
+    decoder-told x q a e r = at sorted.encoder refl
+      where
+        later : (check_qpack view sorted.encoder q).ending ≡ None → after.progress.ending ≡ Some (ByFault h3.ClosedCriticalStream)
+        later n =
+            let b = passes (check_qpack view sorted.encoder) (check_qpack view sorted.decoder ∷ []) q a n in
+            tells (check_qpack view sorted.decoder) [] (check_qpack view sorted.encoder q) (ByFault h3.ClosedCriticalStream) b (qpack-told x (check_qpack view sorted.encoder q) sorted.decoder e r)
+
+        of-end : (y : ℕ × ℕ) → sorted.encoder ≡ Some y → (b : Bool) → is_running (end_of (events_of log) y.0) ≡ b → after.progress.ending ≡ Some (ByFault h3.ClosedCriticalStream)
+        of-end y f false i = tells (check_qpack view sorted.encoder) (check_qpack view sorted.decoder ∷ []) q (ByFault h3.ClosedCriticalStream) a (qpack-told y q sorted.encoder f i)
+        of-end y f true i = later (ap (λ (o : Option (ℕ × ℕ)). (check_qpack view o q).ending) f ∙ critical-goes (not (is_running (end_of (events_of log) y.0))) q (ap not i) a.still)
+
+        at : (o : Option (ℕ × ℕ)) → sorted.encoder ≡ o → after.progress.ending ≡ Some (ByFault h3.ClosedCriticalStream)
+        at None f = later (ap (λ (o : Option (ℕ × ℕ)). (check_qpack view o q).ending) f ∙ a.still)
+        at (Some y) f = of-end y f (is_running (end_of (events_of log) y.0)) refl
+
+    session-told : (x : ℕ × ℕ) (w : SessionWalk) (e : Ending) → DatagramPasses log before after → established (calls_of log) ≡ Some x → session_walk_of (drop x.1 (contents log x.0)) (end_of (events_of log) x.0) ≡ w
+        → (session_ends w (is_over (session_walk_of (drop x.1 (contents log x.0)) ends.Running)) behind_datagram).ending ≡ Some e → after.progress.ending ≡ Some e
+    session-told x w e d c f g =
+        tells (check_session view (established (calls_of log))) from_stop behind_datagram e (left-session d)
+        (ap (λ (o : Option (ℕ × ℕ)). (check_session view o behind_datagram).ending) c ∙ ap (λ (z : SessionWalk). (session_ends z (is_over (session_walk_of (drop x.1 (contents log x.0)) ends.Running)) behind_datagram).ending) f ∙ g)
+
+    control-told : (x : ℕ × ℕ) (code : ErrorCode) (q : Progress) (o : Option (ℕ × ℕ)) → o ≡ Some x → (control_walk_of (drop x.1 (contents log x.0)) (end_of (events_of log) x.0)).fault ≡ Some code → (check_control view o q).ending ≡ Some (ByFault code)
+    control-told x code q None e f = absurd (cc)
+    control-told x code q (Some y) e f =
+        let z : y ≡ x = cc in
+        fault-told (control_walk_of (drop y.1 (contents log y.0)) (end_of (events_of log) y.0)).fault _ code (ap (λ (w : ℕ × ℕ). (control_walk_of (drop w.1 (contents log w.0)) (end_of (events_of log) w.0)).fault) z ∙ f)
+
+    -- ---- what is told
+
+    datagram-ends : (piece : List ℕ) (code : ErrorCode) → TakesDatagram log before after piece → datagram_of piece ≡ Err code → after.progress.ending ≡ Some (ByFault code)
+    datagram-ends piece code t d =
+        tells (first_check view (call_view log)) from_session p (ByFault code) l (datagram-told piece code t d (view.ready && settled_datagrams (calls_of log) == p.datagrams) counted)
+
+    stop-ends : DatagramPasses log before after → SessionPasses log → view.control_stopped ≡ true → after.progress.ending ≡ Some (ByFault h3.ClosedCriticalStream)
+    stop-ends d c e = tells (critical_if view.control_stopped) from_control behind_session (ByFault h3.ClosedCriticalStream) (left-stop d c) (critical-told view.control_stopped behind_session e)
+
+    control-ends : (x : ℕ × ℕ) (code : ErrorCode) → PassesUpToControl side log before after → sorted.control ≡ Some x → (control_walk_of (drop x.1 (contents log x.0)) (end_of (events_of log) x.0)).fault ≡ Some code → after.progress.ending ≡ Some (ByFault code)
+    control-ends x code c e f = tells (check_control view sorted.control) from_encoder behind_stop (ByFault code) (left-control c) (control-told x code behind_stop sorted.control e f)
+
+    encoder-ends : (x : ℕ × ℕ) → PassesUpToControl side log before after → ControlPasses log after.classified → sorted.encoder ≡ Some x → is_running (end_of (events_of log) x.0) ≡ false → after.progress.ending ≡ Some (ByFault h3.ClosedCriticalStream)
+    encoder-ends x c d e r =
+        tells (check_qpack view sorted.encoder) (check_qpack view sorted.decoder ∷ []) behind_control (ByFault h3.ClosedCriticalStream) (left-encoder c d) (qpack-told x behind_control sorted.encoder e r)
+
+    decoder-ends : (x : ℕ × ℕ) → PassesUpToControl side log before after → ControlPasses log after.classified → sorted.decoder ≡ Some x → is_running (end_of (events_of log) x.0) ≡ false → after.progress.ending ≡ Some (ByFault h3.ClosedCriticalStream)
+    decoder-ends x c d e r = decoder-told x behind_control (left-encoder c d) e r
+
+-- ---- the law
+
+-- the last of two equal lists
+snoc-last : (xs ys : List Classified) (x y : Classified) → xs ++ x ∷ [] ≡ ys ++ y ∷ [] → x ≡ y
+snoc-last [] [] x y e = cc
+snoc-last [] (z ∷ ys) x y e = absurd (none-there ys (let f : [] ≡ ys ++ y ∷ [] = cc in f))
+  where
+    none-there : (zs : List Classified) → [] ≡ zs ++ y ∷ [] → ⊥
+    none-there [] f = absurd (cc)
+    none-there (w ∷ zs) f = absurd (cc)
+snoc-last (w ∷ xs) [] x y e = absurd (none-there xs (let f : xs ++ x ∷ [] ≡ [] = cc in f))
+  where
+    none-there : (zs : List Classified) → zs ++ x ∷ [] ≡ [] → ⊥
+    none-there [] f = absurd (cc)
+    none-there (v ∷ zs) f = absurd (cc)
+snoc-last (w ∷ xs) (z ∷ ys) x y e = let f : xs ++ x ∷ [] ≡ ys ++ y ∷ [] = cc in snoc-last xs ys x y f
+
+-- and what stands before it
+snoc-front : (xs ys : List Classified) (x y : Classified) → xs ++ x ∷ [] ≡ ys ++ y ∷ [] → xs ≡ ys
+snoc-front [] [] x y e = refl
+snoc-front [] (z ∷ ys) x y e = absurd (none-there ys (let f : [] ≡ ys ++ y ∷ [] = cc in f))
+  where
+    none-there : (zs : List Classified) → [] ≡ zs ++ y ∷ [] → ⊥
+    none-there [] f = absurd (cc)
+    none-there (w ∷ zs) f = absurd (cc)
+snoc-front (w ∷ xs) [] x y e = absurd (none-there xs (let f : xs ++ x ∷ [] ≡ [] = cc in f))
+  where
+    none-there : (zs : List Classified) → zs ++ x ∷ [] ≡ [] → ⊥
+    none-there [] f = absurd (cc)
+    none-there (v ∷ zs) f = absurd (cc)
+snoc-front (w ∷ xs) (z ∷ ys) x y e =
+    let f : xs ++ x ∷ [] ≡ ys ++ y ∷ [] = cc in
+    let i : w ≡ z = cc in
+    ap (λ c. c ∷ xs) i ∙ ap (λ zs. z ∷ zs) (snoc-front xs ys x y f)
+
+-- a second of a kind that comes once
+uni-second : (offset : Verdict → Option ℕ) → ComesOnce offset → (calls : CallView) (cs : List Classified) (first : ℕ × ℕ) (k : ℕ) (v : Verdict) → is_some (offset v) ≡ true → first_at offset cs ≡ Some first → (uni_consequence (dispatched calls cs) k v).fault ≡ Some h3.StreamCreation
+uni-second _ ControlOnce calls cs first k (verdicts.Control m) s e = ap (λ (o : Option (ℕ × ℕ)). (only_once o).fault) e
+uni-second _ ControlOnce calls cs first k _ s e = absurd (cc)
+uni-second _ EncoderOnce calls cs first k (verdicts.Encoder m) s e = ap (λ (o : Option (ℕ × ℕ)). (only_once o).fault) e
+uni-second _ EncoderOnce calls cs first k _ s e = absurd (cc)
+uni-second _ DecoderOnce calls cs first k (verdicts.Decoder m) s e = ap (λ (o : Option (ℕ × ℕ)). (only_once o).fault) e
+uni-second _ DecoderOnce calls cs first k _ s e = absurd (cc)
+
+module _ (side : Side) (log : Log) (before : StreamTable) (n : before.progress.ending ≡ None) (g : Faultless before) (o : (offset : Verdict → Option ℕ) → ComesOnce offset → AtMostOne offset before.classified) where
+  abbrev last : StreamTable
+  last = scan_order (transport_view side log) (call_view log) before
+
+  abbrev start : Progress
+  start = (table side log before n).progress
+
+  none-scanned : start.datagrams ≡ before.progress.datagrams
+  none-scanned = scan-datagrams (transport_view side log) (call_view log) (without_stops before)
+
+  all-left : StreamsPass last.classified → Left side log before last (checks (transport_view side log) (call_view log) (dispatched (call_view log) last.classified)) start
+  all-left c = record { is = refl; still = streams-go-on side log before n c }
+
+  -- a stream that was classified with a fault ended the connection
+  stream-told : (earlier : List Classified) (c : Classified) (code : ErrorCode) → last.classified ≡ earlier ++ c ∷ [] → c.verdict ≡ verdicts.Fault code → last.progress.ending ≡ Some (ByFault code)
+  stream-told earlier c code q f = at-unis (scanned side log before n).progress.ending refl
+    where
+      at-bis : (o : Option Ending) → start.ending ≡ o → (scanned side log before n).progress.ending ≡ None → last.progress.ending ≡ Some (ByFault code)
+      at-bis None e u = absurd (let y = last-faultless earlier c (subst NoneFaulty q ((kept-streams Faultless side log (faultless-kept side log) before g).0 e)) in let z = ap is_fault f in cc)
+      at-bis (Some y) e u =
+          let r = bis-end side log before n u y e in
+          let v = bi_verdict_of (contents log r.stream) (end_of (events_of log) r.stream) in
+          let x : Classified = record { id = r.stream; verdict = v; surplus = (bi_consequence (dispatched (call_view log) r.table.classified) r.stream v).surplus } in
+          let l = last-stays side log before n y e in
+          let same = snoc-last r.table.classified earlier x c (sym (ap (λ (t : StreamTable). t.classified) (l ∙ r.is)) ∙ q) in
+          ap (λ (t : StreamTable). t.progress.ending) l ∙ e ∙ sym r.fault ∙ ap (λ (z : Verdict). fault_ending (bi_consequence (dispatched (call_view log) r.table.classified) r.stream z).fault) (ap (λ (z : Classified). z.verdict) same ∙ f)
+
+      at-unis : (o : Option Ending) → (scanned side log before n).progress.ending ≡ o → last.progress.ending ≡ Some (ByFault code)
+      at-unis None e = at-bis start.ending refl e
+      at-unis (Some y) e =
+          let r = unis-end side log before n y e in
+          let v = uni_verdict_of (contents log r.stream) (end_of (events_of log) r.stream) in
+          let x : Classified = record { id = r.stream; verdict = v; surplus = (uni_consequence (dispatched (call_view log) r.table.classified) r.stream v).surplus } in
+          let b = bis-stay side log before n y e in
+          let l = last-stays side log before n y (ap (λ (t : StreamTable). t.progress.ending) b ∙ e) ∙ b in
+          let same = snoc-last r.table.classified earlier x c (sym (ap (λ (t : StreamTable). t.classified) (l ∙ r.is)) ∙ q) in
+          ap (λ (t : StreamTable). t.progress.ending) l ∙ e ∙ sym r.fault ∙ ap (λ (z : Verdict). fault_ending (uni_consequence (dispatched (call_view log) r.table.classified) r.stream z).fault) (ap (λ (z : Classified). z.verdict) same ∙ f)
+
+  -- and so did a second stream of a kind that comes once
+  second-told : (earlier : List Classified) (c : Classified) (offset : Verdict → Option ℕ) (first : ℕ × ℕ) → last.classified ≡ earlier ++ c ∷ [] → ComesOnce offset → is_some (offset c.verdict) ≡ true → first_at offset earlier ≡ Some first
+      → last.progress.ending ≡ Some (ByFault h3.StreamCreation)
+  second-told earlier c offset first q m s f = at-unis (scanned side log before n).progress.ending refl
+    where
+      at-bis : (e : Option Ending) → start.ending ≡ e → (scanned side log before n).progress.ending ≡ None → last.progress.ending ≡ Some (ByFault h3.StreamCreation)
+      at-bis None e u =
+          absurd (not-second offset earlier c first s f (subst (AtMostOne offset) q (kept-streams (λ (t : StreamTable). t.progress.ending ≡ None → AtMostOne offset t.classified) side log (once-kept side log offset m) before (λ z. o offset m) e)))
+      at-bis (Some y) e u =
+          let r = bis-end side log before n u y e in
+          let v = bi_verdict_of (contents log r.stream) (end_of (events_of log) r.stream) in
+          let x : Classified = record { id = r.stream; verdict = v; surplus = (bi_consequence (dispatched (call_view log) r.table.classified) r.stream v).surplus } in
+          let same = snoc-last r.table.classified earlier x c (sym (ap (λ (t : StreamTable). t.classified) (last-stays side log before n y e ∙ r.is)) ∙ q) in
+          absurd (let i = ap (λ (z : Classified). is_some (offset z.verdict)) same ∙ s in let k = ap is_some (no-offset offset m v (bi-not-once (contents log r.stream) (end_of (events_of log) r.stream))) in cc)
+
+      at-unis : (e : Option Ending) → (scanned side log before n).progress.ending ≡ e → last.progress.ending ≡ Some (ByFault h3.StreamCreation)
+      at-unis None e = at-bis start.ending refl e
+      at-unis (Some y) e =
+          let r = unis-end side log before n y e in
+          let v = uni_verdict_of (contents log r.stream) (end_of (events_of log) r.stream) in
+          let x : Classified = record { id = r.stream; verdict = v; surplus = (uni_consequence (dispatched (call_view log) r.table.classified) r.stream v).surplus } in
+          let b = bis-stay side log before n y e in
+          let l = last-stays side log before n y (ap (λ (t : StreamTable). t.progress.ending) b ∙ e) ∙ b in
+          let w = sym (ap (λ (t : StreamTable). t.classified) (l ∙ r.is)) ∙ q in
+          let i = ap (λ (z : Classified). is_some (offset z.verdict)) (snoc-last r.table.classified earlier x c w) ∙ s in
+          let j = ap (first_at offset) (snoc-front r.table.classified earlier x c w) ∙ f in
+          ap (λ (t : StreamTable). t.progress.ending) l ∙ e ∙ sym r.fault ∙ ap fault_ending (uni-second offset m (call_view log) r.table.classified first r.stream v i j)
+
+  tells-first : TellsFirst side log before last
+  tells-first = record {
+    stream = stream-told;
+    second = second-told;
+    datagram = λ piece code c t d. datagram-ends side log before last start none-scanned (all-left c) piece code t d;
+    session_fault = λ x code c d e w. session-told side log before last start none-scanned (all-left c) x (walks.Fault code) (ByFault code) d e w refl;
+    session_closed = λ x code reason c d e w. session-told side log before last start none-scanned (all-left c) x (walks.Closed code reason) _ d e w refl;
+    stopped = λ c d r e. stop-ends side log before last start none-scanned (all-left c) d r e;
+    control = λ x code c e f. control-ends side log before last start none-scanned (all-left c.streams) x code c e f;
+    encoder = λ x c d e r. encoder-ends side log before last start none-scanned (all-left c.streams) x c d e r;
+    decoder = λ x c d e r. decoder-ends side log before last start none-scanned (all-left c.streams) x c d e r;
+  }
+
+pub first-is-told : (side : Side) (e : Entry) (log : Log) → FirstIsTold side e log
+unfolding stream_table
+first-is-told side e log m o n = at (is_moment e && is_open (e ∷ log)) (and_from (is_moment e) (is_open (e ∷ log)) m o)
+  where
+    at : (b : Bool) → b ≡ true → TellsFirst side (e ∷ log) (stream_table side log) (after-entry side e log b)
+    at true q = tells-first side (e ∷ log) (stream_table side log) n (faultless side log) (λ offset c. once-each side log offset c n)
+    at false q = absurd (cc)
