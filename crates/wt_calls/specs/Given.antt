@@ -1,7 +1,7 @@
 -- What calls that give lead to: the records of what was given, and the reply.
 use Rattle.std.specs.Prelude.{◌∷◌, Err, List, None, Ok, Option, Result, Some, ℕ}
 use Rattle.wt_turn.specs.Log.{CallRecord, StreamAccepted}
-use Rattle.wt_turn.specs.declared.connection_error.ConnectionError.{ConnectionError}
+use Rattle.wt_error.specs.declared.connection_error.ConnectionError.{ConnectionError}
 use Rattle.wt_turn.specs.declared.poll.Poll.{Poll}
 use Rattle.wt_turn.specs.declared.poll.Poll.TheVariants.{Pending, Ready}
 use Rattle.wt_turn.specs.declared.reply.Reply.{Reply}

@@ -35,11 +35,11 @@ use Rattle.wt_spec.specs.StreamTable.{Classified, dispatched, verdict_of}
 use Rattle.wt_turn.specs.Log.{Acked, BytesRead, CallRecord, Called, ConnectStarted, Connected, Datagram, DatagramLimit, DatagramPassed, DatagramReceived, End, Event, HandshakeOver, Log, Loss, MaxBi, MaxData, MaxUni, OpeningFailed, OpeningStarted, PeerBi, PeerUni, Polled, PrioritySet, Received, Reported, RequestDelivered, Reset, ResetUnsent, ResponseStarted, Sent, SessionEstablished, Stop, StreamAccepted, StreamGivenUp, StreamPassed, actions_of, calls_of, events_of, is_open, with_actions}
 use Rattle.wt_turn.specs.declared.action.Action.{Action}
 use Rattle.wt_turn.specs.declared.call.Call.{Call}
-use Rattle.wt_turn.specs.declared.connecting_error.ConnectingError.{ConnectingError}
-use Rattle.wt_turn.specs.declared.connection_error.ConnectionError.{ConnectionError}
+use Rattle.wt_error.specs.declared.connecting_error.ConnectingError.{ConnectingError}
+use Rattle.wt_error.specs.declared.connection_error.ConnectionError.{ConnectionError}
 use Rattle.wt_turn.specs.declared.datagram_fact.DatagramFact.{DatagramFact}
 use Rattle.wt_turn.specs.declared.reply.Reply.{Reply}
-use Rattle.wt_turn.specs.declared.stream_error.StreamWriteError.{StreamWriteError}
+use Rattle.wt_error.specs.declared.stream_error.StreamWriteError.{StreamWriteError}
 use Rattle.wt_turn.specs.declared.turn.Turn.{Turn}
 use Rattle.wt_wire.specs.Codes.{code_of}
 use Rattle.wt_wire.specs.HeaderList.{Fields}

@@ -7,8 +7,8 @@ use Rattle.wt_message.specs.declared.settings.Settings.{Settings}
 use Rattle.wt_proto.specs.declared.verdict.Verdict.{Verdict}
 use Rattle.wt_proto.specs.declared.verdict.Verdict.TheVariants as verdicts
 use Rattle.wt_spec.specs.StreamTable.{ByFault, BySession, Classified, Ending}
-use Rattle.wt_turn.specs.declared.driver_error.DriverError.{DriverError}
-use Rattle.wt_turn.specs.declared.driver_error.DriverError.TheVariants as errors
+use Rattle.wt_error.specs.declared.driver_error.DriverError.{DriverError}
+use Rattle.wt_error.specs.declared.driver_error.DriverError.TheVariants as errors
 use Rattle.wt_turn.specs.declared.poll.Poll.{Poll}
 use Rattle.wt_turn.specs.declared.poll.Poll.TheVariants.{Pending, Ready}
 use Rattle.wt_wire.specs.HeaderList.{Fields}

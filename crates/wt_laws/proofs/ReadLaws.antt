@@ -27,7 +27,7 @@ use Rattle.wt_spec.specs.Driver.{stream_table}
 use Rattle.wt_spec.specs.Halves.{body_offset, bytes_read, has_receiving_half, is_accepted, total_read, unread}
 use Rattle.wt_spec.specs.StreamTable.{verdict_of}
 use Rattle.wt_turn.specs.declared.call.Call.TheVariants as calls
-use Rattle.wt_turn.specs.declared.stream_error.StreamReadExactError.TheVariants as exacts
+use Rattle.wt_error.specs.declared.stream_error.StreamReadExactError.TheVariants as exacts
 use Rattle.wt_turn.specs.declared.reply.Reply.TheVariants as replies
 use Rattle.wt_turn.specs.declared.turn.Turn.TheVariants as turns
 use Rattle.wt_proto.specs.declared.verdict.Verdict.TheVariants as verdicts

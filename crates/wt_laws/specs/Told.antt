@@ -4,7 +4,7 @@ use Rattle.wt_turn.specs.Log.{BytesRead, CallRecord, DatagramPassed, DatagramRec
 use Rattle.wt_turn.specs.declared.reply.Reply.{Reply}
 use Rattle.wt_turn.specs.declared.turn.Turn.{Turn}
 use Rattle.wt_laws.specs.Causes.{reads_from}
-use Rattle.wt_turn.specs.declared.stream_error.StreamReadExactError.TheVariants as exacts
+use Rattle.wt_error.specs.declared.stream_error.StreamReadExactError.TheVariants as exacts
 use Rattle.wt_turn.specs.declared.reply.Reply.TheVariants as replies
 
 -- the bytes that a read gave

@@ -6,22 +6,22 @@ use Rattle.hex.specs.Hex.{encode_lower}
 use Rattle.wt_wire.specs.declared.addr.Addr.{Addr}
 use Rattle.wt_wire.specs.declared.addr.Addr.TheVariants as addresses
 use Rattle.wt_wire.specs.Codes.{code_of}
-use Rattle.wt_turn.specs.declared.connecting_error.UrlRefusal.{UrlRefusal}
-use Rattle.wt_turn.specs.declared.connecting_error.UrlRefusal.TheVariants as refusals
-use Rattle.wt_turn.specs.declared.connecting_error.ConnectingError.{ConnectingError}
-use Rattle.wt_turn.specs.declared.connecting_error.ConnectingError.TheVariants as connecting
-use Rattle.wt_turn.specs.declared.connection_error.ConnectionError.{ConnectionError}
-use Rattle.wt_turn.specs.declared.connection_error.ConnectionError.TheVariants as connection
-use Rattle.wt_turn.specs.declared.stream_error.StreamWriteError.{StreamWriteError}
-use Rattle.wt_turn.specs.declared.stream_error.StreamWriteError.TheVariants as writes
-use Rattle.wt_turn.specs.declared.stream_error.StreamReadError.{StreamReadError}
-use Rattle.wt_turn.specs.declared.stream_error.StreamReadError.TheVariants as reads
-use Rattle.wt_turn.specs.declared.stream_error.StreamReadExactError.{StreamReadExactError}
-use Rattle.wt_turn.specs.declared.stream_error.StreamReadExactError.TheVariants as exacts
-use Rattle.wt_turn.specs.declared.stream_error.SendDatagramError.{SendDatagramError}
-use Rattle.wt_turn.specs.declared.stream_error.SendDatagramError.TheVariants as datagrams
-use Rattle.wt_turn.specs.declared.stream_error.StreamOpeningError.{StreamOpeningError}
-use Rattle.wt_turn.specs.declared.stream_error.StreamOpeningError.TheVariants as openings
+use Rattle.wt_error.specs.declared.connecting_error.UrlRefusal.{UrlRefusal}
+use Rattle.wt_error.specs.declared.connecting_error.UrlRefusal.TheVariants as refusals
+use Rattle.wt_error.specs.declared.connecting_error.ConnectingError.{ConnectingError}
+use Rattle.wt_error.specs.declared.connecting_error.ConnectingError.TheVariants as connecting
+use Rattle.wt_error.specs.declared.connection_error.ConnectionError.{ConnectionError}
+use Rattle.wt_error.specs.declared.connection_error.ConnectionError.TheVariants as connection
+use Rattle.wt_error.specs.declared.stream_error.StreamWriteError.{StreamWriteError}
+use Rattle.wt_error.specs.declared.stream_error.StreamWriteError.TheVariants as writes
+use Rattle.wt_error.specs.declared.stream_error.StreamReadError.{StreamReadError}
+use Rattle.wt_error.specs.declared.stream_error.StreamReadError.TheVariants as reads
+use Rattle.wt_error.specs.declared.stream_error.StreamReadExactError.{StreamReadExactError}
+use Rattle.wt_error.specs.declared.stream_error.StreamReadExactError.TheVariants as exacts
+use Rattle.wt_error.specs.declared.stream_error.SendDatagramError.{SendDatagramError}
+use Rattle.wt_error.specs.declared.stream_error.SendDatagramError.TheVariants as datagrams
+use Rattle.wt_error.specs.declared.stream_error.StreamOpeningError.{StreamOpeningError}
+use Rattle.wt_error.specs.declared.stream_error.StreamOpeningError.TheVariants as openings
 
 -- bytes in lower-case hexadecimal, '-' for none
 abbrev pub hex_text : List ℕ → List ℕ

@@ -27,7 +27,7 @@ use Rattle.wt_told.proofs.DriverTheorems.{driver_error_theorem, requests_theorem
 use Rattle.wt_told.proofs.Theorems.{logged_theorem}
 use Rattle.wt_told.proofs.Turns.{entry-first}
 use Rattle.wt_turn.specs.Log.{CallRecord, Called, HandshakeOver, Log, Polled, RequestDelivered, calls_of}
-use Rattle.wt_turn.specs.declared.connection_error.ConnectionError.{ConnectionError}
+use Rattle.wt_error.specs.declared.connection_error.ConnectionError.{ConnectionError}
 use Rattle.wt_turn.specs.declared.call.Call.TheVariants as calls
 use Rattle.wt_turn.specs.declared.poll.Poll.{Poll}
 use Rattle.wt_turn.specs.declared.poll.Poll.TheVariants.{Pending, Ready}

@@ -3,7 +3,7 @@ use Rattle.std.specs.Prelude.{◌≡◌, Err, List, Ok, Option, Result, ℕ}
 use Rattle.wt_session.specs.Standing.{IsEstablished}
 use Rattle.wt_spec.specs.Handshake as handshake
 use Rattle.wt_turn.specs.Log.{Log, calls_of}
-use Rattle.wt_turn.specs.declared.connecting_error.ConnectingError.{ConnectingError}
+use Rattle.wt_error.specs.declared.connecting_error.ConnectingError.{ConnectingError}
 use Rattle.wt_turn.specs.declared.poll.Poll.{Poll}
 use Rattle.wt_turn.specs.declared.poll.Poll.TheVariants.{Pending, Ready}
 use Rattle.wt_turn.specs.declared.reply.Reply.{Reply}

@@ -6,7 +6,7 @@ use Rattle.wt_spec.specs.Answers.{may_call}
 use Rattle.wt_spec.specs.Handshake.{Requested, handshake_state, requested}
 use Rattle.wt_turn.specs.Log.{Log, calls_of}
 use Rattle.wt_turn.specs.declared.call.Call.TheVariants as calls
-use Rattle.wt_turn.specs.declared.connection_error.ConnectionError.{ConnectionError}
+use Rattle.wt_error.specs.declared.connection_error.ConnectionError.{ConnectionError}
 use Rattle.wt_turn.specs.declared.poll.Poll.{Poll}
 use Rattle.wt_turn.specs.declared.poll.Poll.TheVariants.{Pending, Ready}
 use Rattle.wt_turn.specs.declared.reply.Reply.{Reply}

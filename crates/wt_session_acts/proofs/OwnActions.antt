@@ -21,15 +21,15 @@ use Rattle.wt_streams.specs.HalfRules.{read_exact_answer}
 use Rattle.wt_turn.specs.Log.{PrioritySet, ResponseStarted}
 use Rattle.wt_turn.specs.declared.call.Call.{Call}
 use Rattle.wt_turn.specs.declared.call.Call.TheVariants as calls
-use Rattle.wt_turn.specs.declared.connecting_error.ConnectingError.{ConnectingError}
-use Rattle.wt_turn.specs.declared.connecting_error.UrlRefusal.TheVariants as refusals
+use Rattle.wt_error.specs.declared.connecting_error.ConnectingError.{ConnectingError}
+use Rattle.wt_error.specs.declared.connecting_error.UrlRefusal.TheVariants as refusals
 use Rattle.wt_turn.specs.declared.datagram_fact.DatagramFact.{DatagramFact}
 use Rattle.wt_turn.specs.declared.datagram_fact.DatagramFact.TheVariants as facts
 use Rattle.wt_turn.specs.declared.poll.Poll.{Poll}
 use Rattle.wt_turn.specs.declared.poll.Poll.TheVariants.{Pending, Ready}
-use Rattle.wt_turn.specs.declared.stream_error.SendDatagramError.TheVariants as datagrams
-use Rattle.wt_turn.specs.declared.stream_error.StreamReadExactError.{StreamReadExactError}
-use Rattle.wt_turn.specs.declared.stream_error.StreamReadExactError.TheVariants as exacts
+use Rattle.wt_error.specs.declared.stream_error.SendDatagramError.TheVariants as datagrams
+use Rattle.wt_error.specs.declared.stream_error.StreamReadExactError.{StreamReadExactError}
+use Rattle.wt_error.specs.declared.stream_error.StreamReadExactError.TheVariants as exacts
 use Rattle.wt_wire.specs.HeaderList.{Fields}
 use Rattle.wt_wire.specs.Varint.{varint_bytes}
 use Rattle.wt_wire.specs.declared.addr.Addr.{Addr}
@@ -59,14 +59,14 @@ use Rattle.wt_session_spec.specs.SessionState.{has_receiving_now, has_sending_no
 use Rattle.wt_session_spec.specs.Plan.{Establish, Plan, Step, closing_with, fail_with, only_reply, send_and_reply}
 use Rattle.wt_session_spec.specs.SessionState.{session_state}
 use Rattle.wt_spec.specs.Handshake.{Connecting, HandshakeState, Responding, awaits_answer, handshake_state, has_success, requested, response_head}
-use Rattle.wt_turn.specs.declared.connecting_error.ConnectingError.TheVariants as connects
+use Rattle.wt_error.specs.declared.connecting_error.ConnectingError.TheVariants as connects
 use Rattle.wt_streams.specs.HalfRules.{is_closed}
 use Rattle.wt_turn.specs.declared.reply.Reply.TheVariants as replies
 use Rattle.wt_spec.specs.Effect.{is_empty}
 use Rattle.wt_turn.specs.Log.{CallRecord, Log, Polled, ResetUnsent, Sent, actions_of, all_events_of, calls_of, events_of, is_open, with_actions}
 use Rattle.wt_turn.specs.declared.action.Action.{Action}
 use Rattle.wt_turn.specs.declared.action.Action.TheVariants as actions
-use Rattle.wt_turn.specs.declared.connection_error.ConnectionError.{ConnectionError}
+use Rattle.wt_error.specs.declared.connection_error.ConnectionError.{ConnectionError}
 use Rattle.wt_wire.specs.declared.side.Side.{Side}
 use Rattle.wt_wire.specs.declared.side.Side.TheVariants.{Client, Server}
 

@@ -46,15 +46,15 @@ use Rattle.wt_turn.specs.declared.action.Action.{Action}
 use Rattle.wt_turn.specs.declared.action.Action.TheVariants as actions
 use Rattle.wt_turn.specs.declared.call.Call.{Call}
 use Rattle.wt_turn.specs.declared.call.Call.TheVariants as calls
-use Rattle.wt_turn.specs.declared.connecting_error.ConnectingError.{ConnectingError}
-use Rattle.wt_turn.specs.declared.connecting_error.ConnectingError.TheVariants as connects
-use Rattle.wt_turn.specs.declared.connecting_error.UrlRefusal.TheVariants as refusals
-use Rattle.wt_turn.specs.declared.connection_error.ConnectionError.{ConnectionError}
+use Rattle.wt_error.specs.declared.connecting_error.ConnectingError.{ConnectingError}
+use Rattle.wt_error.specs.declared.connecting_error.ConnectingError.TheVariants as connects
+use Rattle.wt_error.specs.declared.connecting_error.UrlRefusal.TheVariants as refusals
+use Rattle.wt_error.specs.declared.connection_error.ConnectionError.{ConnectionError}
 use Rattle.wt_turn.specs.declared.datagram_fact.DatagramFact.{DatagramFact}
 use Rattle.wt_turn.specs.declared.datagram_fact.DatagramFact.TheVariants as facts
 use Rattle.wt_turn.specs.declared.poll.Poll.TheVariants.{Ready}
 use Rattle.wt_turn.specs.declared.reply.Reply.TheVariants as replies
-use Rattle.wt_turn.specs.declared.stream_error.SendDatagramError.TheVariants as datagrams
+use Rattle.wt_error.specs.declared.stream_error.SendDatagramError.TheVariants as datagrams
 use Rattle.wt_wire.specs.Codes.{code_of}
 use Rattle.wt_wire.specs.HeaderList.{Fields}
 use Rattle.wt_wire.specs.declared.addr.Addr.{Addr}

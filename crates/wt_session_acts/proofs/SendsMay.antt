@@ -15,11 +15,11 @@ use Rattle.wt_session_spec.specs.HalfPlans.{bytes_out, finish_actions}
 use Rattle.wt_session_spec.specs.HandshakePlans.{AllOut, Ended, HeadProgress, Refused, Short, head_actions, head_progress}
 use Rattle.wt_spec.specs.Effect.{is_empty}
 use Rattle.wt_streams.specs.HalfRules.{SendingHalf, write_refusal}
-use Rattle.wt_turn.specs.declared.stream_error.StreamWriteError.TheVariants as write_errors
+use Rattle.wt_error.specs.declared.stream_error.StreamWriteError.TheVariants as write_errors
 use Rattle.wt_turn.specs.Log.{Log, Sent, actions_of, events_of, is_open, with_actions}
 use Rattle.wt_turn.specs.declared.action.Action.{Action}
 use Rattle.wt_turn.specs.declared.action.Action.TheVariants as actions
-use Rattle.wt_turn.specs.declared.stream_error.StreamWriteError.{StreamWriteError}
+use Rattle.wt_error.specs.declared.stream_error.StreamWriteError.{StreamWriteError}
 use Rattle.wt_wire.specs.declared.side.Side.{Side}
 
 -- one after another

@@ -15,8 +15,8 @@ use Rattle.wt_seam_spec.specs.Sent.{is_finished}
 use Rattle.wt_seam_spec.specs.Streams.{contents, local_bi, local_count}
 use Rattle.wt_turn.specs.Log.{CallRecord, Log, Polled, ResponseStarted, actions_of, calls_of, events_of, is_open}
 use Rattle.wt_turn.specs.declared.action.Action.{Action}
-use Rattle.wt_turn.specs.declared.connecting_error.ConnectingError.{ConnectingError}
-use Rattle.wt_turn.specs.declared.connection_error.ConnectionError.{ConnectionError}
+use Rattle.wt_error.specs.declared.connecting_error.ConnectingError.{ConnectingError}
+use Rattle.wt_error.specs.declared.connection_error.ConnectionError.{ConnectionError}
 use Rattle.wt_wire.specs.HeaderList.{Fields}
 use Rattle.wt_wire.specs.declared.addr.Addr.{Addr}
 use Rattle.wt_wire.specs.declared.lookup.ConnectOutcome.{ConnectOutcome}

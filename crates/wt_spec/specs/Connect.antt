@@ -10,7 +10,7 @@ use Rattle.url.specs.declared.host.Host.{Host}
 use Rattle.wt_message.specs.FixedBytes.{headers_frame_bytes}
 use Rattle.wt_message.specs.Requests.{is_reserved, request_fields}
 use Rattle.wt_turn.specs.Log.{ConnectStarted, Log}
-use Rattle.wt_turn.specs.declared.connecting_error.ConnectingError.{ConnectingError}
+use Rattle.wt_error.specs.declared.connecting_error.ConnectingError.{ConnectingError}
 use Rattle.wt_wire.specs.HeaderList.{Fields, with_field}
 use Rattle.wt_wire.specs.declared.addr.Addr.{Addr}
 use Rattle.wt_wire.specs.declared.lookup.ConnectOutcome.{ConnectOutcome}
@@ -20,11 +20,11 @@ use Rattle.wt_spec.specs.Effect.{Effect, log_call, reply_with}
 use Rattle.wt_spec.specs.Handshake.{fail_connect}
 use Rattle.wt_turn.specs.declared.action.Action.TheVariants as actions
 use Rattle.wt_wire.specs.declared.addr.Addr.TheVariants as addresses
-use Rattle.wt_turn.specs.declared.connecting_error.ConnectingError.TheVariants as connects
+use Rattle.wt_error.specs.declared.connecting_error.ConnectingError.TheVariants as connects
 use Rattle.url.specs.declared.host.Host.TheVariants as hosts
 use Rattle.wt_wire.specs.declared.lookup.Lookup.TheVariants as lookups
 use Rattle.wt_wire.specs.declared.lookup.ConnectOutcome.TheVariants as outcomes
-use Rattle.wt_turn.specs.declared.connecting_error.UrlRefusal.TheVariants as refusals
+use Rattle.wt_error.specs.declared.connecting_error.UrlRefusal.TheVariants as refusals
 use Rattle.wt_turn.specs.declared.reply.Reply.TheVariants as replies
 
 -- ---- what a URL says

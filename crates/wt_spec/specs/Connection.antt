@@ -21,10 +21,10 @@ use Rattle.wt_spec.specs.Effect.{Effect, head_left, is_covered, log_call, pendin
 use Rattle.wt_spec.specs.Handshake.{is_refused}
 use Rattle.wt_spec.specs.StreamTable.{Classified, dispatched}
 use Rattle.wt_turn.specs.declared.action.Action.TheVariants as actions
-use Rattle.wt_turn.specs.declared.stream_error.SendDatagramError.TheVariants as datagrams
+use Rattle.wt_error.specs.declared.stream_error.SendDatagramError.TheVariants as datagrams
 use Rattle.wt_turn.specs.declared.datagram_fact.DatagramFact.TheVariants as facts
 use Rattle.wt_wire.specs.declared.error.ErrorCode.TheVariants as h3
-use Rattle.wt_turn.specs.declared.stream_error.StreamOpeningError.TheVariants as openings
+use Rattle.wt_error.specs.declared.stream_error.StreamOpeningError.TheVariants as openings
 use Rattle.wt_turn.specs.declared.reply.Reply.TheVariants as replies
 use Rattle.wt_proto.specs.declared.verdict.Verdict.TheVariants as verdicts
 

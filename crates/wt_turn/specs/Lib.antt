@@ -1,5 +1,2 @@
-pub mod Close
-pub mod ProtoReason
-pub mod ProtoError
 pub mod Log
 pub mod Records

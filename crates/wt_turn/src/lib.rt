@@ -1,29 +1,22 @@
 //! The words of a WebTransport session: what happens to a connection, what the application calls,
-//! what goes out, what is answered, and each error.
+//! what goes out and what is answered.
 //!
 //! A [`turn::Turn`] is one event of the QUIC transport or one [`call::Call`] of the application, an
 //! [`action::Action`] is what the transport is told to do, and an [`answer::Answer`] is the reply to
 //! one turn with the actions that go out. Beside them stands the definition of a connection's log.
+//! The errors of wt_error are offered again.
 #![tactic(auto)]
 
 pub mod action;
 pub mod answer;
 pub mod call;
-pub mod close;
-pub mod connecting_error;
-pub mod connection_error;
 pub mod datagram_fact;
-pub mod driver_error;
-pub mod loss;
-pub mod piece;
 pub mod poll;
-pub mod proto_error;
 pub mod record;
 pub mod reply;
 pub mod rows;
 pub mod send;
 pub mod sequence;
-pub mod stream_error;
 #[cfg(test)]
 mod tests;
 pub mod turn;
@@ -31,11 +24,12 @@ pub mod turn;
 pub use action::{Action, Actions};
 pub use answer::{Answer, Answers};
 pub use call::Call;
-pub use close::{ApplicationClose, ConnectionClose, PeerClose};
 pub use datagram_fact::DatagramFact;
-pub use loss::LossReason;
-pub use piece::Piece;
 pub use poll::Poll;
 pub use record::Record;
 pub use reply::Reply;
 pub use turn::{Turn, Turns};
+pub use wt_error::{
+    ApplicationClose, ConnectionClose, LossReason, PeerClose, Piece, close, connecting_error,
+    connection_error, driver_error, loss, piece, proto_error, stream_error,
+};

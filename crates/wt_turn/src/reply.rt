@@ -1,13 +1,13 @@
 //! What the caller of a turn is told.
 ghost use Rattle.std.specs.Prelude.{◌≡◌, ◌↔◌, IfOk, IsTrue};
 
-use crate::connecting_error::ConnectingError;
-use crate::connection_error::ConnectionError;
-use crate::piece::Piece;
-use crate::stream_error::{
+use std::alloc::Global;
+use wt_error::connecting_error::ConnectingError;
+use wt_error::connection_error::ConnectionError;
+use wt_error::piece::Piece;
+use wt_error::stream_error::{
     SendDatagramError, StreamOpeningError, StreamReadError, StreamReadExactError, StreamWriteError,
 };
-use std::alloc::Global;
 use wt_wire::error::OutOfMemory;
 use wt_wire::header_list::HeaderList;
 use wt_wire::ids::{SessionId, StreamId};

@@ -1,3 +1,2 @@
-//! What the contracts leave open: texts, and that memory suffices where there is enough.
+//! What the contracts leave open: that memory suffices where there is enough.
 mod copies;
-mod texts;

@@ -2,8 +2,8 @@
 use Rattle.std.specs.Prelude.{ℕ, List, [], Option, Some, None, Result, Ok, Err, Bool, true, false, ◌&&◌, if◌then◌else◌}
 use Rattle.wt_turn.specs.declared.poll.Poll.{Poll}
 use Rattle.wt_turn.specs.declared.poll.Poll.TheVariants as polls
-use Rattle.wt_turn.specs.declared.stream_error.AlreadyStop.{AlreadyStop}
-use Rattle.wt_turn.specs.declared.proto_error.ProtoReadError.{ProtoReadError}
+use Rattle.wt_error.specs.declared.stream_error.AlreadyStop.{AlreadyStop}
+use Rattle.wt_error.specs.declared.proto_error.ProtoReadError.{ProtoReadError}
 use Rattle.wt_wire.specs.declared.side.StreamEnd.{StreamEnd}
 use Rattle.wt_wire.specs.declared.frame.FrameKind.TheVariants as kinds
 use Rattle.wt_wire.specs.FrameBytes.{FrameParts, frame_bytes}

@@ -1,14 +1,14 @@
 //! Values of each type are copied and compared.
-use crate::connecting_error::ConnectingError;
-use crate::connection_error::{ConnectionError, QuicProtoError};
-use crate::driver_error::DriverError;
-use crate::stream_error::StreamReadExactError;
 use crate::{
     Action, Actions, Answer, Answers, ApplicationClose, Call, ConnectionClose, LossReason, Piece,
     Reply, Turn, Turns,
 };
 use std::alloc::Global;
 use std::process::Abort;
+use wt_error::connecting_error::ConnectingError;
+use wt_error::connection_error::{ConnectionError, QuicProtoError};
+use wt_error::driver_error::DriverError;
+use wt_error::stream_error::StreamReadExactError;
 use wt_wire::error::OutOfMemory;
 use wt_wire::header_list::HeaderList;
 use wt_wire::ids::StreamId;

@@ -31,7 +31,7 @@ pub struct PeerClose<B> {
 }
 
 impl<B> Model for PeerClose<B> {
-    ghost use Rattle.wt_turn.specs.Close.{Close};
+    ghost use Rattle.wt_error.specs.Close.{Close};
 
     ghost Value = { Close };
 
@@ -89,7 +89,7 @@ impl<B> PeerClose<B> {
 /// code.
 impl<B> fmt::Display for PeerClose<B> {
     ghost use Rattle.std.specs.Prelude.{Some};
-    ghost use Rattle.wt_turn.specs.Close.{close_text};
+    ghost use Rattle.wt_error.specs.Close.{close_text};
 
     ghost output = { λ c. Some (close_text c.code c.reason) };
 

@@ -4,8 +4,8 @@ use Rattle.std.specs.Option.{option_eq}
 use Rattle.std.specs.Cmp.{IsEquivalence, and_equiv, on_equiv, nat_eq_equiv}
 use Rattle.std.specs.Cmp.Lexicographic.{pointwise, nat_list_eq_equiv, options_equiv}
 use Rattle.std.specs.Fmt.{decimal}
-use Rattle.wt_turn.specs.declared.connection_error.Reason.{Reason}
-use Rattle.wt_turn.specs.declared.connection_error.Reason.TheVariants.{VersionMismatched, HasBeenReset, Told}
+use Rattle.wt_error.specs.declared.connection_error.Reason.{Reason}
+use Rattle.wt_error.specs.declared.connection_error.Reason.TheVariants.{VersionMismatched, HasBeenReset, Told}
 
 -- a code where there is one, and the text of a reason
 pub record ProtoError : Type 0 where

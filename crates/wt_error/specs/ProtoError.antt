@@ -1,9 +1,9 @@
 -- What a lost connection is told as.
 use Rattle.std.specs.Prelude.{ℕ, ◌^◌, List, codes, Option, Some, None, nat_lt, if◌then◌else◌}
-use Rattle.wt_turn.specs.declared.loss.LossReason.{LossReason}
-use Rattle.wt_turn.specs.declared.loss.LossReason.TheVariants as losses
-use Rattle.wt_turn.specs.declared.connection_error.ConnectionError.{ConnectionError}
-use Rattle.wt_turn.specs.declared.connection_error.ConnectionError.TheVariants as errors
+use Rattle.wt_error.specs.declared.loss.LossReason.{LossReason}
+use Rattle.wt_error.specs.declared.loss.LossReason.TheVariants as losses
+use Rattle.wt_error.specs.declared.connection_error.ConnectionError.{ConnectionError}
+use Rattle.wt_error.specs.declared.connection_error.ConnectionError.TheVariants as errors
 
 -- a code that stands in a variable-length integer (RFC 9000, section 16)
 abbrev pub code_in_range : ℕ → Option ℕ

@@ -1,6 +1,6 @@
 //! How a connection ended.
 ghost use Rattle.std.specs.Prelude.{◌≡◌, ◌↔◌, IfOk, IsTrue};
-ghost use Rattle.wt_turn.specs.ProtoReason.{reason_text};
+ghost use Rattle.wt_error.specs.ProtoReason.{reason_text};
 
 use crate::close::{ApplicationClose, ConnectionClose};
 use crate::loss::LossReason;
@@ -85,7 +85,7 @@ pub struct QuicProtoError {
 }
 
 impl Model for QuicProtoError {
-    ghost use Rattle.wt_turn.specs.ProtoReason.{ProtoError, reason_text};
+    ghost use Rattle.wt_error.specs.ProtoReason.{ProtoError, reason_text};
 
     ghost Value = { ProtoError };
 
@@ -134,7 +134,7 @@ impl QuicProtoError {
 
 impl PartialEq for QuicProtoError {
     ghost use Rattle.std.specs.Cmp.{partial_equiv_from_equiv};
-    ghost use Rattle.wt_turn.specs.ProtoReason.{proto_error_eq, proto_error_equiv};
+    ghost use Rattle.wt_error.specs.ProtoReason.{proto_error_eq, proto_error_equiv};
 
     ghost eq = { proto_error_eq };
 
@@ -146,7 +146,7 @@ impl PartialEq for QuicProtoError {
 }
 
 impl Eq for QuicProtoError {
-    ghost use Rattle.wt_turn.specs.ProtoReason.{proto_error_equiv};
+    ghost use Rattle.wt_error.specs.ProtoReason.{proto_error_equiv};
 
     ghost laws = { proto_error_equiv };
 }
@@ -154,7 +154,7 @@ impl Eq for QuicProtoError {
 /// The reason, and the code where there is one.
 impl fmt::Display for QuicProtoError {
     ghost use Rattle.std.specs.Prelude.{Some};
-    ghost use Rattle.wt_turn.specs.ProtoReason.{proto_error_text};
+    ghost use Rattle.wt_error.specs.ProtoReason.{proto_error_text};
 
     ghost output = { λ e. Some (proto_error_text e.code e.reason) };
 
@@ -239,7 +239,7 @@ impl ConnectionError {
 
 /// A connection that is lost is told by this error from then on. No memory is taken.
 impl From<LossReason> for ConnectionError {
-    ghost use Rattle.wt_turn.specs.ProtoError.{error_of_loss};
+    ghost use Rattle.wt_error.specs.ProtoError.{error_of_loss};
 
     ghost from_gives = { λ reason error. error ≡ error_of_loss reason };
 

@@ -1,0 +1,3 @@
+pub mod Close
+pub mod ProtoReason
+pub mod ProtoError

@@ -1,0 +1,2 @@
+//! What the contracts leave open: texts.
+mod texts;
