@@ -14,7 +14,7 @@ use Rattle.wt_turn.specs.declared.turn.Turn.{Turn}
 use Rattle.wt_wire.specs.declared.side.Side.{Side}
 use Rattle.wt_wire.specs.declared.side.Side.TheVariants.{Client, Server}
 use Rattle.wt_laws.proofs.Caused.{whole-covered}
-use Rattle.wt_laws.proofs.Facts.{facts-first, found-sessions, is_local}
+use Rattle.wt_laws.proofs.Facts.{facts-first, found-sessions, is_local, opened-local}
 use Rattle.wt_laws.proofs.Looks.{from-or}
 use Rattle.wt_laws.proofs.Reached.{reached}
 use Rattle.wt_laws.proofs.ReadLaws.{local-unclassified}

@@ -28,7 +28,7 @@ pub data SentIn (side : Side) (turn : Turn) (start log : Log) (a : Action) : Typ
 
 -- the turn is the event of the transport that tells exactly this, and tells it first of all, while the connection is open or after its end
 abbrev pub IsTold : Turn → Log → Log → Bool → Event → Type 0
-IsTold turn start log open e = (event_of turn ≡ Some e) × (log ≡ start) × (is_open log ≡ open)
+IsTold turn start log was_open e = (event_of turn ≡ Some e) × (log ≡ start) × (is_open log ≡ was_open)
 
 -- The turn is the event of the transport that brings this byte for the stream, on an open connection: it is the next of the piece,
 -- behind those that came in the turn before it (RFC 9000, section 2.2).
