@@ -1,5 +1,5 @@
 -- Every reply has its cause, and so has every action of the driver.
-use Rattle.std.specs.Prelude.{[], ◌&&◌, ◌++◌, ◌==◌, ◌∷◌, ◌≡◌, ◌≢◌, Bool, List, None, Option, Some, drop, false, if◌then◌else◌, length, nat_lt, not, take, true, ℕ}
+use Rattle.std.specs.Prelude.{[], ◌++◌, ◌==◌, ◌∷◌, ◌≡◌, ◌≢◌, Bool, List, None, Option, Some, drop, false, if◌then◌else◌, length, nat_lt, not, take, true, ℕ}
 use Rattle.std.proofs.Common.{◌∙◌, ap, arith, refl, subst, sym}
 use Rattle.std.proofs.lemmas.Bool.{eqb-true, ltb-true, not-false}
 use Rattle.std.proofs.lemmas.List.{append-nil, append_assoc}
@@ -10,7 +10,7 @@ use Rattle.wt_seam_spec.specs.Joined.{send_of}
 use Rattle.wt_seam_spec.specs.Reports.{credit, end_of, unis_allowed}
 use Rattle.wt_seam_spec.specs.Sent.{sent_on}
 use Rattle.wt_seam_spec.specs.Streams.{contents, local_count, local_uni, peer_bi, peer_count}
-use Rattle.wt_turn.specs.Log.{Called, Entry, Log, Received, Reported, Sent, actions_of, calls_of, events_of, is_open, with_actions}
+use Rattle.wt_turn.specs.Log.{Entry, Log, actions_of, calls_of, events_of, is_open}
 use Rattle.wt_turn.specs.declared.action.Action.{Action}
 use Rattle.wt_turn.specs.declared.turn.Turn.{Turn}
 use Rattle.wt_wire.specs.Codes.{code_of}
@@ -21,7 +21,7 @@ use Rattle.wt_laws.proofs.Moments.{AsBi, AsUni, ClassifiedAs, IsKept, causes, ke
 use Rattle.wt_laws.specs.Laws.{ClosesFault, ClosesSession, DriverCauses, IsRefused, IsSurplus, OpensControl, ReplyHasCause, ResetsSession, SendsControl, StoppedFor, StopsStream, before_newest}
 use Rattle.wt_laws.specs.Reachable.{is_among}
 use Rattle.wt_spec.specs.Answers.{is_lawful}
-use Rattle.wt_spec.specs.Driver.{apply_if, call_view, close_actions, control_actions, control_sent, established, flush, is_moment, log_and_flush, opened_if, pending_actions, reset_if, session_id, stop_actions, stream_table}
+use Rattle.wt_spec.specs.Driver.{call_view, close_actions, control_actions, control_sent, established, is_moment, opened_if, pending_actions, reset_if, session_id, stop_actions, stream_table}
 use Rattle.wt_spec.specs.Scan.{listed}
 use Rattle.wt_spec.specs.StreamTable.{ByFault, BySession, Classified, Consequence, Dispatched, Ending, Stopped, StreamTable, awaits_delivery, bi_consequence, dispatched, kept_if, only, only_once, queued_behind, uni_consequence, verdict_of}
 use Rattle.wt_turn.specs.declared.action.Action.TheVariants as actions

@@ -1,5 +1,5 @@
 -- Why a connection is closed: it was lost, a call closed it in its turn, or the driver did.
-use Rattle.std.specs.Prelude.{[], ◌++◌, ◌||◌, ◌∷◌, ◌≡◌, Bool, List, Option, Some, false, not, true, ℕ}
+use Rattle.std.specs.Prelude.{[], ◌++◌, ◌||◌, ◌∷◌, ◌≡◌, Bool, List, Some, false, not, true, ℕ}
 use Rattle.std.proofs.Common.{◌∙◌, ap, refl}
 use Rattle.std.proofs.lemmas.Bool.{or_left, or_right}
 use Rattle.std.specs.List.{list_any}

@@ -2,7 +2,7 @@
 use Rattle.std.specs.Prelude.{[], ◌&&◌, ◌∷◌, ◌≡◌, Bool, List, Some, false, true, ℕ}
 use Rattle.std.proofs.Common.{◌∙◌, ap, refl}
 use Rattle.wt_seam_spec.specs.Arrivals.{fits}
-use Rattle.wt_seam_spec.specs.Reports.{credit, end_of, is_running}
+use Rattle.wt_seam_spec.specs.Reports.{end_of, is_running}
 use Rattle.wt_turn.specs.Log.{CallRecord, Called, Entry, Event, Log, OpeningStarted, Received, Reported, ReportedLate, Sent, all_events_of, calls_of, is_open, with_actions}
 use Rattle.wt_turn.specs.declared.action.Action.{Action}
 use Rattle.wt_turn.specs.declared.turn.Turn.{Turn}

@@ -1,5 +1,5 @@
 -- Why a call finds a stream, goes on with a handshake, and sends what it does: each action has one of these causes. (Records: RecordCauses.)
-use Rattle.std.specs.Prelude.{[], ◌%◌, ◌*◌, ◌/◌, ◌==◌, ◌||◌, ◌∷◌, ◌≡◌, ◌≢◌, ◌≤◌, Bool, Err, List, None, Ok, Option, Result, Some, bytes_eq, codes, false, if◌then◌else◌, is_some, length, nat_lt, true, ℕ}
+use Rattle.std.specs.Prelude.{[], ◌*◌, ◌/◌, ◌==◌, ◌||◌, ◌∷◌, ◌≡◌, ◌≢◌, Bool, Err, List, None, Ok, Option, Result, Some, bytes_eq, codes, false, if◌then◌else◌, is_some, length, nat_lt, true, ℕ}
 use Rattle.url.specs.Parser.{parse_url}
 use Rattle.url.specs.Parts.{Parts, host_or_empty}
 use Rattle.url.specs.declared.error.ParseError.{ParseError}
@@ -8,7 +8,7 @@ use Rattle.wt_message.specs.FixedBytes.{response_bytes}
 use Rattle.wt_proto.specs.ResponseWalk.{response_walk_of}
 use Rattle.wt_proto.specs.declared.response_walk.ResponseWalk.{ResponseWalk}
 use Rattle.wt_seam_spec.specs.Joined.{send_of}
-use Rattle.wt_seam_spec.specs.Outgoing.{covered, may_open, next_id, opening}
+use Rattle.wt_seam_spec.specs.Outgoing.{covered, may_open, next_id}
 use Rattle.wt_seam_spec.specs.Reports.{datagram_fact, end_of, is_acknowledged, stop_of}
 use Rattle.wt_seam_spec.specs.Sent.{is_finished, is_reset}
 use Rattle.wt_seam_spec.specs.Streams.{contents, local_bi, local_count, local_uni, peer_bi, peer_uni}
@@ -23,12 +23,12 @@ use Rattle.wt_wire.specs.declared.lookup.ConnectOutcome.{ConnectOutcome}
 use Rattle.wt_wire.specs.declared.lookup.Lookup.{Lookup}
 use Rattle.wt_wire.specs.declared.side.Side.{Side}
 use Rattle.wt_spec.specs.Answers.{is_client}
-use Rattle.wt_spec.specs.Connect.{address_of, authority_of, outcome_error, path_of, port_of, request_head, reserved_name, server_name}
+use Rattle.wt_spec.specs.Connect.{address_of, authority_of, outcome_error, path_of, port_of, request_head, server_name}
 use Rattle.wt_spec.specs.Connection.{is_for_session, is_opening, next_datagram, next_due, stream_header}
 use Rattle.wt_spec.specs.Driver.{established, settings_came, stream_table}
 use Rattle.wt_spec.specs.Effect.{head_left, is_covered}
-use Rattle.wt_spec.specs.Halves.{has_receiving_half, has_sending_half, is_done, priority, unread, write_error}
-use Rattle.wt_spec.specs.Handshake.{AwaitingRequest, Connecting, Established, HandshakeState, Over, Requested, Responding, handshake_state, has_success, is_refused, queued_requests, request_end, requested, response_head}
+use Rattle.wt_spec.specs.Halves.{has_receiving_half, has_sending_half, is_done, write_error}
+use Rattle.wt_spec.specs.Handshake.{Connecting, Established, HandshakeState, Over, Requested, Responding, handshake_state, has_success, is_refused, request_end, requested, response_head}
 use Rattle.wt_spec.specs.StreamTable.{Classified, verdict_of}
 use Rattle.wt_turn.specs.declared.action.Action.TheVariants as actions
 use Rattle.wt_turn.specs.declared.call.Call.TheVariants as calls

@@ -1,5 +1,5 @@
 -- Why a call records what it does: each record has one of these causes, in the call that leaves it.
-use Rattle.std.specs.Prelude.{[], ◌%◌, ◌∷◌, ◌≡◌, ◌≤◌, Bool, List, None, Option, Some, false, length, nat_lt, true, ℕ, ℤ}
+use Rattle.std.specs.Prelude.{[], ◌%◌, ◌∷◌, ◌≡◌, ◌≤◌, List, Option, Some, false, length, nat_lt, true, ℕ}
 use Rattle.wt_seam_spec.specs.Outgoing.{may_open, next_id, opening}
 use Rattle.wt_turn.specs.Log.{BytesRead, CallRecord, ConnectStarted, DatagramPassed, DatagramReceived, HandshakeOver, Log, OpeningFailed, OpeningStarted, Polled, PrioritySet, RequestDelivered, ResetUnsent, ResponseStarted, SessionEstablished, StreamAccepted, StreamGivenUp, StreamPassed, calls_of, is_open, with_actions}
 use Rattle.wt_turn.specs.declared.action.Action.{Action}
