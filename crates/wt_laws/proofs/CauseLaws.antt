@@ -1,5 +1,5 @@
--- Every reply and every action has its cause.
-use Rattle.std.specs.Prelude.{[], ◌&&◌, ◌++◌, ◌==◌, ◌∷◌, ◌≡◌, ◌≢◌, Bool, List, None, Option, Some, drop, false, if◌then◌else◌, length, nat_lt, not, take, true, ℕ}
+-- Every reply has its cause, and so has every action of the driver.
+use Rattle.std.specs.Prelude.{[], ◌++◌, ◌==◌, ◌∷◌, ◌≡◌, ◌≢◌, Bool, List, None, Option, Some, drop, false, if◌then◌else◌, length, nat_lt, not, take, true, ℕ}
 use Rattle.std.proofs.Common.{◌∙◌, ap, arith, refl, subst, sym}
 use Rattle.std.proofs.lemmas.Bool.{eqb-true, ltb-true, not-false}
 use Rattle.std.proofs.lemmas.List.{append-nil, append_assoc}
@@ -10,7 +10,7 @@ use Rattle.wt_seam_spec.specs.Joined.{send_of}
 use Rattle.wt_seam_spec.specs.Reports.{credit, end_of, unis_allowed}
 use Rattle.wt_seam_spec.specs.Sent.{sent_on}
 use Rattle.wt_seam_spec.specs.Streams.{contents, local_count, local_uni, peer_bi, peer_count}
-use Rattle.wt_turn.specs.Log.{Called, Entry, Log, Received, Reported, Sent, actions_of, calls_of, events_of, is_open, with_actions}
+use Rattle.wt_turn.specs.Log.{Entry, Log, actions_of, calls_of, events_of, is_open}
 use Rattle.wt_turn.specs.declared.action.Action.{Action}
 use Rattle.wt_turn.specs.declared.turn.Turn.{Turn}
 use Rattle.wt_wire.specs.Codes.{code_of}
@@ -18,13 +18,10 @@ use Rattle.wt_wire.specs.declared.side.Side.{Side}
 use Rattle.wt_laws.proofs.Calls.{caused}
 use Rattle.wt_laws.proofs.During.{decided-during}
 use Rattle.wt_laws.proofs.Moments.{AsBi, AsUni, ClassifiedAs, IsKept, causes, kept-moment}
-use Rattle.wt_laws.proofs.Reached.{reached}
-use Rattle.wt_laws.proofs.Steps.{Keeps}
-use Rattle.wt_laws.specs.Causes.{OwnCauses}
-use Rattle.wt_laws.specs.Laws.{ActionsHaveCauses, ClosesFault, ClosesSession, DriverCauses, ForCall, ForDriver, GoesOnFrom, IsRefused, IsSurplus, OpensControl, ReplyHasCause, ResetsSession, SendsControl, StoppedFor, StopsStream, before_newest}
-use Rattle.wt_laws.specs.Reachable.{IsReachable, is_among}
+use Rattle.wt_laws.specs.Laws.{ClosesFault, ClosesSession, DriverCauses, IsRefused, IsSurplus, OpensControl, ReplyHasCause, ResetsSession, SendsControl, StoppedFor, StopsStream, before_newest}
+use Rattle.wt_laws.specs.Reachable.{is_among}
 use Rattle.wt_spec.specs.Answers.{is_lawful}
-use Rattle.wt_spec.specs.Driver.{apply_if, call_view, close_actions, control_actions, control_sent, established, flush, is_moment, log_and_flush, opened_if, pending_actions, reset_if, session_id, stop_actions, stream_table}
+use Rattle.wt_spec.specs.Driver.{call_view, close_actions, control_actions, control_sent, established, is_moment, opened_if, pending_actions, reset_if, session_id, stop_actions, stream_table}
 use Rattle.wt_spec.specs.Scan.{listed}
 use Rattle.wt_spec.specs.StreamTable.{ByFault, BySession, Classified, Consequence, Dispatched, Ending, Stopped, StreamTable, awaits_delivery, bi_consequence, dispatched, kept_if, only, only_once, queued_behind, uni_consequence, verdict_of}
 use Rattle.wt_turn.specs.declared.action.Action.TheVariants as actions
@@ -232,33 +229,3 @@ module _ (side : Side) (log : Log) where
 -- what the driver sends at a moment, each for its cause
 pub driver-causes : (side : Side) (e : Entry) (log : Log) → is_moment e ≡ true → is_open (e ∷ log) ≡ true → DriverCauses side (e ∷ log) (pending_actions side (e ∷ log))
 driver-causes side e log m o = pending-causes side (e ∷ log) (moment-new side e log m o) (moment-stops side e log m o)
-
--- ---- all that went out
-
-own-sent : (side : Side) (turn : Turn) (own : List Action) (log : Log) → OwnCauses side turn log own → ActionsHaveCauses side log → ActionsHaveCauses side (with_actions own log)
-own-sent side turn [] log c p = p
-own-sent side turn (a ∷ own) log c p = own-sent side turn own (Sent a ∷ log) c.1 (ForCall turn c.0, p)
-
-driver-sent : (side : Side) (e : Entry) (earlier : Log) → is_moment e ≡ true → is_open (e ∷ earlier) ≡ true → (as_ : List Action) (log : Log) → GoesOnFrom (e ∷ earlier) log → DriverCauses side (e ∷ earlier) as_ → ActionsHaveCauses side log
-    → ActionsHaveCauses side (with_actions as_ log)
-driver-sent side e earlier m o [] log x c p = p
-driver-sent side e earlier m o (a ∷ as_) log x c p = driver-sent side e earlier m o as_ (Sent a ∷ log) (Sent a ∷ x.0, ap (λ z. Sent a ∷ z) x.1) c.1 (ForDriver e earlier m o x c.0, p)
-
-flush-sent : (side : Side) (e : Entry) (log : Log) → is_moment e ≡ true → ActionsHaveCauses side (e ∷ log) → ActionsHaveCauses side (log_and_flush side log e)
-unfolding flush
-flush-sent side e log m p = at (is_open (e ∷ log)) refl
-  where
-    at : (b : Bool) → is_open (e ∷ log) ≡ b → ActionsHaveCauses side (apply_if (is_moment e && is_open (e ∷ log)) (with_actions (pending_actions side (e ∷ log))) (e ∷ log))
-    at true o = rw (m, o) (driver-sent side e log m o (pending_actions side (e ∷ log)) (e ∷ log) ([], refl) (driver-causes side e log m o) p)
-    at false o = rw (m, o) p
-
-keeps-sent : (side : Side) (turn : Turn) → Keeps side turn (ActionsHaveCauses side)
-keeps-sent side turn = record {
-  event = λ log e o b p. flush-sent side (Reported e) log refl p;
-  late = λ log e o b p. p;
-  byte = λ log id b o r p. flush-sent side (Received id b) log refl p;
-  call = λ log own r c d p. flush-sent side (Called r) (with_actions own log) refl (own-sent side turn own log c p);
-}
-
-pub actions-have-causes : (side : Side) (log : Log) → IsReachable side log → ActionsHaveCauses side log
-actions-have-causes side log r = reached (ActionsHaveCauses side) tt (keeps-sent side) log r

@@ -29,8 +29,9 @@ use Rattle.wt_wire.specs.declared.side.Side.TheVariants.{Client, Server}
 use Rattle.wt_laws.proofs.Classified.{next-is-due}
 use Rattle.wt_laws.proofs.Looks.{at-first, events-logged, left_to_release, next-within, pass-drops}
 use Rattle.wt_laws.proofs.Steps.{ByCall, Nothing, Steps, blind-actions, calls-logged, calls-with}
-use Rattle.wt_laws.specs.Causes.{ActionCause, ByAccept, ByAnswer, ByResponse, CallCause, ConnectTo, Declines, EndsStream, EstablishedBy, FoundDatagram, FoundStream, FromBefore, HandshakeCode, OfHandshake, OfPass, OfRejection, OfRequest, OfResponse, OwnCauses, Plain, Rejects, Reserves, ResponseFrom, SendCause, StoppedEarly, Stops, accepted_kind, frame_of, is_accept, is_receive, is_under_way, request_to, reserved_in}
-use Rattle.wt_laws.specs.ReplyCauses.{AfterSuccess, AsDriver, AtResponse, BeforeConnection, BeforeRequest, BeforeResponse, BeforeSettings, BeforeStream, ByRefusal, ByReserved, ByResponseFault, ByStatus, ByStop, ByStreamEnd, ConnectFailedCause, ConnectionEnded, Dialling, Finishing, HeadUnsent, NoAddress, NoConnection, NoDatagramLeft, NoRequest, NoResponse, NoSessionStream, NoSettings, NoStreamLeft, NoUrl, NotHttps, NotProceeding, OfTheRequest, OfTheResponse, PendingCause, RejectionOver, RejectionRefused, ReplyCause, Unacknowledged, is_incoming}
+use Rattle.wt_laws.specs.Causes.{ActionCause, ByAccept, ByAnswer, ByResponse, ConnectTo, Declines, DialCause, EndsStream, EstablishedBy, FoundDatagram, FoundStream, FromBefore, HandshakeCode, OfHandshake, OfPass, OfRejection, OfRequest, OfResponse, OwnCauses, Plain, Rejects, Reserves, ResponseFrom, ResponseIs, SendCause, StoppedEarly, Stops, accepted_kind, is_accept, is_receive, is_under_way}
+use Rattle.wt_laws.specs.RecordCauses.{AcceptanceEnded, AcceptanceStopped, CallCause, ConnectEnded, NoMoreRequests, OverBy, OverCause, RejectionEnded}
+use Rattle.wt_laws.specs.ReplyCauses.{AfterSuccess, AsDriver, AtResponse, BeforeConnection, BeforeRequest, BeforeResponse, BeforeSettings, BeforeStream, ByRefusal, ByReserved, ByResponseFault, ByStatus, ByStop, ByStreamEnd, ConnectFailedCause, ConnectionEnded, Dialling, Finishing, HeadUnsent, NoAddress, NoConnection, NoDatagramLeft, NoRequest, NoResponse, NoSessionStream, NoSettings, NoStreamLeft, NoUrl, NotHttps, NotProceeding, OfTheRequest, OfTheResponse, PendingCause, RejectedCause, RejectionOver, RejectionRefused, ReplyCause, Unacknowledged, is_call, is_incoming}
 use Rattle.wt_laws.specs.Told.{Logged, NonePassed, OnePassed, OneRecord, Passed, Tells, ThenPolled, given_stream, is_pass, is_quiet}
 use Rattle.wt_spec.specs.Answers.{is_client}
 use Rattle.wt_spec.specs.Connect.{address_of, authority_of, connect_to, outcome_error, path_of, port_of, request_head, reserved_name, server_name, unless_stopped, with_address}
@@ -89,7 +90,7 @@ open-send log k (b ∷ piece) = refl
 
 -- ---- one turn
 
-module _ (side : Side) (turn : Turn) where
+module _ (side : Side) (turn : Turn) (called : is_call turn ≡ true) where
   pub either : {log : Log} (b : Bool) (x y : Effect) → (b ≡ true → Caused side turn log x) → (b ≡ false → Caused side turn log y) → Caused side turn log (if b then x else y)
   either true x y f g = f refl
   either false x y f g = g refl
@@ -100,7 +101,7 @@ module _ (side : Side) (turn : Turn) where
   leaf log own r reply o c q w = record { decided = log; before = Nothing; after = ByCall own r o c Nothing; why = w; passed = NonePassed; logged = OneRecord r (calls-logged side log own r) q; at_once = λ z. refl }
 
   pub polled : (log : Log) (reply : Reply) → is_quiet reply ≡ true → ReplyCause side turn log reply → Caused side turn log (poll_only side log reply)
-  polled log reply q w = leaf log [] Polled reply tt tt q w
+  polled log reply q w = leaf log [] Polled reply tt called q w
 
   -- a record, then the call's own
   settled : (log : Log) (own : List Action) (r : CallRecord) (reply : Reply) → OwnCauses side turn log own → CallCause side turn log own r → Tells turn r reply → ReplyCause side turn log reply
@@ -108,7 +109,7 @@ module _ (side : Side) (turn : Turn) where
   settled log own r reply o c q w = record {
     decided = log;
     before = Nothing;
-    after = ByCall own r o c (ByCall [] Polled tt tt Nothing);
+    after = ByCall own r o c (ByCall [] Polled tt called Nothing);
     why = w;
     passed = NonePassed;
     logged = ThenPolled r (calls-logged side (log_call side log own r) [] Polled ∙ ap (λ rs. Polled ∷ rs) (calls-logged side log own r)) q;
@@ -149,14 +150,32 @@ module _ (side : Side) (turn : Turn) where
       own-append log own (closing log code) o
       (own-if (with_actions own log) (actions.Close code []) (is_open log) (λ b. (s ∙ b, OfHandshake (ap (λ cs. is_under_way (handshake_state cs)) (calls-with own log) ∙ u) h refl)))
 
-  -- the handshake fails, and closes an open connection
-  failed : (log : Log) (own : List Action) (code : ℕ) (reply : Reply) → HandshakeCode side turn (with_actions own log) code → is_open (with_actions own log) ≡ is_open log → is_under_way (handshake_state (calls_of log)) ≡ true → OwnCauses side turn log own → is_quiet reply ≡ true → ReplyCause side turn log reply
-      → Caused side turn log (fail_handshake side log (own ++ closing log code) reply)
-  failed log own code reply h s u o q w =
-      leaf log (own ++ closing log code) HandshakeOver reply (own-closing log own code h s u o) (ap (λ cs. is_under_way (handshake_state cs)) (calls-with (own ++ closing log code) log) ∙ u) q w
+  -- the record of a handshake that is over
+  abbrev over : (log : Log) (own : List Action) → is_under_way (handshake_state (calls_of log)) ≡ true → OverCause side turn log → OverBy side turn (with_actions own log)
+  over log own u x = record { before = log; own = own; is = refl; under_way = u; why = x }
 
-  failed-so : (log : Log) (own : List Action) (reply : Reply) → is_under_way (handshake_state (calls_of log)) ≡ true → OwnCauses side turn log own → is_quiet reply ≡ true → ReplyCause side turn log reply → Caused side turn log (fail_handshake side log own reply)
-  failed-so log own reply u o q w = leaf log own HandshakeOver reply o (ap (λ cs. is_under_way (handshake_state cs)) (calls-with own log) ∙ u) q w
+  -- the handshake fails, and closes an open connection
+  failed : (log : Log) (own : List Action) (code : ℕ) (reply : Reply) → HandshakeCode side turn (with_actions own log) code → is_open (with_actions own log) ≡ is_open log → is_under_way (handshake_state (calls_of log)) ≡ true → OwnCauses side turn log own → OverCause side turn log → is_quiet reply ≡ true
+      → ReplyCause side turn log reply → Caused side turn log (fail_handshake side log (own ++ closing log code) reply)
+  failed log own code reply h s u o x q w = leaf log (own ++ closing log code) HandshakeOver reply (own-closing log own code h s u o) (over log (own ++ closing log code) u x) q w
+
+  failed-so : (log : Log) (own : List Action) (reply : Reply) → is_under_way (handshake_state (calls_of log)) ≡ true → OwnCauses side turn log own → OverCause side turn log → is_quiet reply ≡ true → ReplyCause side turn log reply → Caused side turn log (fail_handshake side log own reply)
+  failed-so log own reply u o x q w = leaf log own HandshakeOver reply o (over log own u x) q w
+
+  -- a rejection is over
+  rejected : (log : Log) (code : ℕ) → HandshakeCode side turn log code → is_under_way (handshake_state (calls_of log)) ≡ true → RejectedCause side turn log → Caused side turn log (fail_handshake side log (closing log code) replies.Rejected)
+  rejected log code h u v = failed log [] code replies.Rejected h refl u tt (RejectionEnded v) refl v
+
+  rejected-so : (log : Log) → is_under_way (handshake_state (calls_of log)) ≡ true → RejectedCause side turn log → Caused side turn log (fail_handshake side log [] replies.Rejected)
+  rejected-so log u v = failed-so log [] replies.Rejected u tt (RejectionEnded v) refl v
+
+  -- a connect fails
+  connect-failed : (log : Log) (own : List Action) (code : ℕ) (e : ConnectingError) → HandshakeCode side turn (with_actions own log) code → is_open (with_actions own log) ≡ is_open log → is_under_way (handshake_state (calls_of log)) ≡ true → OwnCauses side turn log own → ConnectFailedCause side turn log e
+      → Caused side turn log (fail_handshake side log (own ++ closing log code) (replies.ConnectFailed e))
+  connect-failed log own code e h s u o v = failed log own code (replies.ConnectFailed e) h s u o (ConnectEnded e v) refl v
+
+  connect-failed-so : (log : Log) (own : List Action) (e : ConnectingError) → is_under_way (handshake_state (calls_of log)) ≡ true → OwnCauses side turn log own → ConnectFailedCause side turn log e → Caused side turn log (fail_handshake side log own (replies.ConnectFailed e))
+  connect-failed-so log own e u o v = failed-so log own (replies.ConnectFailed e) u o (ConnectEnded e v) refl v
 
   -- ---- accepts
 
@@ -246,9 +265,9 @@ module _ (side : Side) (turn : Turn) where
 
   pub caused-deliver : (log : Log) (cs : List Classified) → turn ≡ turns.Call calls.Incoming → is_client side ≡ false → handshake_state (calls_of log) ≡ AwaitingRequest → queued_requests side log ≡ cs → Caused side turn log (deliver side log cs)
   caused-deliver log (c ∷ later) t v s e =
-      leaf log [] (RequestDelivered c.id) (replies.Request c.id (request_fields_of c.verdict)) tt (record { by_server = v; under_way = s; queued = c; later = later; first = e; same = refl }) refl (c, later, e, refl, refl)
+      leaf log [] (RequestDelivered c.id) (replies.Request c.id (request_fields_of c.verdict)) tt (record { asks = t; by_server = v; under_way = s; queued = c; later = later; first = e; same = refl }) refl (t, c, later, e, refl, refl)
   caused-deliver log [] t v s e =
-      either (is_open log) _ _ (λ o. polled log replies.Pending refl (o, NoRequest t e)) (λ o. failed-so log [] (replies.Failed (driver_error side log)) (under-way log AwaitingRequest s refl) tt refl (AsDriver (or_right (is_accept turn || is_receive turn) (is_incoming turn) (ap is_incoming t)) o refl))
+      either (is_open log) _ _ (λ o. polled log replies.Pending refl (o, NoRequest t e)) (λ o. failed-so log [] (replies.Failed (driver_error side log)) (under-way log AwaitingRequest s refl) tt (NoMoreRequests t e o) refl (AsDriver (or_right (is_accept turn || is_receive turn) (is_incoming turn) (ap is_incoming t)) o refl))
 
   -- a response goes on, and what a call that doesn't finish it records
   record Responds (log : Log) (accepts : Bool) (head : List ℕ) (waiting : CallRecord) : Type 0 where
@@ -283,9 +302,9 @@ module _ (side : Side) (turn : Turn) where
   caused-accepted : (log : Log) (id : ℕ) (head : List ℕ) (waiting : CallRecord) → id ≡ requested (calls_of log) → Responds log true head waiting → Caused side turn log (accept_response side log id (head_left log id head) waiting)
   caused-accepted log id head waiting i r =
       let left = head_left log id head in
-      either (not (is_open log)) _ _ (λ o. failed-so log [] _ r.under_way tt refl (AtResponse head r.from (not-true _ o) refl)) (λ o.
+      either (not (is_open log)) _ _ (λ o. failed-so log [] _ r.under_way tt (AcceptanceEnded head r.from (not-true _ o)) refl (AtResponse head r.from (not-true _ o) refl)) (λ o.
       either (is_refused log id left) _ _
-      (λ x. let y = subst (λ (n : ℕ). is_refused log n (head_left log n head) ≡ true) i x in failed log [] _ _ (StoppedEarly true head r.from y refl) refl r.under_way tt refl (ByStop head r.from y refl)) (λ x.
+      (λ x. let y = subst (λ (n : ℕ). is_refused log n (head_left log n head) ≡ true) i x in failed log [] _ _ (StoppedEarly true head r.from y refl) refl r.under_way tt (AcceptanceStopped head r.from y) refl (ByStop head r.from y refl)) (λ x.
       either (is_covered log id left) _ _
       (λ c. let by : EstablishedBy side turn (with_actions (send_of id left) log) id (request_end (verdict_of id (stream_table side log).classified)) =
       record { before = log; own = send_of id left; is = refl; was_open = not-false _ o; under_way = r.under_way; how = ByAnswer head r.from i c refl refl } in
@@ -316,7 +335,7 @@ module _ (side : Side) (turn : Turn) where
       (o, Finishing head r.from (subst (λ (n : ℕ). is_covered log n (head_left log n head) ≡ true) i c) (subst (λ (n : ℕ). is_finished (actions_of log) n ≡ false) i (not-true _ f)))) (λ f.
       either (is_some (stop_of (events_of log) id) || is_acknowledged (events_of log) id) _ _
       (λ x. let y = subst (λ (n : ℕ). is_finished (actions_of log) n ≡ true) i (not-false _ f) in let z = subst (λ (n : ℕ). (is_some (stop_of (events_of log) n) || is_acknowledged (events_of log) n) ≡ true) i x in
-      failed log [] 0 replies.Rejected (Plain (Rejects head r.from y z) refl) refl r.under_way tt refl (RejectionOver head r.from y z))
+      rejected log 0 (Plain (Rejects head r.from y z) refl) r.under_way (RejectionOver head r.from y z))
       (λ x. let q = or_parts (is_some (stop_of (events_of log) id)) _ x in
       leaf log [] waiting replies.Pending tt (r.waits []) r.quiet (
         o,
@@ -327,8 +346,8 @@ module _ (side : Side) (turn : Turn) where
   caused-rejecting : (log : Log) (id : ℕ) (head : List ℕ) (waiting : CallRecord) → id ≡ requested (calls_of log) → Responds log false head waiting → Caused side turn log (reject_response side log id (head_left log id head) waiting)
   caused-rejecting log id head waiting i r =
       let left = head_left log id head in
-      either (not (is_open log)) _ _ (λ o. failed-so log [] replies.Rejected r.under_way tt refl (ConnectionEnded head r.from (not-true _ o))) (λ o.
-      either (is_refused log id left) _ _ (λ x. let y = subst (λ (n : ℕ). is_refused log n (head_left log n head) ≡ true) i x in failed log [] _ replies.Rejected (StoppedEarly false head r.from y refl) refl r.under_way tt refl (RejectionRefused head r.from y)) (λ x.
+      either (not (is_open log)) _ _ (λ o. rejected-so log r.under_way (ConnectionEnded head r.from (not-true _ o))) (λ o.
+      either (is_refused log id left) _ _ (λ x. let y = subst (λ (n : ℕ). is_refused log n (head_left log n head) ≡ true) i x in rejected log _ (StoppedEarly false head r.from y refl) r.under_way (RejectionRefused head r.from y)) (λ x.
       either (is_covered log id left) _ _ (λ c. caused-rejected log id head waiting i r (not-false _ o) x c) (λ c. partly log id false head waiting i r (not-false _ o) x c)))
 
   caused-respond : (log : Log) (accepts : Bool) (head : List ℕ) (waiting : CallRecord) → Responds log accepts head waiting → Caused side turn log (respond side log accepts head waiting)
@@ -352,18 +371,32 @@ module _ (side : Side) (turn : Turn) where
   walk_of : Log → ResponseWalk
   walk_of log = response_walk_of (contents log (local_bi side)) (end_of (events_of log) (local_bi side))
 
+  -- what the response comes to, and the same behind actions of the call
+  abbrev reads : (log : Log) (w : Onward log) (r : ResponseWalk) → response_walk_of (contents log (local_bi side)) (end_of (events_of log) (local_bi side)) ≡ r → ResponseIs side turn log r
+  reads log w r e = record { goes_on = w.call; reserved = w.reserved; request = w.head; under_way = w.state; is = e }
+
+  abbrev reads-then : (log : Log) (own : List Action) (w : Onward log) (r : ResponseWalk) → response_walk_of (contents (with_actions own log) (local_bi side)) (end_of (events_of (with_actions own log)) (local_bi side)) ≡ r → ResponseIs side turn (with_actions own log) r
+  reads-then log own w r e = record { goes_on = w.call; reserved = w.reserved; request = w.head; under_way = ap handshake_state (calls-with own log) ∙ w.state; is = e }
+
   caused-response : (log : Log) (own : List Action) (r : ResponseWalk) → OwnCauses side turn log own → is_open (with_actions own log) ≡ is_open log → (w : Onward log) → local_count (actions_of (with_actions own log)) (local_bi side) ≢ 0 → head_left (with_actions own log) (local_bi side) w.head ≡ [] → walk_of log ≡ r → Caused side turn log (read_response side log (local_bi side) own r)
   unfolding walk_of
-  caused-response log own (responses.Fault code) o s w n h e = failed log own (code_of code) _ (OfResponse code (blind-actions walk_of (λ a g. refl) own log ∙ e) refl) s (going log w) o refl (ByResponseFault code e refl)
-  caused-response log own responses.Ended o s w n h e = failed log own 0 _ (Plain (EndsStream (blind-actions walk_of (λ a g. refl) own log ∙ e)) refl) s (going log w) o refl (ByStreamEnd e refl)
-  caused-response log own responses.Waiting o s w n h e = either (is_open log) _ _ (λ b. leaf log own Polled replies.Pending o tt refl (b, NoResponse w.reserved w.head w.call w.state e)) (λ b. failed-so log own _ (going log w) o refl (BeforeResponse e b refl))
+  caused-response log own (responses.Fault code) o s w n h e =
+      let r = responses.Fault code in
+      connect-failed log own (code_of code) _ (OfResponse code (reads-then log own w r (blind-actions walk_of (λ a g. refl) own log ∙ e)) (n, h) refl) s (going log w) o (ByResponseFault code (reads log w r e) refl)
+  caused-response log own responses.Ended o s w n h e =
+      let r = responses.Ended in
+      connect-failed log own 0 _ (Plain (EndsStream (reads-then log own w r (blind-actions walk_of (λ a g. refl) own log ∙ e)) (n, h)) refl) s (going log w) o (ByStreamEnd (reads log w r e) refl)
+  caused-response log own responses.Waiting o s w n h e =
+      either (is_open log) _ _ (λ b. leaf log own Polled replies.Pending o called refl (b, NoResponse w.reserved w.head w.call w.state e)) (λ b. connect-failed-so log own _ (going log w) o (BeforeResponse (reads log w responses.Waiting e) b refl))
   caused-response log own (responses.Response fields at) o s w n h e =
-      either (not (has_success fields)) _ _ (λ c. failed log own 0 _ (Plain (Declines fields at (blind-actions walk_of (λ a g. refl) own log ∙ e) (not-true _ c)) refl) s (going log w) o refl (ByStatus fields at e (not-true _ c) refl)) (λ c.
+      let r = responses.Response fields at in
+      either (not (has_success fields)) _ _
+      (λ c. connect-failed log own 0 _ (Plain (Declines fields at (reads-then log own w r (blind-actions walk_of (λ a g. refl) own log ∙ e)) (n, h) (not-true _ c)) refl) s (going log w) o (ByStatus fields at (reads log w r e) (not-true _ c) refl)) (λ c.
       either (is_open log) _ _
       (λ b. let by : EstablishedBy side turn (with_actions own log) (local_bi side) at =
-      record { before = log; own = own; is = refl; was_open = b; under_way = going log w; how = ByResponse w.reserved w.head fields w.state w.settings e (not-false _ c) refl n h } in
+      record { before = log; own = own; is = refl; was_open = b; under_way = going log w; how = ByResponse w.reserved w.head fields w.call w.state w.settings e (not-false _ c) refl n h } in
       settled log own (SessionEstablished (local_bi side) at) (replies.Session (local_bi side)) o by refl (own, at, by))
-      (λ b. failed-so log own _ (going log w) o refl (AfterSuccess fields at e (not-false _ c) b refl)))
+      (λ b. connect-failed-so log own _ (going log w) o (AfterSuccess fields at (reads log w r e) (not-false _ c) b refl)))
 
   caused-await : (log : Log) (own : List Action) → OwnCauses side turn log own → is_open (with_actions own log) ≡ is_open log → (w : Onward log) → local_count (actions_of (with_actions own log)) (local_bi side) ≢ 0 → head_left (with_actions own log) (local_bi side) w.head ≡ [] → Caused side turn log (await_response side log (local_bi side) own)
   unfolding walk_of
@@ -410,12 +443,12 @@ module _ (side : Side) (turn : Turn) where
   caused-send-request : (log : Log) (own : List Action) (left : List ℕ) (w : Onward log) → Opens log own left w.head → Caused side turn log (send_request side log (local_bi side) own left)
   caused-send-request log own left w x =
       either (is_empty left) _ _ (λ c. caused-await log own x.causes x.stays w x.counted (x.left_is ∙ when-empty left c)) (λ c.
-      either (not (is_open log)) _ _ (λ o. failed-so log own _ (going log w) x.causes refl (BeforeRequest w.reserved w.head w.state (ap is_empty x.left_at ∙ c) (not-true _ o) refl)) (λ o.
+      either (not (is_open log)) _ _ (λ o. connect-failed-so log own _ (going log w) x.causes (BeforeRequest w.reserved w.head w.call w.state (ap is_empty x.left_at ∙ c) (not-true _ o) refl)) (λ o.
       either (is_some (stop_of (events_of log) (local_bi side))) _ _ (λ b. let y : is_refused log (local_bi side) left ≡ true = rw (b, c) refl in
-      failed log own 0 _ (Plain (Stops w.reserved w.head (ap handshake_state (calls-with own log) ∙ w.state) (ap (is_refused (with_actions own log) (local_bi side)) x.left_is ∙ blind-actions (λ g. is_refused g (local_bi side) left) (λ a g. refl) own log ∙ y)) refl) x.stays (going log w) x.causes refl (ByRefusal w.reserved w.head w.state (rw x.left_at y) refl)) (λ b.
+      connect-failed log own 0 _ (Plain (Stops w.reserved w.head w.call (ap handshake_state (calls-with own log) ∙ w.state) (ap (is_refused (with_actions own log) (local_bi side)) x.left_is ∙ blind-actions (λ g. is_refused g (local_bi side) left) (λ a g. refl) own log ∙ y)) refl) x.stays (going log w) x.causes (ByRefusal w.reserved w.head w.call w.state (rw x.left_at y) refl)) (λ b.
       either (is_covered log (local_bi side) left) _ _
       (λ z. caused-await log (own ++ send_of (local_bi side) left) (sends-request log own left left w x (not-false _ o) b (sym (covered-whole log (local_bi side) left z))) (stays-open log left left own x.stays) w (still-counted log own left x.counted) (all-out log own left w.head x.left_is))
-      (λ z. leaf log (own ++ send_of (local_bi side) (covered log (local_bi side) left)) Polled replies.Pending (sends-request log own left (covered log (local_bi side) left) w x (not-false _ o) b refl) tt refl (not-false _ o, HeadUnsent (local_bi side) w.head (OfTheRequest w.reserved w.call w.state refl) (rw x.left_at z) (none-there _ b))))))
+      (λ z. leaf log (own ++ send_of (local_bi side) (covered log (local_bi side) left)) Polled replies.Pending (sends-request log own left (covered log (local_bi side) left) w x (not-false _ o) b refl) called refl (not-false _ o, HeadUnsent (local_bi side) w.head (OfTheRequest w.reserved w.call w.state refl) (rw x.left_at z) (none-there _ b))))))
 
   -- the request's stream is opened
   opens-first : (log : Log) (w : Onward log) (b : Bool) → local_count (actions_of log) (local_bi side) ≡ 0 → may_open side log (local_bi side) ≡ b → is_open log ≡ true → b ≡ true → Opens log (opening side log (local_bi side)) (head_left log (local_bi side) w.head) w.head
@@ -443,28 +476,28 @@ module _ (side : Side) (turn : Turn) where
   caused-open-request log w =
       either (not (local_count (actions_of log) (local_bi side) == 0)) _ _
       (λ c. caused-send-request log [] (head_left log (local_bi side) w.head) w (record { causes = tt; stays = refl; counted = eqb-false (local_count (actions_of log) (local_bi side)) 0 (not-true _ c); credit = refl; left_at = refl; left_is = refl })) (λ c.
-      either (not (is_open log)) _ _ (λ o. failed-so log [] _ (going log w) tt refl (BeforeStream w.reserved w.head w.state (eqb-true (local_count (actions_of log) (local_bi side)) 0 (not-false _ c)) (not-true _ o) refl)) (λ o.
+      either (not (is_open log)) _ _ (λ o. connect-failed-so log [] _ (going log w) tt (BeforeStream w.reserved w.head w.call w.state (eqb-true (local_count (actions_of log) (local_bi side)) 0 (not-false _ c)) (not-true _ o) refl)) (λ o.
       either (may_open side log (local_bi side)) _ _
       (λ m. caused-send-request log (opening side log (local_bi side)) (head_left log (local_bi side) w.head) w (opens-first log w true (eqb-true (local_count (actions_of log) (local_bi side)) 0 (not-false _ c)) m (not-false _ o) refl))
       (λ m. polled log replies.Pending refl (not-false _ o, NoSessionStream w.reserved w.head w.call w.state (eqb-true (local_count (actions_of log) (local_bi side)) 0 (not-false _ c)) m))))
 
   caused-reserved : (log : Log) (w : Onward log) (o : Option (List ℕ)) → w.reserved ≡ o → Caused side turn log (unless_reserved side log o w.head)
-  caused-reserved log w (Some name) e = let y = w.state ∙ ap (λ r. Connecting r w.head) e in failed log [] 0 _ (Plain (Reserves name w.head y w.settings) refl) refl (going log w) tt refl (ByReserved name w.head y w.settings refl)
+  caused-reserved log w (Some name) e = let y = w.state ∙ ap (λ r. Connecting r w.head) e in connect-failed log [] 0 _ (Plain (Reserves name w.head w.call y w.settings) refl) refl (going log w) tt (ByReserved name w.head w.call y w.settings refl)
   caused-reserved log w None e = caused-open-request log w
 
   caused-await-or-fail : (log : Log) (reserved : Option (List ℕ)) (head : List ℕ) (e : ConnectionError) → handshake_state (calls_of log) ≡ Connecting reserved head → PendingCause side turn log
       → (is_open log ≡ false → ConnectFailedCause side turn log (connects.ConnectionError e)) → Caused side turn log (await_or_fail side log e)
-  caused-await-or-fail log reserved head e s p f = either (is_open log) _ _ (λ o. polled log replies.Pending refl (o, p)) (λ o. failed-so log [] _ (under-way log (Connecting reserved head) s refl) tt refl (f o))
+  caused-await-or-fail log reserved head e s p f = either (is_open log) _ _ (λ o. polled log replies.Pending refl (o, p)) (λ o. connect-failed-so log [] _ (under-way log (Connecting reserved head) s refl) tt (f o))
 
   caused-connect : (log : Log) (reserved : Option (List ℕ)) (head : List ℕ) → turn ≡ turns.Call calls.Handshake → handshake_state (calls_of log) ≡ Connecting reserved head → Caused side turn log (continue_connect side log reserved head)
   caused-connect log reserved head h s =
-      either (not (is_connected (events_of log))) _ _ (λ c. caused-await-or-fail log reserved head (transport_error log) s (NoConnection reserved head h s (not-true _ c)) (λ o. BeforeConnection reserved head s (not-true _ c) o refl)) (λ c.
+      either (not (is_connected (events_of log))) _ _ (λ c. caused-await-or-fail log reserved head (transport_error log) s (NoConnection reserved head h s (not-true _ c)) (λ o. BeforeConnection reserved head h s (not-true _ c) o refl)) (λ c.
       either (settings_came side log) _ _ (λ t. caused-reserved log (record { reserved = reserved; head = head; state = s; settings = t; call = h }) reserved refl)
-      (λ t. caused-await-or-fail log reserved head (driver_error side log) s (NoSettings reserved head h s t) (λ o. BeforeSettings reserved head s t o refl)))
+      (λ t. caused-await-or-fail log reserved head (driver_error side log) s (NoSettings reserved head h s t) (λ o. BeforeSettings reserved head h s t o refl)))
 
   -- the handshake that is under way goes on
   pub caused-continue : (log : Log) (s : HandshakeState) → turn ≡ turns.Call calls.Handshake → handshake_state (calls_of log) ≡ s → is_continuable s ≡ true → Caused side turn log (continue_by s side log)
-  caused-continue log (Responding accepts head) t e c = caused-respond log accepts head Polled (record { from = FromBefore t e; under_way = under-way log (Responding accepts head) e refl; quiet = refl; waits = λ own. tt })
+  caused-continue log (Responding accepts head) t e c = caused-respond log accepts head Polled (record { from = FromBefore t e; under_way = under-way log (Responding accepts head) e refl; quiet = refl; waits = λ own. called })
   caused-continue log (Connecting reserved head) t e c = caused-connect log reserved head t e
   caused-continue log _ t e c = absurd (cc)
 
@@ -476,27 +509,28 @@ module _ (side : Side) (turn : Turn) where
         from = f;
         under_way = u;
         quiet = refl;
-        waits = λ own. let q = calls-with own log in (subst (λ cs. ResponseFrom turn cs accepts head) (sym q) f, ap (λ cs. is_under_way (handshake_state cs)) q ∙ u);
+        waits = λ own. let q = calls-with own log in (subst (λ cs. ResponseFrom turn cs accepts head) (sym q) f, id, ap handshake_state q ∙ s);
       })
 
   -- ---- a connect begins
 
   caused-outcome : (log : Log) (to : ConnectTo turn) (address : Addr) (o : Option ConnectingError) → log ≡ [] → is_client side ≡ true → address_of (host_or_empty to.url) (port_of to.url) to.lookup ≡ Ok address → outcome_error to.outcome ≡ o
       → Caused side turn log (unless_stopped side log to.url to.headers o address)
-  caused-outcome log to address (Some e) l c a q = failed-so log [] _ (ap (λ (g : Log). is_under_way (handshake_state (calls_of g))) l) tt refl (NotProceeding to address a q)
+  caused-outcome log to address (Some e) l c a q = connect-failed-so log [] _ (ap (λ (g : Log). is_under_way (handshake_state (calls_of g))) l) tt (NotProceeding to address a q)
   caused-outcome log to address None l c a q =
+      let dialling : DialCause turn address (server_name (host_or_empty to.url)) = record { to = to; found = a; named = refl; proceeds = q } in
       leaf log (actions.Dial address (server_name (host_or_empty to.url)) ∷ []) (ConnectStarted (reserved_name to.headers) (request_head (authority_of to.url) (path_of to.url) to.headers)) replies.Pending
-      ((l, c, record { to = to; found = a; named = refl; proceeds = q }), tt) (ap calls_of l, c, ap frame_of to.connects_to ∙ ap (request_to to.headers) to.parsed, sym (ap reserved_in to.connects_to)) refl (ap is_open l, Dialling to.text to.headers to.lookup to.outcome to.connects_to)
+      ((l, c, dialling), tt) (record { first = ap calls_of l; by_client = c; address = address; name = server_name (host_or_empty to.url); dials = dialling; request = refl; reserves = refl }) refl (ap is_open l, Dialling to.text to.headers to.lookup to.outcome to.connects_to)
 
   caused-address : (log : Log) (to : ConnectTo turn) (a : Result Addr ConnectingError) → log ≡ [] → is_client side ≡ true → address_of (host_or_empty to.url) (port_of to.url) to.lookup ≡ a
       → Caused side turn log (with_address side log to.url to.headers to.outcome a)
-  caused-address log to (Err e) l c q = failed-so log [] _ (ap (λ (g : Log). is_under_way (handshake_state (calls_of g))) l) tt refl (NoAddress to q)
+  caused-address log to (Err e) l c q = connect-failed-so log [] _ (ap (λ (g : Log). is_under_way (handshake_state (calls_of g))) l) tt (NoAddress to q)
   caused-address log to (Ok address) l c q = caused-outcome log to address (outcome_error to.outcome) l c q refl
 
   pub caused-connect-to : (log : Log) (text : List ℕ) (parsed : Result Parts ParseError) (headers : Fields) (lookup : Lookup) (outcome : ConnectOutcome) → log ≡ [] → is_client side ≡ true
       → turn ≡ turns.Call (calls.Connect (text, headers) lookup outcome) → parse_url None text ≡ parsed → Caused side turn log (connect_to side log parsed headers lookup outcome)
-  caused-connect-to log text (Err e) headers lookup outcome l c t q = failed-so log [] _ (ap (λ (g : Log). is_under_way (handshake_state (calls_of g))) l) tt refl (NoUrl text headers lookup outcome e t q refl)
+  caused-connect-to log text (Err e) headers lookup outcome l c t q = connect-failed-so log [] _ (ap (λ (g : Log). is_under_way (handshake_state (calls_of g))) l) tt (NoUrl text headers lookup outcome e t q refl)
   caused-connect-to log text (Ok url) headers lookup outcome l c t q =
       either (bytes_eq url.scheme (codes "https")) _ _
       (λ h. caused-address log (record { text = text; headers = headers; lookup = lookup; outcome = outcome; url = url; connects_to = t; parsed = q; is_https = h }) (address_of (host_or_empty url) (port_of url) lookup) l c refl)
-      (λ h. failed-so log [] _ (ap (λ (g : Log). is_under_way (handshake_state (calls_of g))) l) tt refl (NotHttps text headers lookup outcome url t q h refl))
+      (λ h. connect-failed-so log [] _ (ap (λ (g : Log). is_under_way (handshake_state (calls_of g))) l) tt (NotHttps text headers lookup outcome url t q h refl))

@@ -19,8 +19,8 @@ use Rattle.wt_laws.proofs.Reached.{reached}
 use Rattle.wt_laws.proofs.SendLaws.{flush-other}
 use Rattle.wt_laws.proofs.Sends.{piece_on, with-piece}
 use Rattle.wt_laws.proofs.SettingsLaws.{ControlOut, connected-fits, data-fits, first-control, keeps-control}
-use Rattle.wt_laws.proofs.Steps.{Brings, Keeps, blind-flush, event_of, kept-actions, of-record}
-use Rattle.wt_laws.specs.Causes.{ActionCause, OfHeader, OfRequest, OfResponse, OfWrite, OwnCauses, SendCause}
+use Rattle.wt_laws.proofs.Steps.{Brings, Keeps, blind-flush, kept-actions, of-record}
+use Rattle.wt_laws.specs.Causes.{ActionCause, OfHeader, OfRequest, OfResponse, OfWrite, OwnCauses, SendCause, event_of}
 use Rattle.wt_laws.specs.Laws.{WithinCredit}
 use Rattle.wt_laws.specs.Reachable.{IsReachable}
 use Rattle.wt_spec.specs.Driver.{apply_if, flush, is_moment, log_and_flush, pending_actions}

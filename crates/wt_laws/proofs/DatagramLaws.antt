@@ -14,11 +14,12 @@ use Rattle.wt_laws.proofs.Calls.{caused}
 use Rattle.wt_laws.proofs.Moments.{Causes, IsKept, kept}
 use Rattle.wt_laws.proofs.Reached.{Law, holds, keeps-turn}
 use Rattle.wt_laws.proofs.SessionLaws.{Handshakes, handshakes-before, handshakes-first, handshakes-record, handshakes-same}
-use Rattle.wt_laws.proofs.Steps.{Keeps, by-entries, calls-with, event_of, keeps-steps}
-use Rattle.wt_laws.specs.Causes.{EstablishedBy, FoundDatagram, RecordCause, is_receive}
+use Rattle.wt_laws.proofs.Steps.{Keeps, by-entries, calls-with, keeps-steps}
+use Rattle.wt_laws.specs.Causes.{EstablishedBy, FoundDatagram, event_of, is_receive}
 use Rattle.wt_laws.specs.Datagrams.{receives}
 use Rattle.wt_laws.specs.Laws.{DatagramsInOrder, more_received, payload_for, payloads_for, received_by}
 use Rattle.wt_laws.specs.Reachable.{AllLawful, Exchange, exchanges}
+use Rattle.wt_laws.specs.RecordCauses.{RecordCause}
 use Rattle.wt_laws.specs.ReplyCauses.{ReplyCause}
 use Rattle.wt_laws.specs.Told.{Logged, NoRecord, NonePassed, OnePassed, OneRecord, Passed, Tells, ThenPolled, datagram_told, is_pass, is_quiet}
 use Rattle.wt_spec.specs.Answers.{answer_to, is_lawful, log_after, log_from}

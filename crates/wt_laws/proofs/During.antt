@@ -36,7 +36,7 @@ pub steps-extend : {side : Side} {turn : Turn} {last log : Log} → Steps side t
 steps-extend Nothing = ([], refl)
 steps-extend (ByEvent e o b s) = extend (flush-extends _ (Reported e) _) (steps-extend s)
 steps-extend (ByLate e o b s) = extend (one-entry (ReportedLate e) _) (steps-extend s)
-steps-extend (ByByte id b o r s) = extend (flush-extends _ (Received id b) _) (steps-extend s)
+steps-extend (ByByte id b piece x o r s) = extend (flush-extends _ (Received id b) _) (steps-extend s)
 steps-extend (ByCall own r c d s) = extend (actions-extend own _) (extend (flush-extends _ (Called r) _) (steps-extend s))
 
 -- the log at which a turn decided is in the middle of it

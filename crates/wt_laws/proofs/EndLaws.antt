@@ -1,7 +1,7 @@
--- The end of a connection: its causes, and that what it is told as stays.
+-- The end of a connection: what closes it, and that what it is told as stays.
 use Rattle.std.specs.Prelude.{[], ◌&&◌, ◌++◌, ◌||◌, ◌∷◌, ◌≡◌, Bool, List, None, Option, Some, drop, false, not, take, true, ℕ}
 use Rattle.std.proofs.Common.{◌∙◌, ap, refl, sym}
-use Rattle.std.proofs.lemmas.Bool.{and_from, and_parts, or_parts, or_right}
+use Rattle.std.proofs.lemmas.Bool.{and_from, or_right}
 use Rattle.std.proofs.lemmas.List.{append_assoc}
 use Rattle.std.specs.List.{list_any}
 use Rattle.wt_message.specs.FixedBytes.{local_control_bytes}
@@ -17,8 +17,7 @@ use Rattle.wt_wire.specs.declared.side.Side.{Side}
 use Rattle.wt_laws.proofs.Facts.{open-before, open-event}
 use Rattle.wt_laws.proofs.Reached.{keeps-turn, reached}
 use Rattle.wt_laws.proofs.Steps.{Keeps, blind-flush, by-entries}
-use Rattle.wt_laws.specs.Causes.{ActionCause, OwnCauses}
-use Rattle.wt_laws.specs.Laws.{ByDriver, ByLoss, ClosedByCall, EndedBy, FaultCloses, OpenExactly, ResultStays}
+use Rattle.wt_laws.specs.Laws.{FaultCloses, ResultStays}
 use Rattle.wt_laws.specs.Reachable.{IsReachable}
 use Rattle.wt_spec.specs.Answers.{is_lawful}
 use Rattle.wt_spec.specs.Driver.{ControlSent, apply_if, call_view, close_actions, control_actions, control_sent, established, flush, is_moment, log_and_flush, opened_if, pending_actions, reset_if, session_id, stop_actions, stream_table, transport_view}
@@ -101,17 +100,10 @@ open-none (a ∷ as_) log o = or-none (closes a) (list_any closes as_) (closed-b
     or-none true c o e = absurd (cc)
     or-none false c o e = e
 
-still-open : (as_ : List Action) (log : Log) → list_any closes as_ ≡ false → is_open (with_actions as_ log) ≡ is_open log
-still-open [] log c = refl
-still-open (a ∷ as_) log c =
-    let p = or_parts (closes a) (list_any closes as_) c in
-    still-open as_ (Sent a ∷ log) p.1 ∙ ap (λ b. not (b || list_any ends_by log)) p.0
+-- ---- while it is open the driver found no ending
 
--- ---- the causes
-
-record EndFacts (side : Side) (log : Log) : Type 0 where
-  pub closed : is_open log ≡ false → EndedBy side log
-  pub no_fault : is_open log ≡ true → (stream_table side log).progress.ending ≡ None
+abbrev pub NoEnding : Side → Log → Type 0
+NoEnding side log = is_open log ≡ true → (stream_table side log).progress.ending ≡ None
 
 pub same-table : (side : Side) (a : Action) (log : Log) → stream_table side (Sent a ∷ log) ≡ stream_table side log
 unfolding stream_table
@@ -130,46 +122,16 @@ pub late-table : (side : Side) (e : Event) (log : Log) → stream_table side (Re
 unfolding stream_table
 late-table side e log = refl
 
-events-more : (e : Entry) (log : Log) → list_any loses (events_of log) ≡ true → list_any loses (events_of (e ∷ log)) ≡ true
-events-more (Reported e) log p = or_right (loses e) _ p
-events-more _ log p = p
-
-ended-more : (side : Side) (e : Entry) (log : Log) → is_open log ≡ false → stream_table side (e ∷ log) ≡ stream_table side log → EndedBy side log → EndedBy side (e ∷ log)
-ended-more side e log c t (ByLoss l) = ByLoss (events-more e log l)
-ended-more side e log c t (ClosedByCall g turn code reason w x) = ClosedByCall g turn code reason w (e ∷ x.0, ap (λ z. e ∷ z) x.1)
-ended-more side e log c t (ByDriver x q) = ByDriver x (ap (λ (z : StreamTable). z.progress.ending) t ∙ q)
-
--- an own action
-closed-own : (side : Side) (turn : Turn) (a : Action) (log : Log) → ActionCause side turn log a → EndFacts side log → is_open (Sent a ∷ log) ≡ false → EndedBy side (Sent a ∷ log)
-closed-own side turn (actions.Close code reason) log c f o = ClosedByCall log turn code reason c.1 ([], refl)
-closed-own side turn _ log c f o = ended-more side _ log o (same-table side _ log) (f.closed o)
-
-end-own : (side : Side) (turn : Turn) (a : Action) (log : Log) → ActionCause side turn log a → EndFacts side log → EndFacts side (Sent a ∷ log)
-end-own side turn a log c f = record {
-  closed = closed-own side turn a log c f;
-  no_fault = λ o. ap (λ (z : StreamTable). z.progress.ending) (same-table side a log) ∙ f.no_fault (open-before a log o);
-}
-
-end-owns : (side : Side) (turn : Turn) (own : List Action) (log : Log) → OwnCauses side turn log own → EndFacts side log → EndFacts side (with_actions own log)
-end-owns side turn [] log c f = f
-end-owns side turn (a ∷ own) log c f = end-owns side turn own (Sent a ∷ log) c.1 (end-own side turn a log c.0 f)
-
 same-flushed : (side : Side) (e : Entry) (log : Log) → stream_table side (log_and_flush side log e) ≡ stream_table side (e ∷ log)
 unfolding stream_table
 same-flushed side e log = blind-flush (stream_table side) (λ a g. refl) side e log
 
 -- what a moment leaves: closed where it found an ending
-flushed : (side : Side) (log : Log) (b : Bool) → (is_open log ≡ false → EndedBy side log) → ((b ≡ false) → is_open log ≡ true → (stream_table side log).progress.ending ≡ None) → (b ≡ true → is_open log ≡ true)
-    → (o : Option Ending) → (stream_table side log).progress.ending ≡ o → stream_table side (apply_if b (with_actions (pending_actions side log)) log) ≡ stream_table side log → EndFacts side (apply_if b (with_actions (pending_actions side log)) log)
-flushed side log false f g h o e t = record { closed = f; no_fault = g refl }
-flushed side log true f g h None e t = record {
-  closed = λ c. absurd (let x = still-open (pending_actions side log) log ((fault-closes side log).none e) in let y = h refl in cc);
-  no_fault = λ p. ap (λ (z : StreamTable). z.progress.ending) t ∙ e;
-}
-flushed side log true f g h (Some x) e t = record {
-  closed = λ c. ByDriver x (ap (λ (z : StreamTable). z.progress.ending) t ∙ e);
-  no_fault = λ p. absurd (let y = open-none (pending_actions side log) log p in let z = ending-shown side log x e in cc);
-}
+flushed : (side : Side) (log : Log) (b : Bool) → ((b ≡ false) → is_open log ≡ true → (stream_table side log).progress.ending ≡ None) → (o : Option Ending) → (stream_table side log).progress.ending ≡ o
+    → stream_table side (apply_if b (with_actions (pending_actions side log)) log) ≡ stream_table side log → NoEnding side (apply_if b (with_actions (pending_actions side log)) log)
+flushed side log false g o e t = g refl
+flushed side log true g None e t = λ p. ap (λ (z : StreamTable). z.progress.ending) t ∙ e
+flushed side log true g (Some x) e t = λ p. absurd (let y = open-none (pending_actions side log) log p in let z = ending-shown side log x e in cc)
   where
     any-later : (xs ys : List Action) → list_any closes ys ≡ true → list_any closes (xs ++ ys) ≡ true
     any-later [] ys p = p
@@ -181,32 +143,27 @@ flushed side log true f g h (Some x) e t = record {
         let w = (fault-closes side log).session code reason b e in
         rw w.1 (any-later (w.0 ++ reset_if b (session_id (established (calls_of log)))) (actions.Close (code_of h3.NoError) [] ∷ []) refl)
 
-end-flush : (side : Side) (e : Entry) (log : Log) → (is_open (e ∷ log) ≡ false → EndedBy side (e ∷ log)) → (is_moment e ≡ true) → EndFacts side (log_and_flush side log e)
+end-flush : (side : Side) (e : Entry) (log : Log) → (is_moment e ≡ true) → NoEnding side (log_and_flush side log e)
 unfolding flush
-end-flush side e log f m =
-    flushed side (e ∷ log) (is_moment e && is_open (e ∷ log)) f (λ b o. absurd (let x = and_from (is_moment e) (is_open (e ∷ log)) m o in cc)) (λ b. (and_parts (is_moment e) _ b).1)
+end-flush side e log m =
+    flushed side (e ∷ log) (is_moment e && is_open (e ∷ log)) (λ b o. absurd (let x = and_from (is_moment e) (is_open (e ∷ log)) m o in cc))
     (stream_table side (e ∷ log)).progress.ending refl (same-flushed side e log)
 
-keeps-end : (side : Side) (turn : Turn) → Keeps side turn (EndFacts side)
+keeps-end : (side : Side) (turn : Turn) → Keeps side turn (NoEnding side)
 keeps-end side turn = record {
-  event = λ log e o b f. end-flush side (Reported e) log (λ c. ByLoss (lost e log o c)) refl;
-  late = λ log e o b f. record { closed = λ c. ended-more side (ReportedLate e) log o (late-table side e log) (f.closed o); no_fault = λ c. absurd (cc) };
-  byte = λ log id b o r f. end-flush side (Received id b) log (λ c. absurd (cc)) refl;
-  call = λ log own r c d f.
-      let g = end-owns side turn own log c f in
-      end-flush side (Called r) (with_actions own log) (λ o. ended-more side (Called r) (with_actions own log) o (closed-table side (Called r) (with_actions own log) o) (g.closed o)) refl;
+  event = λ log e o b f. end-flush side (Reported e) log refl;
+  late = λ log e o b f c. absurd (cc);
+  byte = λ log id b o r f. end-flush side (Received id b) log refl;
+  call = λ log own r c d f. end-flush side (Called r) (with_actions own log) refl;
 }
-  where
-    lost : (e : Event) (log : Log) → is_open log ≡ true → is_open (Reported e ∷ log) ≡ false → list_any loses (events_of (Reported e ∷ log)) ≡ true
-    lost e log o c = at (loses e) (list_any ends_by log) o c
-      where
-        at : (b d : Bool) → not d ≡ true → not (b || d) ≡ false → (b || list_any loses (events_of log)) ≡ true
-        at true d o c = refl
-        at false d o c = absurd (cc)
 
-first-end : (side : Side) → EndFacts side []
+first-end : (side : Side) → NoEnding side []
 unfolding stream_table
-first-end side = record { closed = λ c. absurd (cc); no_fault = λ o. refl }
+first-end side = λ o. refl
+
+-- while the connection is open, the driver found no ending
+pub no-ending : (side : Side) (log : Log) → IsReachable side log → NoEnding side log
+no-ending side log r = reached (NoEnding side) (first-end side) (keeps-end side) log r
 
 -- an open connection was neither lost nor closed
 pub none-lost : (log : Log) → is_open log ≡ true → (list_any loses (events_of log) ≡ false) × (list_any closes (actions_of log) ≡ false)
@@ -224,11 +181,6 @@ none-lost (Sent a ∷ log) o = let p = none-lost log (open-before a log o) in (p
     or-none : (b d c : Bool) → not (b || d) ≡ true → c ≡ false → (b || c) ≡ false
     or-none true d c o e = absurd (cc)
     or-none false d c o e = e
-
-pub open-exactly : (side : Side) (log : Log) → IsReachable side log → OpenExactly side log
-open-exactly side log r =
-    let f = reached (EndFacts side) (first-end side) (keeps-end side) log r in
-    record { closed = f.closed; no_loss = λ o. (none-lost log o).0; no_close = λ o. (none-lost log o).1; no_fault = f.no_fault }
 
 -- ---- what it is told as
 

@@ -2,7 +2,7 @@
 -- had.
 use Rattle.std.specs.Prelude.{[], ◌%◌, ◌&&◌, ◌++◌, ◌==◌, ◌||◌, ◌∷◌, ◌≡◌, ◌⊎◌, Bool, List, None, Option, Some, false, if◌then◌else◌, is_some, not, true, ℕ}
 use Rattle.std.proofs.Common.{◌∙◌, ap, inl, inr, refl, subst, sym}
-use Rattle.std.proofs.lemmas.Bool.{and_parts, eqb-true}
+use Rattle.std.proofs.lemmas.Bool.{and_parts, eq-eqb, eqb-true, or_left, or_right}
 use Rattle.std.proofs.lemmas.List.{append-nil}
 use Rattle.std.specs.List.{list_any}
 use Rattle.wt_proto.proofs.BiLaws.{bi_verdict_stays}
@@ -22,12 +22,14 @@ use Rattle.wt_laws.proofs.Classified.{AllClassified, all-classified, classified-
 use Rattle.wt_laws.proofs.Looks.{from-or}
 use Rattle.wt_laws.proofs.Moments.{AsBi, AsUni, ClassifiedAs}
 use Rattle.wt_laws.proofs.Reached.{reached}
-use Rattle.wt_laws.proofs.Steps.{Brings, Keeps, KeepsEntries, by-entries, event_of}
-use Rattle.wt_laws.specs.Causes.{ByAccept, ByOpening, FoundStream, RecordCause, accepted_kind}
+use Rattle.wt_laws.proofs.Steps.{Brings, Keeps, KeepsEntries, by-entries}
+use Rattle.wt_laws.specs.Causes.{ByAccept, ByOpening, FoundStream, accepted_kind, event_of, opened_kind}
 use Rattle.wt_laws.specs.Reachable.{IsReachable, is_among}
+use Rattle.wt_laws.specs.RecordCauses.{RecordCause}
 use Rattle.wt_spec.specs.Connection.{accepts_stream, is_for_session, starts_opening}
 use Rattle.wt_spec.specs.Driver.{stream_table}
 use Rattle.wt_spec.specs.StreamTable.{Consequence, StreamTable, verdict_of}
+use Rattle.wt_turn.specs.declared.call.Call.TheVariants as calls
 use Rattle.wt_wire.specs.declared.side.StreamEnd.TheVariants as ends
 use Rattle.wt_turn.specs.declared.turn.Turn.TheVariants as turns
 use Rattle.wt_proto.specs.declared.verdict.Verdict.TheVariants as verdicts
@@ -142,8 +144,14 @@ found-sessions side turn log k f =
     let v = as-sessions f.session f.found.verdict f.named in
     (v.0, subst (λ j. verdict_of j (stream_table side log).classified ≡ Some f.found.verdict) f.same d.among ∙ ap Some v.1)
 
+-- a call opens streams of this end
+pub opened-local : (side : Side) (turn : Turn) (kind : ℕ) → opened_kind side turn ≡ Some kind → (kind == local_uni side || kind == local_bi side) ≡ true
+opened-local side (turns.Call calls.OpenUni) kind e = let s : local_uni side ≡ kind = cc in or_left (kind == local_uni side) _ (eq-eqb kind (local_uni side) (sym s))
+opened-local side (turns.Call calls.OpenBi) kind e = let s : local_bi side ≡ kind = cc in or_right (kind == local_uni side) _ (eq-eqb kind (local_bi side) (sym s))
+opened-local side _ kind e = absurd (cc)
+
 new-opening : (side : Side) (turn : Turn) (log : Log) (k : ℕ) (r : CallRecord) → RecordCause side turn log r → starts_opening k r ≡ true → is_local side k ≡ true
-new-opening side turn log k (OpeningStarted id session) c e = subst (λ (n : ℕ). is_local side n ≡ true) (eqb-true id k e) c.local
+new-opening side turn log k (OpeningStarted id session) c e = subst (λ (n : ℕ). is_local side n ≡ true) (eqb-true id k e) (opened-local side turn (id % 4) c.opens)
 new-opening side turn log k _ c e = absurd (cc)
 
 new-accepted : (side : Side) (turn : Turn) (log : Log) (k : ℕ) (r : CallRecord) → Facts side log → RecordCause side turn log r → accepts_stream k r ≡ true → (is_local side k ≡ true) ⊎ IsSessions side log k

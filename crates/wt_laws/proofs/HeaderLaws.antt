@@ -14,7 +14,7 @@ use Rattle.wt_turn.specs.declared.turn.Turn.{Turn}
 use Rattle.wt_wire.specs.declared.side.Side.{Side}
 use Rattle.wt_wire.specs.declared.side.Side.TheVariants.{Client, Server}
 use Rattle.wt_laws.proofs.Caused.{whole-covered}
-use Rattle.wt_laws.proofs.Facts.{facts-first, found-sessions, is_local}
+use Rattle.wt_laws.proofs.Facts.{facts-first, found-sessions, is_local, opened-local}
 use Rattle.wt_laws.proofs.Looks.{from-or}
 use Rattle.wt_laws.proofs.Reached.{reached}
 use Rattle.wt_laws.proofs.ReadLaws.{local-unclassified}
@@ -23,9 +23,10 @@ use Rattle.wt_laws.proofs.Sends.{more-or-same, piece_on, sends_of, with-piece}
 use Rattle.wt_laws.proofs.SessionLaws.{Handshakes, from-request, handshakes-before, handshakes-first, has_request}
 use Rattle.wt_laws.proofs.SettingsLaws.{ControlOut, first-control, keeps-control, new-opening-record, none-either, not-control}
 use Rattle.wt_laws.proofs.Steps.{Brings, Keeps, calls-with, of-record}
-use Rattle.wt_laws.specs.Causes.{AcceptCause, ActionCause, ByAccept, ByOpening, CallCause, NewOpening, OfHeader, OfRequest, OfResponse, OfWrite, OwnCauses, RecordCause, SendCause, is_under_way}
+use Rattle.wt_laws.specs.Causes.{AcceptCause, ActionCause, ByAccept, ByOpening, OfHeader, OfRequest, OfResponse, OfWrite, OwnCauses, SendCause, is_under_way}
 use Rattle.wt_laws.specs.Laws.{HeadersOut}
 use Rattle.wt_laws.specs.Reachable.{IsReachable}
+use Rattle.wt_laws.specs.RecordCauses.{CallCause, NewOpening, RecordCause}
 use Rattle.wt_spec.specs.Connection.{accepts_stream, ends_opening, is_opening, starts_opening, stream_header}
 use Rattle.wt_spec.specs.Driver.{apply_if, established, establishes, flush, is_moment, log_and_flush, pending_actions, session_id, stream_table}
 use Rattle.wt_spec.specs.Effect.{head_left, is_empty}
@@ -223,13 +224,13 @@ no-peers side es kind l = at (kind == local_uni side) refl (kind == local_bi sid
     at false e true f l = subst (λ (n : ℕ). peer_count side es n ≡ 0) (sym (eqb-true kind (local_bi side) f)) (no-peers-bi side es)
     at false e false f l = absurd (cc)
 
-pub starts : (side : Side) (log : Log) (own : List Action) (k s : ℕ) → NewOpening side log own k s → k / 4 ≡ local_count (actions_of log) (k % 4)
-starts side log own k s c =
+pub starts : (side : Side) {turn : Turn} (log : Log) (own : List Action) (k s : ℕ) → NewOpening side turn log own k s → k / 4 ≡ local_count (actions_of log) (k % 4)
+starts side {turn} log own k s c =
     let f : c.kind < 4 = ltb-true c.kind 4 c.small in
     let e : k ≡ 4 * stream_count side log c.kind + c.kind = c.next in
     let m : k % 4 ≡ c.kind = by-four k (stream_count side log c.kind) c.kind e f in
     let q : k / 4 ≡ stream_count side log (k % 4) = over-four k (stream_count side log c.kind) c.kind e f ∙ ap (stream_count side log) (sym m) in
-    let z = no-peers side (all_events_of log) (k % 4) c.cause.local in omega arith
+    let z = no-peers side (all_events_of log) (k % 4) (opened-local side turn (k % 4) c.cause.opens) in omega arith
   where
     by-four : (k n kind : ℕ) → k ≡ 4 * n + kind → kind < 4 → k % 4 ≡ kind
     by-four k n kind e f = omega arith
@@ -237,20 +238,20 @@ starts side log own k s c =
     over-four : (k n kind : ℕ) → k ≡ 4 * n + kind → kind < 4 → k / 4 ≡ n
     over-four k n kind e f = omega arith
 
-is-opened : (side : Side) (log : Log) (own : List Action) (k s : ℕ) → NewOpening side log own k s → own ≡ actions.Opened k ∷ []
+is-opened : (side : Side) {turn : Turn} (log : Log) (own : List Action) (k s : ℕ) → NewOpening side turn log own k s → own ≡ actions.Opened k ∷ []
 is-opened side log own k s c = c.own_is ∙ ap (λ (b : Bool). if b then actions.Opened (next_id side log c.kind) ∷ [] else []) c.may ∙ ap (λ j. actions.Opened j ∷ []) (sym c.next)
 
-one-opened : (side : Side) (log : Log) (own : List Action) (k s : ℕ) → NewOpening side log own k s → k / 4 < local_count (actions_of (with_actions own log)) (k % 4)
+one-opened : (side : Side) {turn : Turn} (log : Log) (own : List Action) (k s : ℕ) → NewOpening side turn log own k s → k / 4 < local_count (actions_of (with_actions own log)) (k % 4)
 one-opened side log own k s c =
     let b = starts side log own k s c in
     let y = ap (λ xs. local_count (actions_of (with_actions xs log)) (k % 4)) (is-opened side log own k s c) in
     let z = ap (λ t. one_more_if t (local_count (actions_of log) (k % 4))) (eq-eqb (k % 4) (k % 4) refl) in
     let w : local_count (actions_of (with_actions own log)) (k % 4) ≡ local_count (actions_of log) (k % 4) + 1 = y ∙ z in omega arith
 
-none-sent : (side : Side) (log : Log) (own : List Action) (k s : ℕ) → ControlOut side log → Heads side log → NewOpening side log own k s → sent_on (actions_of (with_actions own log)) k ≡ []
-none-sent side log own k s p h c =
+none-sent : (side : Side) {turn : Turn} (log : Log) (own : List Action) (k s : ℕ) → ControlOut side log → Heads side log → NewOpening side turn log own k s → sent_on (actions_of (with_actions own log)) k ≡ []
+none-sent side {turn} log own k s p h c =
     ap (λ xs. sent_on (actions_of (with_actions xs log)) k) (is-opened side log own k s c)
-    ∙ h.fresh k c.cause.local (λ e. absurd (let x = not-control side log own k s p c in let y = eq-eqb k (local_uni side) e in cc)) (let b = starts side log own k s c in omega arith)
+    ∙ h.fresh k (opened-local side turn (k % 4) c.cause.opens) (λ e. absurd (let x = not-control side log own k s p c in let y = eq-eqb k (local_uni side) e in cc)) (let b = starts side log own k s c in omega arith)
 
 still : (a b c : Bool) → (a && not (b || c)) ≡ true → (a && not c) ≡ true
 still true true c e = absurd (cc)

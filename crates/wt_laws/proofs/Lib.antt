@@ -17,6 +17,7 @@ pub mod EndLaws
 pub mod AfterEnd
 pub mod Cutting
 pub mod CauseLaws
+pub mod Closings
 pub mod Sends
 pub mod SettingsLaws
 pub mod SendLaws

@@ -16,9 +16,10 @@ use Rattle.wt_laws.proofs.Classified.{are-peers, classified-stays}
 use Rattle.wt_laws.proofs.Facts.{Facts, IsSessions, facts-first, is_local, keeps-facts}
 use Rattle.wt_laws.proofs.Reached.{Law, holds, keeps-turn}
 use Rattle.wt_laws.proofs.Steps.{Keeps, by-entries}
-use Rattle.wt_laws.specs.Causes.{RecordCause, is_accept, is_receive, reads_from}
+use Rattle.wt_laws.specs.Causes.{is_accept, is_receive, reads_from}
 use Rattle.wt_laws.specs.Laws.{ReadsFromStart, ReadsInOrder, more_read, read_from}
 use Rattle.wt_laws.specs.Reachable.{AllLawful, Exchange, exchanges, is_among}
+use Rattle.wt_laws.specs.RecordCauses.{RecordCause}
 use Rattle.wt_laws.specs.ReplyCauses.{ReplyCause}
 use Rattle.wt_laws.specs.Told.{Logged, NoRecord, OneRecord, Tells, ThenPolled, datagram_told, given_stream, is_quiet, read_piece, request_told, session_told}
 use Rattle.wt_spec.specs.Answers.{answer_to, is_lawful, log_after, log_from}

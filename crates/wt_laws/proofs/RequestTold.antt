@@ -53,12 +53,12 @@ request-told side log turn r l k headers e =
     let c = caused side turn log l in
     let d = decided-during side log turn l in
     let w = why-reply side log turn l (replies.Request k headers) e in
-    let q = first-queued side c.decided w.0 w.1 w.2 in
+    let q = first-queued side c.decided w.1 w.2 w.3 in
     let s = stays side d.to_end in
     let v : verdict_of k (stream_table side (log_after side log turn)).classified ≡ Some (verdicts.Request q.request.headers q.request.at) =
-    s.verdict k _ (subst (λ (j : ℕ). verdict_of j (stream_table side c.decided).classified ≡ Some (verdicts.Request q.request.headers q.request.at)) w.3 q.request.verdict) in
+    s.verdict k _ (subst (λ (j : ℕ). verdict_of j (stream_table side c.decided).classified ≡ Some (verdicts.Request q.request.headers q.request.at)) w.4 q.request.verdict) in
     let b = carries side (log_after side log turn) k q.request.headers q.request.at ((facts-hold side (log_after side log turn) (AfterTurn turn r l)).verdicts k _ v) in
-    let fresh = subst (λ (j : ℕ). list_any (delivers j) (calls_of c.decided) ≡ false) w.3 q.fresh in
+    let fresh = subst (λ (j : ℕ). list_any (delivers j) (calls_of c.decided) ≡ false) w.4 q.fresh in
     record {
       fresh = not-yet (list_any (delivers k) (calls_of log)) _ ((stays side d.from_start).delivered k) fresh;
       given = record {
@@ -70,7 +70,7 @@ request-told side log turn r l k headers e =
         bytes = b.bytes;
         verdict = v;
       };
-      fields = sym (w.4 ∙ q.same);
+      fields = sym (w.5 ∙ q.same);
     }
 
 pub request_told_theorem : (side : Side) (log : Log) (turn : Turn) → IsReachable side log → is_lawful side log turn ≡ true → RequestTold side log turn

@@ -16,11 +16,12 @@ use Rattle.wt_laws.proofs.Moments.{kept}
 use Rattle.wt_laws.proofs.SessionLaws.{settings-stay}
 use Rattle.wt_laws.specs.Reachable.{AllLawful}
 use Rattle.wt_laws.specs.ReplyCauses.{is_call}
-use Rattle.wt_laws.specs.Runs.{DoneLate, RunsLawful, RunsLongest, StaysSo}
-use Rattle.wt_spec.specs.Answers.{AtUnlawful, Finished, Run, actions_since, answer_to, answers_from, is_lawful, log_after, log_from, receive, run_from, with_answer}
+use Rattle.wt_laws.specs.Runs.{DoneAtOnce, DoneLate, RunsLawful, RunsLongest, StaysSo}
+use Rattle.wt_spec.specs.Answers.{AtUnlawful, Finished, Run, actions_since, answer_to, answers_from, call_effect, is_lawful, log_after, log_from, receive, run_from, with_answer}
 use Rattle.wt_spec.specs.Driver.{delivers, flush, log_and_flush, releases, stream_table}
 use Rattle.wt_spec.specs.Scan.{has}
 use Rattle.wt_spec.specs.StreamTable.{Classified}
+use Rattle.wt_turn.specs.declared.call.Call.TheVariants as calls
 use Rattle.wt_turn.specs.declared.turn.Turn.TheVariants as turns
 
 -- ---- runs
@@ -159,3 +160,14 @@ done-late side log (turns.MaxBi total) n o = record { reply = refl; actions = la
 done-late side log (turns.MaxData id total) n o = record { reply = refl; actions = late-event side log (MaxData id total) (is_open log) o }
 done-late side log (turns.DatagramLimit fact) n o = record { reply = refl; actions = late-event side log (DatagramLimit fact) (is_open log) o }
 done-late side log (turns.Loss reason) n o = record { reply = refl; actions = late-event side log (Loss reason) (is_open log) o }
+
+-- ---- what asks for nothing
+
+pub done-at-once : (side : Side) (log : Log) (turn : Turn) → DoneAtOnce side log turn
+unfolding call_effect
+done-at-once side log (turns.Call (calls.EndpointClose code reason)) n = refl
+done-at-once side log (turns.Call c) n = absurd (cc)
+done-at-once side log _ n = refl
+
+pub done_at_once_theorem : (side : Side) (log : Log) (turn : Turn) → DoneAtOnce side log turn
+done_at_once_theorem = done-at-once

@@ -25,9 +25,10 @@ use Rattle.wt_laws.proofs.Sends.{piece_on, send-on, sends-append, sends_of, sent
 use Rattle.wt_laws.proofs.SessionLaws.{HadRequest, Handshakes, from-request, handshakes-entries, handshakes-first, has_request}
 use Rattle.wt_laws.proofs.SettingsLaws.{close-on, opened-on, stops-on}
 use Rattle.wt_laws.proofs.Steps.{Keeps, KeepsEntries, blind-flush, by-entries, calls-with}
-use Rattle.wt_laws.specs.Causes.{ActionCause, ByAccept, ByOpening, OfHeader, OfRequest, OfResponse, OfWrite, OwnCauses, RecordCause, SendCause, bytes_for, is_under_way}
+use Rattle.wt_laws.specs.Causes.{ActionCause, ByAccept, ByOpening, OfHeader, OfRequest, OfResponse, OfWrite, OwnCauses, SendCause, bytes_for, is_under_way}
 use Rattle.wt_laws.specs.Laws.{accepted_by, accepted_of}
 use Rattle.wt_laws.specs.Reachable.{IsReachable}
+use Rattle.wt_laws.specs.RecordCauses.{RecordCause}
 use Rattle.wt_spec.specs.Answers.{answer_to, call_effect, is_lawful, log_after, turn_effect}
 use Rattle.wt_spec.specs.Connection.{accepts_stream, ends_opening, starts_opening}
 use Rattle.wt_spec.specs.Driver.{ControlSent, apply_if, close_actions, control_actions, control_sent, established, establishes, flush, is_moment, log_and_flush, opened_if, or_earlier, pending_actions, session_id, stop_actions, stream_table}

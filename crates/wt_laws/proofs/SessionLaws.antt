@@ -23,9 +23,10 @@ use Rattle.wt_laws.proofs.Moments.{Causes, IsKept, kept}
 use Rattle.wt_laws.proofs.Reached.{keeps-turn, reached}
 use Rattle.wt_laws.proofs.RequestLaws.{Carries, carries}
 use Rattle.wt_laws.proofs.Steps.{Keeps, KeepsEntries, blind-actions, by-entries, calls-with}
-use Rattle.wt_laws.specs.Causes.{ByAcceptance, ByAnswer, ByRejection, ByResponse, DeliverCause, EstablishCause, EstablishedBy, FromBefore, RecordCause, ResponseFrom, is_under_way}
+use Rattle.wt_laws.specs.Causes.{ByAcceptance, ByAnswer, ByRejection, ByResponse, EstablishCause, EstablishedBy, FromBefore, ResponseFrom, is_under_way}
 use Rattle.wt_laws.specs.Laws.{AfterRequest, AfterResponse, EstablishedHow, EstablishedRightly, GoesOnFrom, OneSession, SessionTold, SessionsRightly, WasDelivered}
 use Rattle.wt_laws.specs.Reachable.{IsReachable, is_among}
+use Rattle.wt_laws.specs.RecordCauses.{DeliverCause, RecordCause}
 use Rattle.wt_laws.specs.Told.{Logged, NoRecord, OneRecord, Tells, ThenPolled, datagram_told, given_stream, is_quiet, read_piece, request_told, session_told}
 use Rattle.wt_spec.specs.Answers.{is_client, is_lawful, log_after}
 use Rattle.wt_spec.specs.Connection.{first_of}
@@ -105,8 +106,8 @@ new-none : (side : Side) (turn : Turn) (log : Log) (r : CallRecord) → Handshak
 new-none side turn log (SessionEstablished id at) f c e = absurd (cc)
 new-none side turn log HandshakeOver f c e = absurd (cc)
 new-none side turn log (RequestDelivered k) f c e = f.none_yet (ap is_under_way c.under_way)
-new-none side turn log (ResponseStarted accepts head) f c e = f.none_yet c.1
-new-none side turn log (ConnectStarted reserved head) f c e = rw c.0 refl
+new-none side turn log (ResponseStarted accepts head) f c e = f.none_yet (ap is_under_way c.2)
+new-none side turn log (ConnectStarted reserved head) f c e = rw c.first refl
 new-none side turn log _ f c e = f.none_yet e
 
 new-acceptance : (side : Side) (turn : Turn) (log : Log) (r : CallRecord) (head : List ℕ) → Handshakes side log → RecordCause side turn log r → handshake_state (r ∷ calls_of log) ≡ Responding true head → IsAcceptance head
@@ -141,7 +142,7 @@ first-queued side log c later q = at (settings_came side log) refl q
         record { request = record { settings = s; headers = v.0; at = v.1; verdict = p.among ∙ ap Some v.2 }; same = ap request_fields_of v.2; fresh = not-true _ a.0 }
     at false s e = absurd (cc)
 
-pub was-delivered : (side : Side) (log : Log) (k : ℕ) → DeliverCause side log k → HadRequest side log k
+pub was-delivered : (side : Side) {turn : Turn} (log : Log) (k : ℕ) → DeliverCause side turn log k → HadRequest side log k
 was-delivered side log k c = subst (λ (n : ℕ). HadRequest side log n) c.same (first-queued side log c.queued c.later c.first).request
 
 new-delivered : (side : Side) (turn : Turn) (log : Log) (k : ℕ) (r : CallRecord) → RecordCause side turn log r → delivers k r ≡ true → HadRequest side log k
@@ -165,7 +166,7 @@ new-server side turn log (ConnectStarted reserved head) f c e = absurd (cc)
 new-server side turn log _ f c e = f.by_server e
 
 new-client : (side : Side) (turn : Turn) (log : Log) (r : CallRecord) (reserved : Option (List ℕ)) (head : List ℕ) → Handshakes side log → RecordCause side turn log r → handshake_state (r ∷ calls_of log) ≡ Connecting reserved head → is_client side ≡ true
-new-client side turn log (ConnectStarted o h) reserved head f c e = c.1
+new-client side turn log (ConnectStarted o h) reserved head f c e = c.by_client
 new-client side turn log (RequestDelivered k) reserved head f c e = absurd (cc)
 new-client side turn log (ResponseStarted accepts h) reserved head f c e = absurd (cc)
 new-client side turn log (SessionEstablished id at) reserved head f c e = absurd (cc)
@@ -244,7 +245,7 @@ established-how side turn log own s at f g (ByAnswer head x i c o a) =
     AfterRequest h.0 d (f.by_server (from-request turn (calls_of log) true head x)) (a ∙ ap request_end d.verdict)
     (subst (λ z. is_covered log s (head_left log s z) ≡ true) h.1 c) (subst (λ z. own ≡ send_of s (head_left log s z)) h.1 o)
     (subst (λ z. head_left (with_actions own log) s z ≡ []) h.1 (subst (λ as_. head_left (with_actions as_ log) s head ≡ []) (sym o) (head-out log s head)))
-established-how side turn log own s at f g (ByResponse reserved head fields z w r c i n l) = AfterResponse reserved head fields (f.by_client reserved head z) i n z l w r c
+established-how side turn log own s at f g (ByResponse reserved head fields t z w r c i n l) = AfterResponse reserved head fields (f.by_client reserved head z) i n z l w r c
 
 settings-of : (side : Side) (log : Log) (own : List Action) (s at : ℕ) → EstablishedHow side log own s at → settings_came side log ≡ true
 settings-of side log own s at (AfterRequest headers w b e c o h) = w.settings

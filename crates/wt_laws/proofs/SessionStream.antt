@@ -28,9 +28,10 @@ use Rattle.wt_laws.proofs.Sends.{more-or-same, piece_on, with-piece}
 use Rattle.wt_laws.proofs.SessionLaws.{HadRequest, from-request, has_request, was-delivered}
 use Rattle.wt_laws.proofs.SettingsLaws.{ControlOut, first-control, keeps-control}
 use Rattle.wt_laws.proofs.Steps.{Keeps, KeepsEntries, by-entries, calls-logged, calls-with, of-record}
-use Rattle.wt_laws.specs.Causes.{ActionCause, ByAcceptance, ByAnswer, ByRejection, ByResponse, CallCause, EstablishCause, EstablishedBy, FinishCause, FromBefore, OfCall, OfHeader, OfRejection, OfRequest, OfResponse, OfWrite, OwnCauses, RecordCause, ResponseFrom, SendCause, frame_of, is_under_way}
+use Rattle.wt_laws.specs.Causes.{ActionCause, ByAcceptance, ByAnswer, ByRejection, ByResponse, EstablishCause, EstablishedBy, FinishCause, FromBefore, OfCall, OfHeader, OfRejection, OfRequest, OfResponse, OfWrite, OwnCauses, ResponseFrom, SendCause, frame_of, is_under_way, request_to}
 use Rattle.wt_laws.specs.Laws.{SessionStreamOut, is_session_stream, session_frame}
 use Rattle.wt_laws.specs.Reachable.{AfterTurn, AllLawful, AtStart, Exchange, IsReachable, exchanges}
+use Rattle.wt_laws.specs.RecordCauses.{CallCause, RecordCause}
 use Rattle.wt_spec.specs.Answers.{answer_to, call_effect, is_client, is_first, is_lawful, log_after, log_from, may_respond}
 use Rattle.wt_spec.specs.Connection.{accepts_stream, starts_opening}
 use Rattle.wt_spec.specs.Driver.{ControlSent, apply_if, close_actions, control_actions, control_sent, delivers, established, flush, is_moment, log_and_flush, opened_if, pending_actions, session_id, stop_actions, stream_table}
@@ -402,7 +403,7 @@ module _ (side : Side) (frame : Option (List ℕ)) where
     record-responding _ h c accepts head e = h.responding accepts head e
 
     record-connecting : (r : CallRecord) → Out side frame then_ → RecordCause side turn then_ r → (reserved : Option (List ℕ)) (head : List ℕ) → handshake_state (r ∷ calls_of then_) ≡ Connecting reserved head → (frame ≡ Some head) × (is_client side ≡ true)
-    record-connecting (ConnectStarted o hd) h c reserved head e = let x : hd ≡ head = cc in (t hd c.2 ∙ ap Some x, c.1)
+    record-connecting (ConnectStarted o hd) h c reserved head e = let x : hd ≡ head = cc in (t hd (ap frame_of c.dials.to.connects_to ∙ ap (request_to c.dials.to.headers) c.dials.to.parsed ∙ ap Some (sym c.request)) ∙ ap Some x, c.by_client)
     record-connecting (SessionEstablished id at) h c reserved head e = absurd (cc)
     record-connecting HandshakeOver h c reserved head e = absurd (cc)
     record-connecting (RequestDelivered k) h c reserved head e = absurd (cc)
@@ -444,7 +445,7 @@ module _ (side : Side) (frame : Option (List ℕ)) where
             let s = for-server side (calls_of then_) k n d in
             let l : head_left then_ k head ≡ [] = ap (λ g. head_left g k head) (c.is ∙ ap (λ xs. with_actions xs c.before) o) ∙ head-out c.before k head in
             record { of_session = s; is_out = all-out k head h s (response-frame turn t then_ true head h g) l; opened = λ b. absurd (cc) }
-        by (ByResponse reserved head fields z w r y i n l) =
+        by (ByResponse reserved head fields v z w r y i n l) =
             let m = h.connecting reserved head (ap handshake_state (sym same-calls) ∙ z) in
             let s = for-client side (calls_of then_) k m.1 i in
             record {

@@ -23,10 +23,11 @@ use Rattle.wt_laws.proofs.Reached.{reached}
 use Rattle.wt_laws.proofs.ReadLaws.{local-unclassified, not-both}
 use Rattle.wt_laws.proofs.Sends.{counts-with, piece_on, send-on, sends-append, sends_of, sent-with}
 use Rattle.wt_laws.proofs.SessionLaws.{Handshakes, from-request, handshakes-entries, handshakes-first, handshakes-same, has_request}
-use Rattle.wt_laws.proofs.Steps.{Brings, Keeps, blind-actions, event_of, kept-actions, of-record}
-use Rattle.wt_laws.specs.Causes.{ActionCause, ByAccept, ByOpening, CallCause, NewOpening, OfHeader, OfRequest, OfResponse, OfWrite, OwnCauses, RecordCause, SendCause}
+use Rattle.wt_laws.proofs.Steps.{Brings, Keeps, blind-actions, kept-actions, of-record}
+use Rattle.wt_laws.specs.Causes.{ActionCause, ByAccept, ByOpening, OfHeader, OfRequest, OfResponse, OfWrite, OwnCauses, SendCause, event_of}
 use Rattle.wt_laws.specs.Laws.{SettingsOut}
 use Rattle.wt_laws.specs.Reachable.{IsReachable}
+use Rattle.wt_laws.specs.RecordCauses.{CallCause, NewOpening, RecordCause}
 use Rattle.wt_spec.specs.Connection.{accepts_stream, starts_opening}
 use Rattle.wt_spec.specs.Driver.{ControlSent, apply_if, close_actions, control_actions, control_sent, established, flush, is_moment, log_and_flush, opened_if, pending_actions, session_id, stop_actions, stream_table}
 use Rattle.wt_spec.specs.Halves.{is_accepted}
@@ -328,7 +329,7 @@ late-event side turn e log o b p = record {
 -- ---- records
 
 -- an opened stream isn't the control stream, which was opened before
-pub not-control : (side : Side) (log : Log) (own : List Action) (k s : ℕ) → ControlOut side log → NewOpening side log own k s → (k == local_uni side) ≡ false
+pub not-control : (side : Side) {turn : Turn} (log : Log) (own : List Action) (k s : ℕ) → ControlOut side log → NewOpening side turn log own k s → (k == local_uni side) ≡ false
 not-control side log own k s p c = at (k == local_uni side) refl
   where
     parts : (is_open log ≡ true) × (nat_lt (stream_count side log c.kind) (streams_allowed side log c.kind) ≡ true)

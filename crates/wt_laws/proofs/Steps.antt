@@ -1,36 +1,19 @@
 -- What a turn does to the log, one moment after another, each with its cause; and what these keep.
-use Rattle.std.specs.Prelude.{[], ◌&&◌, ◌∷◌, ◌≡◌, Bool, List, None, Option, Some, false, true, ℕ}
+use Rattle.std.specs.Prelude.{[], ◌&&◌, ◌∷◌, ◌≡◌, Bool, List, Some, false, true, ℕ}
 use Rattle.std.proofs.Common.{◌∙◌, ap, refl}
 use Rattle.wt_seam_spec.specs.Arrivals.{fits}
-use Rattle.wt_seam_spec.specs.Reports.{credit, end_of, is_running}
-use Rattle.wt_turn.specs.Log.{Acked, CallRecord, Called, Connected, Datagram, DatagramLimit, End, Entry, Event, Log, Loss, MaxBi, MaxData, MaxUni, OpeningStarted, PeerBi, PeerUni, Received, Reported, ReportedLate, Reset, Sent, Stop, all_events_of, calls_of, is_open, with_actions}
+use Rattle.wt_seam_spec.specs.Reports.{end_of, is_running}
+use Rattle.wt_turn.specs.Log.{CallRecord, Called, Entry, Event, Log, OpeningStarted, Received, Reported, ReportedLate, Sent, all_events_of, calls_of, is_open, with_actions}
 use Rattle.wt_turn.specs.declared.action.Action.{Action}
 use Rattle.wt_turn.specs.declared.turn.Turn.{Turn}
 use Rattle.wt_wire.specs.declared.side.Side.{Side}
-use Rattle.wt_laws.specs.Causes.{CallCause, OwnCauses, RecordCause}
+use Rattle.wt_laws.specs.Causes.{OwnCauses, event_of}
+use Rattle.wt_laws.specs.RecordCauses.{CallCause, RecordCause}
 use Rattle.wt_spec.specs.Driver.{apply_if, flush, is_moment, log_and_flush, pending_actions}
 use Rattle.wt_spec.specs.Effect.{log_call}
 use Rattle.wt_turn.specs.declared.turn.Turn.TheVariants as turns
 
 -- ---- a turn's moments
-
--- the event of a turn that brings one
-abbrev pub event_of : Turn → Option Event
-event_of (turns.Connected uni bi credit fact) = Some (Connected uni bi credit fact)
-event_of turns.PeerUni = Some PeerUni
-event_of turns.PeerBi = Some PeerBi
-event_of (turns.Bytes id piece) = None
-event_of (turns.End id) = Some (End id)
-event_of (turns.Reset id code) = Some (Reset id code)
-event_of (turns.Stop id code) = Some (Stop id code)
-event_of (turns.Acked id) = Some (Acked id)
-event_of (turns.Datagram piece) = Some (Datagram piece)
-event_of (turns.MaxUni total) = Some (MaxUni total)
-event_of (turns.MaxBi total) = Some (MaxBi total)
-event_of (turns.MaxData id total) = Some (MaxData id total)
-event_of (turns.DatagramLimit fact) = Some (DatagramLimit fact)
-event_of (turns.Loss reason) = Some (Loss reason)
-event_of (turns.Call call) = None
 
 -- a lawful turn brings this event now
 pub record Brings (side : Side) (turn : Turn) (log : Log) (e : Event) : Type 0 where
@@ -42,7 +25,7 @@ pub data Steps (side : Side) (turn : Turn) (last : Log) : Log → Type 0 where
   Nothing : Steps side turn last last
   ByEvent : {log : Log} (e : Event) → is_open log ≡ true → Brings side turn log e → Steps side turn last (log_and_flush side log (Reported e)) → Steps side turn last log
   ByLate : {log : Log} (e : Event) → is_open log ≡ false → Brings side turn log e → Steps side turn last (ReportedLate e ∷ log) → Steps side turn last log
-  ByByte : {log : Log} (id b : ℕ) → is_open log ≡ true → is_running (end_of (all_events_of log) id) ≡ true → Steps side turn last (log_and_flush side log (Received id b)) → Steps side turn last log
+  ByByte : {log : Log} (id b : ℕ) (piece : List ℕ) → turn ≡ turns.Bytes id piece → is_open log ≡ true → is_running (end_of (all_events_of log) id) ≡ true → Steps side turn last (log_and_flush side log (Received id b)) → Steps side turn last log
   ByCall : {log : Log} (own : List Action) (r : CallRecord) → OwnCauses side turn log own → CallCause side turn log own r
       → Steps side turn last (log_call side log own r) → Steps side turn last log
 
@@ -50,7 +33,7 @@ pub and_then : {side : Side} {turn : Turn} {last middle log : Log} → Steps sid
 and_then Nothing t = t
 and_then (ByEvent e o b s) t = ByEvent e o b (and_then s t)
 and_then (ByLate e o b s) t = ByLate e o b (and_then s t)
-and_then (ByByte id b o r s) t = ByByte id b o r (and_then s t)
+and_then (ByByte id b piece x o r s) t = ByByte id b piece x o r (and_then s t)
 and_then (ByCall own r c d s) t = ByCall own r c d (and_then s t)
 
 -- ---- what a turn keeps
@@ -66,7 +49,7 @@ pub keeps-steps : {side : Side} {turn : Turn} {P : Log → Type 0} {last log : L
 keeps-steps k Nothing p = p
 keeps-steps k (ByEvent e o b s) p = keeps-steps k s (k.event _ e o b p)
 keeps-steps k (ByLate e o b s) p = keeps-steps k s (k.late _ e o b p)
-keeps-steps k (ByByte id b o r s) p = keeps-steps k s (k.byte _ id b o r p)
+keeps-steps k (ByByte id b piece x o r s) p = keeps-steps k s (k.byte _ id b o r p)
 keeps-steps k (ByCall own r c d s) p = keeps-steps k s (k.call _ own r c d p)
 
 -- the same, entry by entry, where it is all one which action goes out

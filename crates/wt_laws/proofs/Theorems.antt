@@ -9,11 +9,12 @@ use Rattle.wt_wire.specs.declared.lookup.ConnectOutcome.{ConnectOutcome}
 use Rattle.wt_wire.specs.declared.lookup.Lookup.{Lookup}
 use Rattle.wt_wire.specs.declared.side.Side.{Side}
 use Rattle.wt_laws.proofs.AfterEnd.{nothing-after-end}
-use Rattle.wt_laws.proofs.CauseLaws.{actions-have-causes, reply-has-cause}
+use Rattle.wt_laws.proofs.CauseLaws.{reply-has-cause}
+use Rattle.wt_laws.proofs.Closings.{open-exactly}
 use Rattle.wt_laws.proofs.CreditLaws.{within-credit}
 use Rattle.wt_laws.proofs.Cutting.{cuts-well}
 use Rattle.wt_laws.proofs.DatagramLaws.{datagrams-in-order}
-use Rattle.wt_laws.proofs.EndLaws.{fault-closes, open-exactly, result-stays}
+use Rattle.wt_laws.proofs.EndLaws.{fault-closes, result-stays}
 use Rattle.wt_laws.proofs.ExactLaws.{asks-first, connect-goes-on, connects-answer, receiving-calls, request-goes-on, requests-answer, responses-answer, sending-calls, session-calls}
 use Rattle.wt_laws.proofs.HeadSends.{heads-go-out}
 use Rattle.wt_laws.proofs.HeaderLaws.{headers-out}
@@ -31,7 +32,7 @@ use Rattle.wt_laws.proofs.StreamLaws.{streams-accepted-rightly}
 use Rattle.wt_laws.proofs.TakenLaws.{taken-goes-out}
 use Rattle.wt_laws.proofs.WrittenLaws.{sends-all}
 use Rattle.wt_laws.specs.Exactly.{AsksFirst, ConnectGoesOn, ConnectsAnswer, HeadsGoOut, MaySend, ReceivingCallsAnswer, RequestGoesOn, RequestsAnswer, ResponsesAnswer, SendingCallsAnswer, SessionCallsAnswer}
-use Rattle.wt_laws.specs.Laws.{ActionsHaveCauses, CutsWell, DatagramsInOrder, FaultCloses, HeadersOut, NothingAfterEnd, OneSession, OpenExactly, ReadsFromStart, ReadsInOrder, ReplyHasCause, ResultStays, SendsAll, SendsEnd, SendsInOrder, SessionStreamOut, SessionTold, SessionsRightly, SettingsOut, StreamsAcceptedRightly, TakenGoesOut, WithinCredit}
+use Rattle.wt_laws.specs.Laws.{CutsWell, DatagramsInOrder, FaultCloses, HeadersOut, NothingAfterEnd, OneSession, OpenExactly, ReadsFromStart, ReadsInOrder, ReplyHasCause, ResultStays, SendsAll, SendsEnd, SendsInOrder, SessionStreamOut, SessionTold, SessionsRightly, SettingsOut, StreamsAcceptedRightly, TakenGoesOut, WithinCredit}
 use Rattle.wt_laws.specs.Left.{PendingExactly, is_pending}
 use Rattle.wt_laws.specs.Reachable.{AllLawful, IsReachable, exchanges}
 use Rattle.wt_laws.specs.ReplyCauses.{is_call}
@@ -74,9 +75,6 @@ cutting_theorem = cuts-well
 
 pub reply_theorem : (side : Side) (log : Log) (turn : Turn) → is_lawful side log turn ≡ true → ReplyHasCause side log turn
 reply_theorem = reply-has-cause
-
-pub action_theorem : (side : Side) (log : Log) → IsReachable side log → ActionsHaveCauses side log
-action_theorem = actions-have-causes
 
 pub reachable_theorem : (side : Side) (all : List Turn) → AllLawful side [] all → IsReachable side (log_from side [] all)
 reachable_theorem = reachable

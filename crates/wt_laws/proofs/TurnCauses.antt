@@ -1,21 +1,29 @@
 -- Each entry that a turn adds has its cause in that turn.
-use Rattle.std.specs.Prelude.{[], ◌&&◌, ◌++◌, ◌∷◌, ◌≡◌, Bool, List, false, true}
-use Rattle.std.proofs.Common.{◌∙◌, ap, refl, subst}
-use Rattle.wt_turn.specs.Log.{Called, Entry, Log, Received, Reported, ReportedLate, Sent, is_open, with_actions}
+use Rattle.std.specs.Prelude.{[], ◌&&◌, ◌++◌, ◌∷◌, ◌≡◌, Bool, List, Some, false, if◌then◌else◌, true, ℕ}
+use Rattle.std.proofs.Common.{◌∙◌, ap, refl, subst, sym}
+use Rattle.std.proofs.lemmas.Bool.{eq-eqb}
+use Rattle.std.proofs.lemmas.List.{append-nil, append_assoc}
+use Rattle.wt_seam_spec.specs.Arrivals.{event_entry}
+use Rattle.wt_seam_spec.specs.Streams.{contents}
+use Rattle.wt_turn.specs.Log.{Acked, Called, Connected, Datagram, DatagramLimit, End, Entry, Event, Log, Loss, MaxBi, MaxData, MaxUni, PeerBi, PeerUni, Received, Reported, ReportedLate, Reset, Sent, Stop, is_open, with_actions}
 use Rattle.wt_turn.specs.declared.action.Action.{Action}
+use Rattle.wt_turn.specs.declared.call.Call.{Call}
 use Rattle.wt_turn.specs.declared.turn.Turn.{Turn}
 use Rattle.wt_wire.specs.declared.side.Side.{Side}
 use Rattle.wt_laws.proofs.Calls.{caused}
 use Rattle.wt_laws.proofs.CauseLaws.{driver-causes}
 use Rattle.wt_laws.proofs.During.{decided-during, extend}
-use Rattle.wt_laws.proofs.Reached.{keeps-turn}
-use Rattle.wt_laws.proofs.Steps.{Keeps, of-record}
-use Rattle.wt_laws.specs.Causes.{OwnCauses}
+use Rattle.wt_laws.proofs.RunLaws.{late-bytes}
+use Rattle.wt_laws.proofs.Steps as steps
+use Rattle.wt_laws.proofs.Steps.{ByByte, ByEvent, ByLate, Nothing, Steps, blind-flush, of-record}
+use Rattle.wt_laws.specs.Causes.{OwnCauses, event_of}
 use Rattle.wt_laws.specs.Laws.{DriverCauses, GoesOnFrom}
 use Rattle.wt_laws.specs.Reachable.{AfterTurn, AtStart, IsReachable}
+use Rattle.wt_laws.specs.ReplyCauses.{is_call}
 use Rattle.wt_laws.specs.TurnCauses.{ActionsWentOut, AfterAction, AtOnce, AtTurn, ByCall, ByDriver, CausedIn, EntriesHaveCauses, EntryCause, ReplyIsRecorded, SentIn, SinceMoment, WentOut, WithEntry}
-use Rattle.wt_spec.specs.Answers.{is_lawful, log_after}
+use Rattle.wt_spec.specs.Answers.{is_lawful, log_after, receive}
 use Rattle.wt_spec.specs.Driver.{apply_if, flush, is_moment, log_and_flush, pending_actions}
+use Rattle.wt_turn.specs.declared.turn.Turn.TheVariants as turns
 
 goes-on : {side : Side} {turn : Turn} {start log : Log} → CausedIn side turn start log → GoesOnFrom start log
 goes-on AtTurn = ([], refl)
@@ -39,16 +47,67 @@ module _ (side : Side) (turn : Turn) (start : Log) where
       at true o = rw (m, o) (driver-caused e log g m o (pending_actions side (e ∷ log)) (e ∷ log) AtOnce (driver-causes side e log m o) p)
       at false o = rw (m, o) p
 
-  keeps-caused : Keeps side turn (CausedIn side turn start)
-  keeps-caused = record {
-    event = λ log e o b p. flush-caused (Reported e) log (goes-on p) refl (WithEntry (Reported e) tt p);
-    late = λ log e o b p. WithEntry (ReportedLate e) tt p;
-    byte = λ log id b o r p. flush-caused (Received id b) log (goes-on p) refl (WithEntry (Received id b) tt p);
-    call = λ log own r c d p. let q = own-caused own log c p in flush-caused (Called r) (with_actions own log) (goes-on q) refl (WithEntry (Called r) (of-record side turn log own r d) q);
-  }
+  -- the moments of a call
+  call-caused : {last log : Log} (c : Call) → turn ≡ turns.Call c → Steps side turn last log → CausedIn side turn start log → CausedIn side turn start last
+  call-caused c t Nothing p = p
+  call-caused c t (ByEvent e o b s) p = absurd (let x = b.told in let y = ap event_of t in cc)
+  call-caused c t (ByLate e o b s) p = absurd (let x = b.told in let y = ap event_of t in cc)
+  call-caused c t (ByByte id b piece x o r s) p = absurd (let y = ap is_call t in let z = ap is_call x in cc)
+  call-caused c t (steps.ByCall {log} own r x d s) p =
+      let q = own-caused own log x p in
+      call-caused c t s (flush-caused (Called r) (with_actions own log) (goes-on q) refl (WithEntry (Called r) (of-record side turn log own r d) q))
+
+  -- the one moment of an event
+  event-caused : (e : Event) (b : Bool) → event_of turn ≡ Some e → is_open start ≡ b → CausedIn side turn start (flush side (event_entry b e ∷ start))
+  unfolding flush
+  event-caused e true t o = flush-caused (Reported e) start ([], refl) refl (WithEntry (Reported e) (t, refl, o) AtTurn)
+  event-caused e false t o = WithEntry (ReportedLate e) (t, refl, o) AtTurn
+
+-- ---- the bytes of a piece
+
+module _ (side : Side) (id : ℕ) (piece : List ℕ) (start : Log) where
+  abbrev turn : Turn
+  turn = turns.Bytes id piece
+
+  -- so far these bytes came
+  abbrev Came : List ℕ → Log → Type 0
+  Came earlier log = contents log id ≡ contents start id ++ earlier
+
+  came-more : (log : Log) (earlier : List ℕ) (b : ℕ) → Came earlier log → Came (earlier ++ b ∷ []) (log_and_flush side log (Received id b))
+  came-more log earlier b c =
+      blind-flush (λ g. contents g id) (λ a g. refl) side (Received id b) log
+      ∙ ap (λ (x : Bool). if x then contents log id ++ b ∷ [] else contents log id) (eq-eqb id id refl)
+      ∙ ap (λ bytes. bytes ++ b ∷ []) c ∙ append_assoc (contents start id) earlier (b ∷ [])
+
+  pieces-caused : (later earlier : List ℕ) (log : Log) → piece ≡ earlier ++ later → Came earlier log → CausedIn side turn start log → CausedIn side turn start (receive side log id later)
+  pieces-caused [] earlier log s c p = p
+  pieces-caused (b ∷ later) earlier log s c p = at (is_open log) refl (λ g d q. pieces-caused later (earlier ++ b ∷ []) g (s ∙ sym (append_assoc earlier (b ∷ []) later)) d q)
+    where
+      at : (o : Bool) → is_open log ≡ o → ((g : Log) → Came (earlier ++ b ∷ []) g → CausedIn side turn start g → CausedIn side turn start (receive side g id later))
+          → CausedIn side turn start (receive side (if o then log_and_flush side log (Received id b) else log) id later)
+      at true o f =
+          f (log_and_flush side log (Received id b)) (came-more log earlier b c)
+          (flush-caused side turn start (Received id b) log (goes-on p) refl (WithEntry (Received id b) (record { piece = piece; told = refl; earlier = earlier; later = later; order = s; came = c; was_open = o }) p))
+      at false o f = subst (λ g. CausedIn side turn start g) (sym (late-bytes side log id later o)) p
+
+-- ---- every turn
 
 pub entries-have-causes : (side : Side) (log : Log) (turn : Turn) → is_lawful side log turn ≡ true → EntriesHaveCauses side log turn
-entries-have-causes side log turn l = keeps-turn (keeps-caused side turn log) log l AtTurn
+entries-have-causes side log (turns.Call c) l = let x = caused side (turns.Call c) log l in call-caused side (turns.Call c) log c refl x.after (call-caused side (turns.Call c) log c refl x.before AtTurn)
+entries-have-causes side log (turns.Bytes id piece) l = pieces-caused side id piece log piece [] log refl (sym (append-nil (contents log id))) AtTurn
+entries-have-causes side log (turns.Connected uni bi credit fact) l = event-caused side (turns.Connected uni bi credit fact) log (Connected uni bi credit fact) (is_open log) refl refl
+entries-have-causes side log turns.PeerUni l = event-caused side turns.PeerUni log PeerUni (is_open log) refl refl
+entries-have-causes side log turns.PeerBi l = event-caused side turns.PeerBi log PeerBi (is_open log) refl refl
+entries-have-causes side log (turns.End id) l = event-caused side (turns.End id) log (End id) (is_open log) refl refl
+entries-have-causes side log (turns.Reset id code) l = event-caused side (turns.Reset id code) log (Reset id code) (is_open log) refl refl
+entries-have-causes side log (turns.Stop id code) l = event-caused side (turns.Stop id code) log (Stop id code) (is_open log) refl refl
+entries-have-causes side log (turns.Acked id) l = event-caused side (turns.Acked id) log (Acked id) (is_open log) refl refl
+entries-have-causes side log (turns.Datagram piece) l = event-caused side (turns.Datagram piece) log (Datagram piece) (is_open log) refl refl
+entries-have-causes side log (turns.MaxUni total) l = event-caused side (turns.MaxUni total) log (MaxUni total) (is_open log) refl refl
+entries-have-causes side log (turns.MaxBi total) l = event-caused side (turns.MaxBi total) log (MaxBi total) (is_open log) refl refl
+entries-have-causes side log (turns.MaxData id total) l = event-caused side (turns.MaxData id total) log (MaxData id total) (is_open log) refl refl
+entries-have-causes side log (turns.DatagramLimit fact) l = event-caused side (turns.DatagramLimit fact) log (DatagramLimit fact) (is_open log) refl refl
+entries-have-causes side log (turns.Loss reason) l = event-caused side (turns.Loss reason) log (Loss reason) (is_open log) refl refl
 
 -- ---- every action of a run
 

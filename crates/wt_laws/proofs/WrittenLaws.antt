@@ -19,9 +19,10 @@ use Rattle.wt_laws.proofs.Sends.{sent-with}
 use Rattle.wt_laws.proofs.SessionLaws.{one-session}
 use Rattle.wt_laws.proofs.SessionStream.{Both, Out, SoFar, keeps-out, not-true-so, out-own, so-far, so-far-turn, start-of-turn}
 use Rattle.wt_laws.proofs.Steps.{Keeps, KeepsEntries, blind-flush, by-entries, calls-with, of-record}
-use Rattle.wt_laws.specs.Causes.{AcceptCause, ByAccept, ByOpening, OwnCauses, RecordCause, bytes_for, frame_of, is_accept, polls_opening}
+use Rattle.wt_laws.specs.Causes.{AcceptCause, ByAccept, ByOpening, OwnCauses, bytes_for, frame_of, is_accept, polls_opening}
 use Rattle.wt_laws.specs.Laws.{SendsAll, accepted_by, head_of, written_on}
 use Rattle.wt_laws.specs.Reachable.{AfterTurn, AllLawful, AtStart, Exchange, IsReachable, exchanges}
+use Rattle.wt_laws.specs.RecordCauses.{RecordCause}
 use Rattle.wt_spec.specs.Answers.{answer_to, is_lawful, log_after, log_from}
 use Rattle.wt_spec.specs.Connection.{accepts_stream, starts_opening, stream_header}
 use Rattle.wt_spec.specs.Driver.{delivers, established, session_id}

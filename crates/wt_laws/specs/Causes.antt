@@ -1,17 +1,18 @@
--- Why a call records what it does, and why it sends what it does: each record and each action has one of these causes.
-use Rattle.std.specs.Prelude.{[], ◌%◌, ◌*◌, ◌/◌, ◌==◌, ◌||◌, ◌∷◌, ◌≡◌, ◌≢◌, ◌≤◌, Bool, Err, List, None, Ok, Option, Result, Some, bytes_eq, codes, false, if◌then◌else◌, is_some, length, nat_lt, true, ℕ}
+-- Why a call finds a stream, goes on with a handshake, and sends what it does: each action has one of these causes. (Records: RecordCauses.)
+use Rattle.std.specs.Prelude.{[], ◌*◌, ◌/◌, ◌==◌, ◌||◌, ◌∷◌, ◌≡◌, ◌≢◌, Bool, Err, List, None, Ok, Option, Result, Some, bytes_eq, codes, false, if◌then◌else◌, is_some, length, nat_lt, true, ℕ}
 use Rattle.url.specs.Parser.{parse_url}
 use Rattle.url.specs.Parts.{Parts, host_or_empty}
 use Rattle.url.specs.declared.error.ParseError.{ParseError}
 use Rattle.wt_message.specs.Datagram.{datagram_bytes}
 use Rattle.wt_message.specs.FixedBytes.{response_bytes}
 use Rattle.wt_proto.specs.ResponseWalk.{response_walk_of}
+use Rattle.wt_proto.specs.declared.response_walk.ResponseWalk.{ResponseWalk}
 use Rattle.wt_seam_spec.specs.Joined.{send_of}
-use Rattle.wt_seam_spec.specs.Outgoing.{covered, may_open, next_id, opening}
+use Rattle.wt_seam_spec.specs.Outgoing.{covered, may_open, next_id}
 use Rattle.wt_seam_spec.specs.Reports.{datagram_fact, end_of, is_acknowledged, stop_of}
 use Rattle.wt_seam_spec.specs.Sent.{is_finished, is_reset}
 use Rattle.wt_seam_spec.specs.Streams.{contents, local_bi, local_count, local_uni, peer_bi, peer_uni}
-use Rattle.wt_turn.specs.Log.{BytesRead, CallRecord, ConnectStarted, DatagramPassed, DatagramReceived, HandshakeOver, Log, OpeningFailed, OpeningStarted, Polled, PrioritySet, RequestDelivered, ResetUnsent, ResponseStarted, Sent, SessionEstablished, StreamAccepted, StreamGivenUp, StreamPassed, actions_of, calls_of, events_of, is_open, with_actions}
+use Rattle.wt_turn.specs.Log.{Acked, CallRecord, Connected, Datagram, DatagramLimit, End, Event, Log, Loss, MaxBi, MaxData, MaxUni, PeerBi, PeerUni, Reset, Sent, Stop, actions_of, calls_of, events_of, is_open, with_actions}
 use Rattle.wt_turn.specs.declared.action.Action.{Action}
 use Rattle.wt_turn.specs.declared.turn.Turn.{Turn}
 use Rattle.wt_wire.specs.Codes.{code_of}
@@ -22,12 +23,12 @@ use Rattle.wt_wire.specs.declared.lookup.ConnectOutcome.{ConnectOutcome}
 use Rattle.wt_wire.specs.declared.lookup.Lookup.{Lookup}
 use Rattle.wt_wire.specs.declared.side.Side.{Side}
 use Rattle.wt_spec.specs.Answers.{is_client}
-use Rattle.wt_spec.specs.Connect.{address_of, authority_of, outcome_error, path_of, port_of, request_head, reserved_name, server_name}
+use Rattle.wt_spec.specs.Connect.{address_of, authority_of, outcome_error, path_of, port_of, request_head, server_name}
 use Rattle.wt_spec.specs.Connection.{is_for_session, is_opening, next_datagram, next_due, stream_header}
 use Rattle.wt_spec.specs.Driver.{established, settings_came, stream_table}
 use Rattle.wt_spec.specs.Effect.{head_left, is_covered}
-use Rattle.wt_spec.specs.Halves.{has_receiving_half, has_sending_half, is_done, priority, unread, write_error}
-use Rattle.wt_spec.specs.Handshake.{AwaitingRequest, Connecting, Established, HandshakeState, Over, Requested, Responding, handshake_state, has_success, is_refused, queued_requests, request_end, requested, response_head}
+use Rattle.wt_spec.specs.Halves.{has_receiving_half, has_sending_half, is_done, write_error}
+use Rattle.wt_spec.specs.Handshake.{Connecting, Established, HandshakeState, Over, Requested, Responding, handshake_state, has_success, is_refused, request_end, requested, response_head}
 use Rattle.wt_spec.specs.StreamTable.{Classified, verdict_of}
 use Rattle.wt_turn.specs.declared.action.Action.TheVariants as actions
 use Rattle.wt_turn.specs.declared.call.Call.TheVariants as calls
@@ -36,7 +37,25 @@ use Rattle.wt_wire.specs.declared.error.ErrorCode.TheVariants as h3
 use Rattle.wt_proto.specs.declared.response_walk.ResponseWalk.TheVariants as responses
 use Rattle.wt_turn.specs.declared.turn.Turn.TheVariants as turns
 
--- ---- which call it is
+-- ---- which turn it is
+
+-- the event that a turn of the transport tells, where it brings no bytes
+abbrev pub event_of : Turn → Option Event
+event_of (turns.Connected uni bi credit fact) = Some (Connected uni bi credit fact)
+event_of turns.PeerUni = Some PeerUni
+event_of turns.PeerBi = Some PeerBi
+event_of (turns.Bytes id piece) = None
+event_of (turns.End id) = Some (End id)
+event_of (turns.Reset id code) = Some (Reset id code)
+event_of (turns.Stop id code) = Some (Stop id code)
+event_of (turns.Acked id) = Some (Acked id)
+event_of (turns.Datagram piece) = Some (Datagram piece)
+event_of (turns.MaxUni total) = Some (MaxUni total)
+event_of (turns.MaxBi total) = Some (MaxBi total)
+event_of (turns.MaxData id total) = Some (MaxData id total)
+event_of (turns.DatagramLimit fact) = Some (DatagramLimit fact)
+event_of (turns.Loss reason) = Some (Loss reason)
+event_of (turns.Call call) = None
 
 -- the turn accepts a stream
 abbrev pub is_accept : Turn → Bool
@@ -71,12 +90,6 @@ abbrev pub polls_opening : ℕ → Turn → Bool
 polls_opening k (turns.Call (calls.PollOpening id)) = id == k
 polls_opening k _ = false
 
--- the turn closes the connection
-abbrev pub is_close : Turn → Bool
-is_close (turns.Call (calls.Close code reason)) = true
-is_close (turns.Call (calls.EndpointClose code reason)) = true
-is_close _ = false
-
 -- the frame of the request that a connect to this URL sends
 abbrev pub request_to : Fields → Result Parts ParseError → Option (List ℕ)
 request_to headers (Ok url) = Some (request_head (authority_of url) (path_of url) headers)
@@ -91,18 +104,13 @@ frame_of (turns.Call calls.NotFound) = Some (response_bytes (codes "404"))
 frame_of (turns.Call calls.TooManyRequests) = Some (response_bytes (codes "429"))
 frame_of _ = None
 
--- the name among the headers of a connect that only the session layer sets
-abbrev pub reserved_in : Turn → Option (List ℕ)
-reserved_in (turns.Call (calls.Connect options lookup outcome)) = reserved_name options.1
-reserved_in _ = None
-
 -- the handshake isn't over
 abbrev pub is_under_way : HandshakeState → Bool
 is_under_way (Established id) = false
 is_under_way Over = false
 is_under_way _ = true
 
--- ---- the causes of records; the log holds the call's own actions already
+-- ---- what a call finds; the log holds the call's own actions already
 
 -- the stream is the next one of its kind for the session
 pub record FoundStream (side : Side) (turn : Turn) (log : Log) (k : ℕ) (for_session : Bool) : Type 0 where
@@ -139,15 +147,6 @@ pub record FoundDatagram (side : Side) (turn : Turn) (log : Log) (for_session : 
   pub next : next_datagram side log ≡ Some datagram
   pub named : (4 * datagram.0 == session) ≡ for_session
 
--- why a request is delivered
-pub record DeliverCause (side : Side) (log : Log) (k : ℕ) : Type 0 where
-  pub by_server : is_client side ≡ false
-  pub under_way : handshake_state (calls_of log) ≡ AwaitingRequest
-  pub queued : Classified
-  pub later : List Classified
-  pub first : queued_requests side log ≡ queued ∷ later
-  pub same : queued.id ≡ k
-
 -- whose response goes on: this call's, or one that was started before
 pub data ResponseFrom (turn : Turn) (before : List CallRecord) (accepts : Bool) (head : List ℕ) : Type 0 where
   ByAcceptance : (id : ℕ) (headers : Fields) → accepts ≡ true → turn ≡ turns.Call (calls.Accept headers) → head ≡ response_head (codes "200") headers
@@ -155,11 +154,12 @@ pub data ResponseFrom (turn : Turn) (before : List CallRecord) (accepts : Bool) 
   ByRejection : (id : ℕ) → accepts ≡ false → frame_of turn ≡ Some head → handshake_state before ≡ Requested id → ResponseFrom turn before accepts head
   FromBefore : turn ≡ turns.Call calls.Handshake → handshake_state before ≡ Responding accepts head → ResponseFrom turn before accepts head
 
--- the rest of an acceptance goes out; or, the whole request being out, a response with a status code from 200 to 299 is read
+-- the rest of an acceptance goes out; or the call goes on with a connect whose whole request is out, and reads a response with a status code
+-- from 200 to 299
 pub data EstablishCause (side : Side) (turn : Turn) (log : Log) (own : List Action) (id at : ℕ) : Type 0 where
   ByAnswer : (head : List ℕ) → ResponseFrom turn (calls_of log) true head → id ≡ requested (calls_of log) → is_covered log id (head_left log id head) ≡ true
       → own ≡ send_of id (head_left log id head) → at ≡ request_end (verdict_of id (stream_table side log).classified) → EstablishCause side turn log own id at
-  ByResponse : (reserved : Option (List ℕ)) (head : List ℕ) (fields : Fields) → handshake_state (calls_of log) ≡ Connecting reserved head → settings_came side log ≡ true
+  ByResponse : (reserved : Option (List ℕ)) (head : List ℕ) (fields : Fields) → turn ≡ turns.Call calls.Handshake → handshake_state (calls_of log) ≡ Connecting reserved head → settings_came side log ≡ true
       → response_walk_of (contents log id) (end_of (events_of log) id) ≡ responses.Response fields at → has_success fields ≡ true → id ≡ local_bi side → local_count (actions_of (with_actions own log)) id ≢ 0 → head_left (with_actions own log) id head ≡ [] → EstablishCause side turn log own id at
 
 -- what establishes a session
@@ -170,51 +170,6 @@ pub record EstablishedBy (side : Side) (turn : Turn) (log : Log) (id at : ℕ) :
   pub was_open : is_open before ≡ true
   pub under_way : is_under_way (handshake_state (calls_of before)) ≡ true
   pub how : EstablishCause side turn before own id at
-
--- why a stream is opened
-pub record OpeningCause (side : Side) (log : Log) (k session : ℕ) : Type 0 where
-  pub local : (k % 4 == local_uni side || k % 4 == local_bi side) ≡ true
-  pub at : ℕ
-  pub is_established : established (calls_of log) ≡ Some (session, at)
-
--- why so many bytes of a stream count as read
-pub record ReadCause (side : Side) (turn : Turn) (log : Log) (k count : ℕ) : Type 0 where
-  pub reads : reads_from k turn ≡ true
-  pub has_half : has_receiving_half side log k ≡ true
-  pub within : count ≤ length (unread side log k)
-
--- why a call leaves this record
-abbrev pub RecordCause : Side → Turn → Log → CallRecord → Type 0
-RecordCause side turn log (StreamAccepted k) = AcceptCause side turn log k
-RecordCause side turn log (StreamPassed k) = FoundStream side turn log k false
-RecordCause side turn log DatagramReceived = FoundDatagram side turn log true
-RecordCause side turn log DatagramPassed = FoundDatagram side turn log false
-RecordCause side turn log (RequestDelivered k) = DeliverCause side log k
-RecordCause side turn log (ResponseStarted accepts head) = ResponseFrom turn (calls_of log) accepts head × is_under_way (handshake_state (calls_of log)) ≡ true
-RecordCause side turn log (ConnectStarted reserved head) = (calls_of log ≡ []) × (is_client side ≡ true) × (frame_of turn ≡ Some head) × (reserved ≡ reserved_in turn)
-RecordCause side turn log (SessionEstablished id at) = EstablishedBy side turn log id at
-RecordCause side turn log HandshakeOver = is_under_way (handshake_state (calls_of log)) ≡ true
-RecordCause side turn log (OpeningStarted k session) = OpeningCause side log k session
-RecordCause side turn log (OpeningFailed k) = is_opening log k ≡ true
-RecordCause side turn log (BytesRead k count) = ReadCause side turn log k count
-RecordCause side turn log (StreamGivenUp k) = has_receiving_half side log k ≡ true
-RecordCause side turn log (ResetUnsent k code) = (has_sending_half side log k ≡ true) × (is_open log ≡ false)
-RecordCause side turn log (PrioritySet k priority) = has_sending_half side log k ≡ true
-RecordCause side turn log Polled = Unit {0}
-
--- an opening opens the next stream of its kind
-pub record NewOpening (side : Side) (log : Log) (own : List Action) (k session : ℕ) : Type 0 where
-  pub cause : OpeningCause side (with_actions own log) k session
-  pub kind : ℕ
-  pub own_is : own ≡ opening side log kind
-  pub may : may_open side log kind ≡ true
-  pub next : k ≡ next_id side log kind
-  pub small : nat_lt kind 4 ≡ true
-
--- the cause of a record, with the call's own actions beside it
-abbrev pub CallCause : Side → Turn → Log → List Action → CallRecord → Type 0
-CallCause side turn log own (OpeningStarted k session) = NewOpening side log own k session
-CallCause side turn log own r = RecordCause side turn (with_actions own log) r
 
 -- ---- the causes of actions; the log holds those of the call's own that went out before
 
@@ -246,22 +201,35 @@ pub data StopCause (side : Side) (turn : Turn) (log : Log) (k code : ℕ) : Type
   OfPass : FoundStream side turn log k false → code ≡ code_of h3.BufferedStreamRejected → StopCause side turn log k code
   OfCall : turn ≡ turns.Call (calls.StopRecv k code) → has_receiving_half side log k ≡ true → StopCause side turn log k code
 
--- why a handshake fails or is rejected with no fault of the peer's: a rejection is over, a reserved name is among the headers,
--- the peer stopped the request before it was out, its response has no success, or its stream ended before a response
+-- the call goes on with a connect, and this is what the walk over its response comes to (RFC 9114, section 4.1)
+pub record ResponseIs (side : Side) (turn : Turn) (log : Log) (walk : ResponseWalk) : Type 0 where
+  pub goes_on : turn ≡ turns.Call calls.Handshake
+  pub reserved : Option (List ℕ)
+  pub request : List ℕ
+  pub under_way : handshake_state (calls_of log) ≡ Connecting reserved request
+  pub is : response_walk_of (contents log (local_bi side)) (end_of (events_of log) (local_bi side)) ≡ walk
+
+-- all of this request is out, on the client's first bidirectional stream
+abbrev pub IsRequestOut : Side → Log → List ℕ → Type 0
+IsRequestOut side log request = (local_count (actions_of log) (local_bi side) ≢ 0) × (head_left log (local_bi side) request ≡ [])
+
+-- why a handshake fails or is rejected with no fault of the peer's: a rejection is over; or the call goes on with a connect, and a
+-- reserved name is among its headers, the peer stopped the request before it was out, its response has no success, or its stream
+-- ended before a response
 pub data HandshakeFailure (side : Side) (turn : Turn) (log : Log) : Type 0 where
   Rejects : (head : List ℕ) → ResponseFrom turn (calls_of log) false head → is_finished (actions_of log) (requested (calls_of log)) ≡ true
       → (is_some (stop_of (events_of log) (requested (calls_of log))) || is_acknowledged (events_of log) (requested (calls_of log))) ≡ true → HandshakeFailure side turn log
-  Reserves : (name head : List ℕ) → handshake_state (calls_of log) ≡ Connecting (Some name) head → settings_came side log ≡ true → HandshakeFailure side turn log
-  Stops : (reserved : Option (List ℕ)) (head : List ℕ) → handshake_state (calls_of log) ≡ Connecting reserved head → is_refused log (local_bi side) (head_left log (local_bi side) head) ≡ true → HandshakeFailure side turn log
-  Declines : (fields : Fields) (at : ℕ) → response_walk_of (contents log (local_bi side)) (end_of (events_of log) (local_bi side)) ≡ responses.Response fields at → has_success fields ≡ false → HandshakeFailure side turn log
-  EndsStream : response_walk_of (contents log (local_bi side)) (end_of (events_of log) (local_bi side)) ≡ responses.Ended → HandshakeFailure side turn log
+  Reserves : (name head : List ℕ) → turn ≡ turns.Call calls.Handshake → handshake_state (calls_of log) ≡ Connecting (Some name) head → settings_came side log ≡ true → HandshakeFailure side turn log
+  Stops : (reserved : Option (List ℕ)) (head : List ℕ) → turn ≡ turns.Call calls.Handshake → handshake_state (calls_of log) ≡ Connecting reserved head → is_refused log (local_bi side) (head_left log (local_bi side) head) ≡ true → HandshakeFailure side turn log
+  Declines : (fields : Fields) (at : ℕ) (response : ResponseIs side turn log (responses.Response fields at)) → IsRequestOut side log response.request → has_success fields ≡ false → HandshakeFailure side turn log
+  EndsStream : (response : ResponseIs side turn log responses.Ended) → IsRequestOut side log response.request → HandshakeFailure side turn log
 
 -- the code with which a handshake that fails closes the connection
 pub data HandshakeCode (side : Side) (turn : Turn) (log : Log) (code : ℕ) : Type 0 where
   Plain : HandshakeFailure side turn log → code ≡ 0 → HandshakeCode side turn log code
   StoppedEarly : (accepts : Bool) (head : List ℕ) → ResponseFrom turn (calls_of log) accepts head → is_refused log (requested (calls_of log)) (head_left log (requested (calls_of log)) head) ≡ true
       → code ≡ code_of h3.ClosedCriticalStream → HandshakeCode side turn log code
-  OfResponse : (fault : ErrorCode) → response_walk_of (contents log (local_bi side)) (end_of (events_of log) (local_bi side)) ≡ responses.Fault fault → code ≡ code_of fault → HandshakeCode side turn log code
+  OfResponse : (fault : ErrorCode) (response : ResponseIs side turn log (responses.Fault fault)) → IsRequestOut side log response.request → code ≡ code_of fault → HandshakeCode side turn log code
 
 -- the application or the endpoint closes, or a handshake that fails does
 pub data CloseCause (side : Side) (turn : Turn) (log : Log) (code : ℕ) (reason : List ℕ) : Type 0 where

@@ -10,7 +10,7 @@ use Rattle.wt_seam_spec.specs.Joined.{join_all, send_of}
 use Rattle.wt_seam_spec.specs.Reports.{credit, datagrams_of, end_of, unis_allowed}
 use Rattle.wt_seam_spec.specs.Sent.{is_finished, is_reset, sent_on}
 use Rattle.wt_seam_spec.specs.Streams.{contents, local_bi, local_count, local_uni, peer_bi, peer_count, peer_uni}
-use Rattle.wt_turn.specs.Log.{CallRecord, Called, Entry, Log, Sent, SessionEstablished, actions_of, all_events_of, calls_of, closes, events_of, is_open, loses, newest, with_actions}
+use Rattle.wt_turn.specs.Log.{CallRecord, Called, Log, Sent, SessionEstablished, actions_of, all_events_of, calls_of, closes, events_of, is_open, loses, newest, with_actions}
 use Rattle.wt_turn.specs.declared.action.Action.{Action}
 use Rattle.wt_turn.specs.declared.reply.Reply.{Reply}
 use Rattle.wt_turn.specs.declared.turn.Turn.{Turn}
@@ -18,11 +18,11 @@ use Rattle.wt_wire.specs.Codes.{code_of}
 use Rattle.wt_wire.specs.HeaderList.{Fields}
 use Rattle.wt_wire.specs.declared.error.ErrorCode.{ErrorCode}
 use Rattle.wt_wire.specs.declared.side.Side.{Side}
-use Rattle.wt_laws.specs.Causes.{ActionCause, CloseCause, bytes_for, frame_of, reads_from}
-use Rattle.wt_laws.specs.Reachable.{Exchange, is_among}
+use Rattle.wt_laws.specs.Causes.{CloseCause, bytes_for, frame_of, reads_from}
+use Rattle.wt_laws.specs.Reachable.{Exchange, IsReachable, is_among}
 use Rattle.wt_laws.specs.ReplyCauses.{ReplyCause}
 use Rattle.wt_laws.specs.Told.{datagram_told, read_piece}
-use Rattle.wt_spec.specs.Answers.{answer_to, is_client, log_after, run_from}
+use Rattle.wt_spec.specs.Answers.{answer_to, is_client, is_lawful, log_after, run_from}
 use Rattle.wt_spec.specs.Connection.{is_for_session, is_opening, starts_opening, stream_header, well_formed}
 use Rattle.wt_spec.specs.Driver.{call_view, delivers, established, is_moment, pending_actions, releases, reset_if, session_id, settings_came, settled_datagrams, stream_table}
 use Rattle.wt_spec.specs.Effect.{driver_error, head_left, is_covered, transport_error}
@@ -193,10 +193,12 @@ DatagramsInOrder side before log =
 
 -- ---- the end
 
--- Why a connection isn't open: it was lost, a call closed it, or the driver did, for a fault or since the session ended.
+-- Why a connection isn't open: it was lost; a call closed it, in a lawful turn of the run and for its cause in that turn; or the driver
+-- did, for a fault or since the session ended.
 pub data EndedBy (side : Side) (log : Log) : Type 0 where
   ByLoss : list_any loses (events_of log) ≡ true → EndedBy side log
-  ClosedByCall : (earlier : Log) (turn : Turn) (code : ℕ) (reason : List ℕ) → CloseCause side turn earlier code reason → GoesOnFrom (Sent (actions.Close code reason) ∷ earlier) log → EndedBy side log
+  ClosedByCall : (start earlier : Log) (turn : Turn) (code : ℕ) (reason : List ℕ) → IsReachable side start → is_lawful side start turn ≡ true → IsDuring side start turn (Sent (actions.Close code reason) ∷ earlier)
+      → CloseCause side turn earlier code reason → GoesOnFrom (Sent (actions.Close code reason) ∷ earlier) log → EndedBy side log
   ByDriver : (e : Ending) → (stream_table side log).progress.ending ≡ Some e → EndedBy side log
 
 -- a connection is open exactly where none of these ended it
@@ -261,17 +263,6 @@ pub data DriverCause (side : Side) (log : Log) : Action → Type 0 where
 abbrev pub DriverCauses : Side → Log → List Action → Type 0
 DriverCauses side log [] = Unit {0}
 DriverCauses side log (a ∷ later) = DriverCause side log a × DriverCauses side log later
-
--- why an action went out, behind this log: a call's own, or the driver's at the moment before
-pub data SentFor (side : Side) (log : Log) (a : Action) : Type 0 where
-  ForCall : (turn : Turn) → ActionCause side turn log a → SentFor side log a
-  ForDriver : (e : Entry) (earlier : Log) → is_moment e ≡ true → is_open (e ∷ earlier) ≡ true → GoesOnFrom (e ∷ earlier) log → DriverCause side (e ∷ earlier) a → SentFor side log a
-
--- each action that went out has its cause
-abbrev pub ActionsHaveCauses : Side → Log → Type 0
-ActionsHaveCauses side [] = Unit {0}
-ActionsHaveCauses side (Sent a ∷ log) = SentFor side log a × ActionsHaveCauses side log
-ActionsHaveCauses side (_ ∷ log) = ActionsHaveCauses side log
 
 -- each reply has its cause at the log at which the call decided, which is in the middle of the turn
 abbrev pub ReplyHasCause : Side → Log → Turn → Type 0

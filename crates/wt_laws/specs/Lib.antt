@@ -1,5 +1,6 @@
 pub mod Causes
 pub mod ReplyCauses
+pub mod RecordCauses
 pub mod Reachable
 pub mod Told
 pub mod Left

@@ -25,7 +25,7 @@ use Rattle.wt_wire.specs.declared.error.ErrorCode.{ErrorCode}
 use Rattle.wt_wire.specs.declared.lookup.ConnectOutcome.{ConnectOutcome}
 use Rattle.wt_wire.specs.declared.lookup.Lookup.{Lookup}
 use Rattle.wt_wire.specs.declared.side.Side.{Side}
-use Rattle.wt_laws.specs.Causes.{ConnectTo, DatagramOf, EstablishedBy, FoundDatagram, FoundStream, ResponseFrom, accepted_kind, bytes_for, is_accept, is_receive, opened_kind, polls_opening, reads_from}
+use Rattle.wt_laws.specs.Causes.{ConnectTo, DatagramOf, EstablishedBy, FoundDatagram, FoundStream, ResponseFrom, ResponseIs, accepted_kind, bytes_for, is_accept, is_receive, opened_kind, polls_opening, reads_from}
 use Rattle.wt_spec.specs.Connect.{address_of, outcome_error, port_of}
 use Rattle.wt_spec.specs.Connection.{is_opening, next_datagram, next_due, payload_limit, stream_header}
 use Rattle.wt_spec.specs.Driver.{established, settings_came}
@@ -129,7 +129,7 @@ pub data FailedCause (side : Side) (turn : Turn) (log : Log) (e : ConnectionErro
   ByStop : (head : List ℕ) → ResponseFrom turn (calls_of log) true head → is_refused log (requested (calls_of log)) (head_left log (requested (calls_of log)) head) ≡ true
       → e ≡ errors.LocalH3Error h3.ClosedCriticalStream → FailedCause side turn log e
 
--- a step of the connect failed
+-- a step of the connect failed: of the call that begins it, or of one that goes on with it
 pub data ConnectFailedCause (side : Side) (turn : Turn) (log : Log) (e : ConnectingError) : Type 0 where
   NoUrl : (text : List ℕ) (headers : Fields) (lookup : Lookup) (outcome : ConnectOutcome) (fault : ParseError) → turn ≡ turns.Call (calls.Connect (text, headers) lookup outcome)
       → parse_url None text ≡ Err fault → e ≡ connects.InvalidUrl refusals.Parse → ConnectFailedCause side turn log e
@@ -137,21 +137,21 @@ pub data ConnectFailedCause (side : Side) (turn : Turn) (log : Log) (e : Connect
       → parse_url None text ≡ Ok url → bytes_eq url.scheme (codes "https") ≡ false → e ≡ connects.InvalidUrl refusals.Scheme → ConnectFailedCause side turn log e
   NoAddress : (to : ConnectTo turn) → address_of (host_or_empty to.url) (port_of to.url) to.lookup ≡ Err e → ConnectFailedCause side turn log e
   NotProceeding : (to : ConnectTo turn) (address : Addr) → address_of (host_or_empty to.url) (port_of to.url) to.lookup ≡ Ok address → outcome_error to.outcome ≡ Some e → ConnectFailedCause side turn log e
-  BeforeConnection : (reserved : Option (List ℕ)) (head : List ℕ) → handshake_state (calls_of log) ≡ Connecting reserved head → is_connected (events_of log) ≡ false → is_open log ≡ false → e ≡ lost log → ConnectFailedCause side turn log e
-  BeforeSettings : (reserved : Option (List ℕ)) (head : List ℕ) → handshake_state (calls_of log) ≡ Connecting reserved head → settings_came side log ≡ false → is_open log ≡ false
+  BeforeConnection : (reserved : Option (List ℕ)) (head : List ℕ) → turn ≡ turns.Call calls.Handshake → handshake_state (calls_of log) ≡ Connecting reserved head → is_connected (events_of log) ≡ false → is_open log ≡ false → e ≡ lost log → ConnectFailedCause side turn log e
+  BeforeSettings : (reserved : Option (List ℕ)) (head : List ℕ) → turn ≡ turns.Call calls.Handshake → handshake_state (calls_of log) ≡ Connecting reserved head → settings_came side log ≡ false → is_open log ≡ false
       → e ≡ connects.ConnectionError (driver_error side log) → ConnectFailedCause side turn log e
-  BeforeStream : (reserved : Option (List ℕ)) (head : List ℕ) → handshake_state (calls_of log) ≡ Connecting reserved head → local_count (actions_of log) (local_bi side) ≡ 0 → is_open log ≡ false → e ≡ lost log → ConnectFailedCause side turn log e
-  BeforeRequest : (reserved : Option (List ℕ)) (head : List ℕ) → handshake_state (calls_of log) ≡ Connecting reserved head → is_empty (head_left log (local_bi side) head) ≡ false → is_open log ≡ false → e ≡ lost log → ConnectFailedCause side turn log e
-  BeforeResponse : response_walk_of (contents log (local_bi side)) (end_of (events_of log) (local_bi side)) ≡ responses.Waiting → is_open log ≡ false → e ≡ lost log → ConnectFailedCause side turn log e
-  AfterSuccess : (fields : Fields) (at : ℕ) → response_walk_of (contents log (local_bi side)) (end_of (events_of log) (local_bi side)) ≡ responses.Response fields at → has_success fields ≡ true → is_open log ≡ false
+  BeforeStream : (reserved : Option (List ℕ)) (head : List ℕ) → turn ≡ turns.Call calls.Handshake → handshake_state (calls_of log) ≡ Connecting reserved head → local_count (actions_of log) (local_bi side) ≡ 0 → is_open log ≡ false → e ≡ lost log → ConnectFailedCause side turn log e
+  BeforeRequest : (reserved : Option (List ℕ)) (head : List ℕ) → turn ≡ turns.Call calls.Handshake → handshake_state (calls_of log) ≡ Connecting reserved head → is_empty (head_left log (local_bi side) head) ≡ false → is_open log ≡ false → e ≡ lost log → ConnectFailedCause side turn log e
+  BeforeResponse : ResponseIs side turn log responses.Waiting → is_open log ≡ false → e ≡ lost log → ConnectFailedCause side turn log e
+  AfterSuccess : (fields : Fields) (at : ℕ) → ResponseIs side turn log (responses.Response fields at) → has_success fields ≡ true → is_open log ≡ false
       → e ≡ connects.ConnectionError (driver_error side log) → ConnectFailedCause side turn log e
-  ByReserved : (name head : List ℕ) → handshake_state (calls_of log) ≡ Connecting (Some name) head → settings_came side log ≡ true → e ≡ connects.ReservedHeader name → ConnectFailedCause side turn log e
-  ByRefusal : (reserved : Option (List ℕ)) (head : List ℕ) → handshake_state (calls_of log) ≡ Connecting reserved head → is_refused log (local_bi side) (head_left log (local_bi side) head) ≡ true → e ≡ connects.SessionRejected → ConnectFailedCause side turn log e
-  ByStatus : (fields : Fields) (at : ℕ) → response_walk_of (contents log (local_bi side)) (end_of (events_of log) (local_bi side)) ≡ responses.Response fields at → has_success fields ≡ false
+  ByReserved : (name head : List ℕ) → turn ≡ turns.Call calls.Handshake → handshake_state (calls_of log) ≡ Connecting (Some name) head → settings_came side log ≡ true → e ≡ connects.ReservedHeader name → ConnectFailedCause side turn log e
+  ByRefusal : (reserved : Option (List ℕ)) (head : List ℕ) → turn ≡ turns.Call calls.Handshake → handshake_state (calls_of log) ≡ Connecting reserved head → is_refused log (local_bi side) (head_left log (local_bi side) head) ≡ true → e ≡ connects.SessionRejected → ConnectFailedCause side turn log e
+  ByStatus : (fields : Fields) (at : ℕ) → ResponseIs side turn log (responses.Response fields at) → has_success fields ≡ false
       → e ≡ connects.SessionRejected → ConnectFailedCause side turn log e
-  ByResponseFault : (code : ErrorCode) → response_walk_of (contents log (local_bi side)) (end_of (events_of log) (local_bi side)) ≡ responses.Fault code
+  ByResponseFault : (code : ErrorCode) → ResponseIs side turn log (responses.Fault code)
       → e ≡ connects.ConnectionError (errors.LocalH3Error code) → ConnectFailedCause side turn log e
-  ByStreamEnd : response_walk_of (contents log (local_bi side)) (end_of (events_of log) (local_bi side)) ≡ responses.Ended → e ≡ lost log → ConnectFailedCause side turn log e
+  ByStreamEnd : ResponseIs side turn log responses.Ended → e ≡ lost log → ConnectFailedCause side turn log e
 
 -- the next stream of the session, of the kind that the accept asks for
 abbrev pub GivenStream : Side → Turn → Log → ℕ → ℕ → Type 0
@@ -245,7 +245,7 @@ ReplyCause side turn log replies.Done = DoneCause side turn log
 ReplyCause side turn log replies.Pending = (is_open log ≡ true) × PendingCause side turn log
 ReplyCause side turn log replies.NoSession = (asks_for_session turn ≡ true) × (established (calls_of log) ≡ None)
 ReplyCause side turn log replies.NoStream = half_of side log turn ≡ Some false
-ReplyCause side turn log (replies.Request id headers) = (queued : Classified) × (later : List Classified) × (queued_requests side log ≡ queued ∷ later) × (queued.id ≡ id) × (headers ≡ request_fields_of queued.verdict)
+ReplyCause side turn log (replies.Request id headers) = (turn ≡ turns.Call calls.Incoming) × (queued : Classified) × (later : List Classified) × (queued_requests side log ≡ queued ∷ later) × (queued.id ≡ id) × (headers ≡ request_fields_of queued.verdict)
 ReplyCause side turn log (replies.Session id) = (own : List Action) × (at : ℕ) × EstablishedBy side turn (with_actions own log) id at
 ReplyCause side turn log replies.Rejected = RejectedCause side turn log
 ReplyCause side turn log (replies.Uni k) = GivenStream side turn log (peer_uni side) k

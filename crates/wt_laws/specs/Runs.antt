@@ -1,5 +1,5 @@
 -- What a run of turns is, what later moments leave as it was, and what comes after the end.
-use Rattle.std.specs.Prelude.{[], ◌<◌, ◌%◌, ◌++◌, ◌∷◌, ◌≡◌, List, Some, false, length, true, ℕ}
+use Rattle.std.specs.Prelude.{[], ◌<◌, ◌%◌, ◌++◌, ◌∷◌, ◌≡◌, Bool, List, Some, false, length, true, ℕ}
 use Rattle.std.specs.List.{list_any}
 use Rattle.wt_proto.specs.declared.verdict.Verdict.{Verdict}
 use Rattle.wt_turn.specs.Log.{Event, Log, ReportedLate, calls_of, is_open}
@@ -11,7 +11,9 @@ use Rattle.wt_spec.specs.Answers.{AtUnlawful, Finished, answer_to, answers_from,
 use Rattle.wt_spec.specs.Driver.{delivers, releases, settings_came, stream_table}
 use Rattle.wt_spec.specs.Scan.{has}
 use Rattle.wt_spec.specs.StreamTable.{Classified, verdict_of}
+use Rattle.wt_turn.specs.declared.call.Call.TheVariants as calls
 use Rattle.wt_turn.specs.declared.reply.Reply.TheVariants as replies
+use Rattle.wt_turn.specs.declared.turn.Turn.TheVariants as turns
 
 -- A run answers the longest lawful prefix of its turns, one answer a turn: all of them, or those before the first that isn't
 -- lawful after the others.
@@ -39,6 +41,16 @@ pub record StaysSo (side : Side) (earlier later : Log) : Type 0 where
   pub delivered : (k : ℕ) → list_any (delivers k) (calls_of earlier) ≡ true → list_any (delivers k) (calls_of later) ≡ true
   pub settings : settings_came side earlier ≡ true → settings_came side later ≡ true
   pub datagrams : DatagramsStay side earlier later
+
+-- the turn asks for nothing: it is an event of the transport, or the close of the endpoint
+abbrev pub asks_nothing : Turn → Bool
+asks_nothing (turns.Call (calls.EndpointClose code reason)) = true
+asks_nothing (turns.Call call) = false
+asks_nothing event = true
+
+-- an event of the transport is answered Done, and so is the close of the endpoint
+abbrev pub DoneAtOnce : Side → Log → Turn → Type 0
+DoneAtOnce side log turn = asks_nothing turn ≡ true → (answer_to side log turn).reply ≡ replies.Done
 
 -- a turn of the transport after the end is answered Done, and nothing goes out
 pub record DoneLate (side : Side) (log : Log) (turn : Turn) : Type 0 where

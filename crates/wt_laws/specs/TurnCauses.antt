@@ -1,16 +1,19 @@
--- What a turn adds to the log, each entry with its cause in that very turn: what the calls sent and recorded, and what the driver
--- sent at the newest moment.
-use Rattle.std.specs.Prelude.{◌∷◌, ◌≡◌, true}
-use Rattle.wt_turn.specs.Log.{Called, Entry, Log, Sent, calls_of, is_open}
+-- What a turn adds to the log, each entry with its cause in that very turn: what the transport told, what the calls sent and recorded,
+-- and what the driver sent at the newest moment.
+use Rattle.std.specs.Prelude.{◌++◌, ◌∷◌, ◌≡◌, Bool, List, Some, false, true, ℕ}
+use Rattle.wt_seam_spec.specs.Streams.{contents}
+use Rattle.wt_turn.specs.Log.{Called, Entry, Event, Log, Received, Reported, ReportedLate, Sent, calls_of, is_open}
 use Rattle.wt_turn.specs.declared.action.Action.{Action}
 use Rattle.wt_turn.specs.declared.turn.Turn.{Turn}
 use Rattle.wt_wire.specs.declared.side.Side.{Side}
-use Rattle.wt_laws.specs.Causes.{ActionCause, RecordCause}
+use Rattle.wt_laws.specs.Causes.{ActionCause, event_of}
 use Rattle.wt_laws.specs.Laws.{DriverCause, GoesOnFrom, IsDuring}
 use Rattle.wt_laws.specs.Reachable.{IsReachable}
+use Rattle.wt_laws.specs.RecordCauses.{RecordCause}
 use Rattle.wt_laws.specs.Told.{Logged, Passed}
 use Rattle.wt_spec.specs.Answers.{answer_to, is_lawful, log_after}
 use Rattle.wt_spec.specs.Driver.{is_moment}
+use Rattle.wt_turn.specs.declared.turn.Turn.TheVariants as turns
 
 -- the log is that of a moment, with actions that went out since
 pub data SinceMoment (moment : Log) : Log → Type 0 where
@@ -23,11 +26,28 @@ pub data SentIn (side : Side) (turn : Turn) (start log : Log) (a : Action) : Typ
   ByCall : ActionCause side turn log a → SentIn side turn start log a
   ByDriver : (e : Entry) (earlier : Log) → GoesOnFrom start earlier → is_moment e ≡ true → is_open (e ∷ earlier) ≡ true → SinceMoment (e ∷ earlier) log → DriverCause side (e ∷ earlier) a → SentIn side turn start log a
 
--- why an entry comes in a turn, after this log: an action and a call's record have their causes
+-- the turn is the event of the transport that tells exactly this, and tells it first of all, while the connection is open or after its end
+abbrev pub IsTold : Turn → Log → Log → Bool → Event → Type 0
+IsTold turn start log was_open e = (event_of turn ≡ Some e) × (log ≡ start) × (is_open log ≡ was_open)
+
+-- The turn is the event of the transport that brings this byte for the stream, on an open connection: it is the next of the piece,
+-- behind those that came in the turn before it (RFC 9000, section 2.2).
+pub record IsNextByte (turn : Turn) (start log : Log) (id b : ℕ) : Type 0 where
+  pub piece : List ℕ
+  pub told : turn ≡ turns.Bytes id piece
+  pub earlier : List ℕ
+  pub later : List ℕ
+  pub order : piece ≡ earlier ++ b ∷ later
+  pub came : contents log id ≡ contents start id ++ earlier
+  pub was_open : is_open log ≡ true
+
+-- why an entry comes in a turn, after this log: the transport tells it, or a call sends or records it, or the driver sends it
 abbrev pub EntryCause : Side → Turn → Log → Log → Entry → Type 0
+EntryCause side turn start log (Received id b) = IsNextByte turn start log id b
+EntryCause side turn start log (Reported e) = IsTold turn start log true e
+EntryCause side turn start log (ReportedLate e) = IsTold turn start log false e
 EntryCause side turn start log (Sent a) = SentIn side turn start log a
 EntryCause side turn start log (Called r) = RecordCause side turn log r
-EntryCause side turn start log _ = Unit {0}
 
 -- from a log on, each entry that a turn adds has its cause
 pub data CausedIn (side : Side) (turn : Turn) (start : Log) : Log → Type 0 where

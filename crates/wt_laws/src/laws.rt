@@ -1,7 +1,7 @@
 //! The laws, each a function with an empty body whose contract is the law.
 ghost use Rattle.std.specs.Prelude.{◌≡◌, ◌++◌, ℕ, List, [], Option, Some, true, false};
 ghost use Rattle.wt_laws.specs.Exactly.{AsksFirst, ConnectGoesOn, ConnectsAnswer, HeadsGoOut, MaySend, ReceivingCallsAnswer, RequestGoesOn, RequestsAnswer, ResponsesAnswer, SendingCallsAnswer, SessionCallsAnswer};
-ghost use Rattle.wt_laws.specs.Laws.{ActionsHaveCauses, CutsWell, DatagramsInOrder, FaultCloses, HeadersOut, NothingAfterEnd, OneSession, OpenExactly, ReadsFromStart, ReadsInOrder, ReplyHasCause, RequestTold, ResultStays, SendsAll, SendsEnd, SendsInOrder, SessionStreamOut, SessionTold, SessionsRightly, SettingsOut, StreamsAcceptedRightly, TakenGoesOut, WithinCredit};
+ghost use Rattle.wt_laws.specs.Laws.{CutsWell, DatagramsInOrder, FaultCloses, HeadersOut, NothingAfterEnd, OneSession, OpenExactly, ReadsFromStart, ReadsInOrder, ReplyHasCause, RequestTold, ResultStays, SendsAll, SendsEnd, SendsInOrder, SessionStreamOut, SessionTold, SessionsRightly, SettingsOut, StreamsAcceptedRightly, TakenGoesOut, WithinCredit};
 ghost use Rattle.wt_laws.specs.Left.{PendingExactly, is_pending};
 ghost use Rattle.wt_laws.specs.Reachable.{AllLawful, IsReachable, exchanges};
 ghost use Rattle.wt_laws.specs.ReplyCauses.{is_call};
@@ -70,11 +70,10 @@ pub fn connections_end_for_a_cause()
     ensures after { (side : Side) (log : Log) → IsReachable side log → NothingAfterEnd log }
 {}
 
-/// Each reply and each action has its cause.
-#[tactic(auto, using(crate::proofs::Theorems::reply_theorem, crate::proofs::Theorems::action_theorem))]
+/// Each reply has its cause.
+#[tactic(auto, using(crate::proofs::Theorems::reply_theorem))]
 pub fn answers_have_causes()
     ensures replies { (side : Side) (log : Log) (turn : Turn) → is_lawful side log turn ≡ true → ReplyHasCause side log turn }
-    ensures actions { (side : Side) (log : Log) → IsReachable side log → ActionsHaveCauses side log }
 {}
 
 /// Where a piece of bytes is cut changes no later answer, and its own is that of its parts.

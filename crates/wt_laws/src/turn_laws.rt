@@ -7,19 +7,27 @@ ghost use Rattle.wt_laws.specs.Faults.{ClassifiedRightly, DatagramOrEnds, EndsFo
 ghost use Rattle.wt_laws.specs.FirstFault.{FirstIsTold};
 ghost use Rattle.wt_laws.specs.GivenOnce.{GivenOnce};
 ghost use Rattle.wt_laws.specs.Reachable.{AllLawful, IsReachable, exchanges};
+ghost use Rattle.wt_laws.specs.Runs.{DoneAtOnce};
 ghost use Rattle.wt_laws.specs.TurnCauses.{ActionsWentOut, EntriesHaveCauses, ReplyIsRecorded};
 ghost use Rattle.wt_spec.specs.Answers.{is_lawful};
 ghost use Rattle.wt_turn.specs.Log.{Entry, Log};
 ghost use Rattle.wt_turn.specs.declared.turn.Turn.{Turn};
 ghost use Rattle.wt_wire.specs.declared.side.Side.{Side};
 
-/// Each entry that a turn adds to the log has its cause in that very turn, so each action of a run
-/// went out in one of its turns and for its cause in it; and what a reply gives is recorded.
+/// Each entry that a turn adds to the log has its cause in that very turn: what the transport told
+/// in it, what a call sent and recorded, what the driver sent. So each action of a run went out in
+/// one of its turns and for its cause in it; and what a reply gives is recorded.
 #[tactic(auto, using(crate::proofs::TurnCauses::entries_theorem, crate::proofs::TurnCauses::went_out_theorem, crate::proofs::TurnCauses::recorded_theorem))]
 pub fn turns_have_causes()
     ensures entries { (side : Side) (log : Log) (turn : Turn) → is_lawful side log turn ≡ true → EntriesHaveCauses side log turn }
     ensures actions { (side : Side) (log : Log) → IsReachable side log → ActionsWentOut side log }
     ensures recorded { (side : Side) (log : Log) (turn : Turn) → is_lawful side log turn ≡ true → ReplyIsRecorded side log turn }
+{}
+
+/// An event of the transport is answered Done, and so is the close of the endpoint.
+#[tactic(auto, using(crate::proofs::RunLaws::done_at_once_theorem))]
+pub fn events_are_answered_done()
+    ensures events { (side : Side) (log : Log) (turn : Turn) → DoneAtOnce side log turn }
 {}
 
 /// No stream is given by two of a run's accepts.

@@ -19,8 +19,9 @@ use Rattle.wt_laws.proofs.Reached.{reached}
 use Rattle.wt_laws.proofs.SendLaws.{Given, given-entries}
 use Rattle.wt_laws.proofs.SessionLaws.{from-request, handshakes-first}
 use Rattle.wt_laws.proofs.Steps.{Keeps, of-record}
-use Rattle.wt_laws.specs.Causes.{ActionCause, FinishCause, OfCall, OfRejection, OwnCauses, RecordCause}
+use Rattle.wt_laws.specs.Causes.{ActionCause, FinishCause, OfCall, OfRejection, OwnCauses}
 use Rattle.wt_laws.specs.Reachable.{IsReachable}
+use Rattle.wt_laws.specs.RecordCauses.{RecordCause}
 use Rattle.wt_reached.proofs.Fair.{EndsFairly, ends-fairly}
 use Rattle.wt_spec.specs.Driver.{ControlSent, apply_if, close_actions, control_actions, control_sent, delivers, established, flush, is_moment, log_and_flush, opened_if, pending_actions, session_id, stop_actions, stream_table}
 use Rattle.wt_spec.specs.Halves.{is_accepted}
@@ -125,7 +126,7 @@ module _ (side : Side) (turn : Turn) where
   -- ---- a record
 
   new-unsent : (log : Log) (k : ℕ) (r : CallRecord) → RecordCause side turn log r → resets k (Called r) ≡ true → (is_accepted (Called r ∷ log) k ≡ true) ⊎ IsSession (r ∷ calls_of log) k
-  new-unsent log k (ResetUnsent id code) c e = inl (subst (λ (j : ℕ). is_accepted log j ≡ true) (eqb-true id k e) (and_parts (is_accepted log id) _ c.0).0)
+  new-unsent log k (ResetUnsent id code) c e = inl (subst (λ (j : ℕ). is_accepted log j ≡ true) (eqb-true id k e) (and_parts (is_accepted log id) _ c.1).0)
   new-unsent log k _ c e = absurd (cc)
 
   still-session : (log : Log) (k : ℕ) (r : CallRecord) → Ends side log → RecordCause side turn log r → IsSession (calls_of log) k → IsSession (r ∷ calls_of log) k

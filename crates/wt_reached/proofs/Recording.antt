@@ -30,8 +30,9 @@ use Rattle.wt_laws.proofs.Reached.{reached}
 use Rattle.wt_laws.proofs.SessionLaws.{has_request}
 use Rattle.wt_laws.proofs.SessionStream.{not-true-so}
 use Rattle.wt_laws.proofs.Steps.{KeepsEntries, by-entries}
-use Rattle.wt_laws.specs.Causes.{DeliverCause, FoundStream, RecordCause, accepted_kind, is_under_way}
+use Rattle.wt_laws.specs.Causes.{FoundStream, accepted_kind, is_under_way}
 use Rattle.wt_laws.specs.Reachable.{AfterTurn, AtStart, IsReachable}
+use Rattle.wt_laws.specs.RecordCauses.{DeliverCause, RecordCause}
 use Rattle.wt_reached.proofs.Handshaking.{Reached, reached-holds}
 use Rattle.wt_reached.proofs.There.{control-not-given, given-origin}
 use Rattle.wt_reached.specs.Reading.{ByCall, ByPeer, Origin}
@@ -93,7 +94,7 @@ pub record IsQueued (side : Side) (log : Log) (k : ℕ) : Type 0 where
 queued-stays : (side : Side) (e : Entry) (log : Log) (k : ℕ) → IsQueued side log k → IsQueued side (e ∷ log) k
 queued-stays side e log k q = record { request = q.request; is_found = entry-stays side k q.request e log q.is_found; queued = q.queued }
 
-pub delivers-queued : (side : Side) (log : Log) (k : ℕ) → DeliverCause side log k → IsQueued side log k
+pub delivers-queued : (side : Side) {turn : Turn} (log : Log) (k : ℕ) → DeliverCause side turn log k → IsQueued side log k
 delivers-queued side log k c = at (settings_came side log) c.first
   where
     cs : List Classified
@@ -161,7 +162,7 @@ new-passed side turn log k _ c e = absurd (cc)
 
 new-goes-on : (side : Side) (turn : Turn) (log : Log) (r : CallRecord) (reserved : Option (List ℕ)) (head : List ℕ) (k : ℕ) → Recorded side log → RecordCause side turn log r
     → handshake_state (r ∷ calls_of log) ≡ Connecting reserved head → (use_of k (r ∷ calls_of log)).is_over ≡ false
-new-goes-on side turn log (ConnectStarted o h) reserved head k g c e = ap (λ (cs : List CallRecord). (use_of k cs).is_over) c.0
+new-goes-on side turn log (ConnectStarted o h) reserved head k g c e = ap (λ (cs : List CallRecord). (use_of k cs).is_over) c.first
 new-goes-on side turn log (RequestDelivered id) reserved head k g c e = absurd (cc)
 new-goes-on side turn log (ResponseStarted a h) reserved head k g c e = absurd (cc)
 new-goes-on side turn log (SessionEstablished id at) reserved head k g c e = absurd (cc)

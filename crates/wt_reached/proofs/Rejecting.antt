@@ -24,8 +24,9 @@ use Rattle.wt_laws.proofs.SessionLaws.{has_request}
 use Rattle.wt_laws.proofs.Sends.{piece_on, sends_of, with-piece}
 use Rattle.wt_laws.proofs.SessionStream.{not-true-so}
 use Rattle.wt_laws.proofs.Steps.{Keeps, KeepsEntries, by-entries, calls-logged, of-record}
-use Rattle.wt_laws.specs.Causes.{ActionCause, ByAcceptance, ByRejection, FromBefore, OfHeader, OfRequest, OfResponse, OfWrite, OwnCauses, RecordCause, ResponseFrom, SendCause, frame_of}
+use Rattle.wt_laws.specs.Causes.{ActionCause, ByAcceptance, ByRejection, FromBefore, OfHeader, OfRequest, OfResponse, OfWrite, OwnCauses, ResponseFrom, SendCause, frame_of}
 use Rattle.wt_laws.specs.Reachable.{AfterTurn, AtStart, IsReachable}
+use Rattle.wt_laws.specs.RecordCauses.{RecordCause}
 use Rattle.wt_reached.proofs.Ends.{Ends, ends-action, ends-hold, ends-own, ends-record, keeps-ends}
 use Rattle.wt_reached.proofs.Handshaking.{reached-holds}
 use Rattle.wt_reached.proofs.There.{is-local-uni}

@@ -9,9 +9,10 @@ use Rattle.wt_laws.proofs.During.{actions-extend, extend, flush-extends}
 use Rattle.wt_laws.proofs.Reached.{reached}
 use Rattle.wt_laws.proofs.SessionLaws.{from-request, has_request}
 use Rattle.wt_laws.proofs.Steps.{KeepsEntries, by-entries, calls-logged}
-use Rattle.wt_laws.specs.Causes.{RecordCause, is_accept, is_receive}
+use Rattle.wt_laws.specs.Causes.{is_accept, is_receive}
 use Rattle.wt_laws.specs.Laws.{GoesOnFrom}
 use Rattle.wt_laws.specs.Reachable.{AfterTurn, IsReachable}
+use Rattle.wt_laws.specs.RecordCauses.{RecordCause}
 use Rattle.wt_laws.specs.ReplyCauses.{ReplyCause, is_call}
 use Rattle.wt_laws.specs.Told.{Logged, NoRecord, OneRecord, Tells, ThenPolled, request_told}
 use Rattle.wt_plan.proofs.AnswersSame.{delivered_end, request_end_kept}
@@ -173,7 +174,7 @@ first-queued side log queued later f = at (settings_came side log) f
     at false e = absurd (cc)
 
 caused-first : (side : Side) (turn : Turn) (log : Log) (k : ℕ) (reply : Reply) → request_told reply ≡ Some k → ReplyCause side turn log reply → DeliversFirst side log k
-caused-first side turn log k (replies.Request id headers) e (queued, later, first, same, h) =
+caused-first side turn log k (replies.Request id headers) e (asks, queued, later, first, same, h) =
     let i : id ≡ k = cc in
     let v = request-verdict queued.verdict (first-queued side log queued later first).0 in
     record { queued = queued; later = later; first = first; same = same ∙ i; headers = v.0; at = v.1; verdict = v.2 }

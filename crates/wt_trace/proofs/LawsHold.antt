@@ -11,7 +11,8 @@ use Rattle.wt_laws.proofs.NoFault.{streams-faultless}
 use Rattle.wt_laws.proofs.OnceLaws.{once-each}
 use Rattle.wt_laws.proofs.PendingOut.{pending-goes-out}
 use Rattle.wt_laws.proofs.RequestTold.{request_told_theorem}
-use Rattle.wt_laws.proofs.Theorems.{accepted_theorem, action_theorem, after_end_theorem, asks_first_theorem, connect_theorem, connects_theorem, datagrams_theorem, ended_theorem, fault_theorem, headers_theorem, heads_theorem, late_theorem, later_theorem, one_session_theorem, open_theorem, order_theorem, own_reads_theorem, pending_theorem, reads_theorem, receiving_calls_theorem, reply_theorem, request_theorem, requests_theorem, responses_theorem, result_theorem, sending_calls_theorem, sends_all_theorem, sends_end_theorem, sends_theorem, session_calls_theorem, session_stream_theorem, session_told_theorem, sessions_theorem, settings_theorem, stays_theorem, taken_theorem, within_credit_theorem}
+use Rattle.wt_laws.proofs.RunLaws.{done_at_once_theorem}
+use Rattle.wt_laws.proofs.Theorems.{accepted_theorem, after_end_theorem, asks_first_theorem, connect_theorem, connects_theorem, datagrams_theorem, ended_theorem, fault_theorem, headers_theorem, heads_theorem, late_theorem, later_theorem, one_session_theorem, open_theorem, order_theorem, own_reads_theorem, pending_theorem, reads_theorem, receiving_calls_theorem, reply_theorem, request_theorem, requests_theorem, responses_theorem, result_theorem, sending_calls_theorem, sends_all_theorem, sends_end_theorem, sends_theorem, session_calls_theorem, session_stream_theorem, session_told_theorem, sessions_theorem, settings_theorem, stays_theorem, taken_theorem, within_credit_theorem}
 use Rattle.wt_laws.proofs.TurnCauses.{entries_theorem, recorded_theorem, went_out_theorem}
 use Rattle.wt_laws.specs.Runs.{StaysSo}
 use Rattle.wt_spec.specs.Answers.{is_lawful, run}
@@ -78,8 +79,8 @@ laws side all =
       replies = λ n turn l e. reply_theorem side (log_at side all n) turn (lawful n turn l e);
       recorded = λ n turn l e. recorded_theorem side (log_at side all n) turn (lawful n turn l e);
       actions = λ n l. went_out_theorem side (log_at side all n) (reach n l);
-      caused = λ n l. action_theorem side (log_at side all n) (reach n l);
       entries = λ n turn l e. entries_theorem side (log_at side all n) turn (lawful n turn l e);
+      events = λ n turn l e. done_at_once_theorem side (log_at side all n) turn;
       opened = λ n l. open_theorem side (log_at side all n) (reach n l);
       faults = λ n l. record { closes = λ moment goes. fault_theorem side moment; went_out = pending-goes-out side (log_at side all n) (reach n l) };
       endings = λ n turn l e. ending-goes-out side (log_at side all n) turn (lawful n turn l e);

@@ -17,11 +17,11 @@ use Rattle.wt_laws.specs.Exactly.{AsksFirst, ConnectGoesOn, ConnectsAnswer, Head
 use Rattle.wt_laws.specs.Faults.{ClassifiedRightly, DatagramOrEnds, EndsForCause, FaultlessOrEnds, OnceEach, SettingsComeRead, StreamsFaultless}
 use Rattle.wt_laws.specs.FirstFault.{FirstIsTold}
 use Rattle.wt_laws.specs.GivenOnce.{GivenOnce}
-use Rattle.wt_laws.specs.Laws.{ActionsHaveCauses, DatagramsInOrder, FaultCloses, GoesOnFrom, HeadersOut, NothingAfterEnd, OneSession, OpenExactly, ReadsFromStart, ReadsInOrder, ReplyHasCause, RequestTold, ResultStays, SendsAll, SendsEnd, SendsInOrder, SessionStreamOut, SessionTold, SessionsRightly, SettingsOut, StreamsAcceptedRightly, TakenGoesOut, WithinCredit}
+use Rattle.wt_laws.specs.Laws.{DatagramsInOrder, FaultCloses, GoesOnFrom, HeadersOut, NothingAfterEnd, OneSession, OpenExactly, ReadsFromStart, ReadsInOrder, ReplyHasCause, RequestTold, ResultStays, SendsAll, SendsEnd, SendsInOrder, SessionStreamOut, SessionTold, SessionsRightly, SettingsOut, StreamsAcceptedRightly, TakenGoesOut, WithinCredit}
 use Rattle.wt_laws.specs.Left.{PendingExactly, is_pending}
 use Rattle.wt_laws.specs.Reachable.{Exchange, exchanges}
 use Rattle.wt_laws.specs.ReplyCauses.{is_call}
-use Rattle.wt_laws.specs.Runs.{DoneLate, InOrderOfOpening, LateChangesNothing, StaysSo}
+use Rattle.wt_laws.specs.Runs.{DoneAtOnce, DoneLate, InOrderOfOpening, LateChangesNothing, StaysSo}
 use Rattle.wt_laws.specs.TurnCauses.{ActionsWentOut, EntriesHaveCauses, ReplyIsRecorded}
 use Rattle.wt_spec.specs.Answers.{answer_to, run}
 use Rattle.wt_spec.specs.Driver.{established, stream_table}
@@ -159,8 +159,8 @@ pub record KeepsLaws (side : Side) (all : List Turn) (answers : List Answer) : T
   pub replies : AtEachTurn side (ReplyHasCause side) all answers
   pub recorded : AtEachTurn side (ReplyIsRecorded side) all answers
   pub actions : Throughout side (ActionsWentOut side) all answers
-  pub caused : Throughout side (ActionsHaveCauses side) all answers
   pub entries : AtEachTurn side (EntriesHaveCauses side) all answers
+  pub events : AtEachTurn side (DoneAtOnce side) all answers
   pub opened : Throughout side (OpenExactly side) all answers
   pub faults : Throughout side (FaultsClose side) all answers
   pub endings : AtEachTurn side (EndingGoesOut side) all answers

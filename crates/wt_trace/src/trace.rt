@@ -4,9 +4,10 @@ ghost use Rattle.wt_core.specs.CoreState.{Refines};
 ghost use Rattle.wt_laws.specs.Datagrams.{DatagramTold};
 ghost use Rattle.wt_laws.specs.Ended.{EndingGoesOut};
 ghost use Rattle.wt_laws.specs.GivenOnce.{GivenOnce};
-ghost use Rattle.wt_laws.specs.Laws.{ActionsHaveCauses, DatagramsInOrder, HeadersOut, NothingAfterEnd, OneSession, OpenExactly, ReadsFromStart, ReadsInOrder, ReplyHasCause, RequestTold, SendsAll, SendsEnd, SendsInOrder, SessionStreamOut, SessionTold, SessionsRightly, SettingsOut, StreamsAcceptedRightly, TakenGoesOut, WithinCredit};
+ghost use Rattle.wt_laws.specs.Laws.{DatagramsInOrder, HeadersOut, NothingAfterEnd, OneSession, OpenExactly, ReadsFromStart, ReadsInOrder, ReplyHasCause, RequestTold, SendsAll, SendsEnd, SendsInOrder, SessionStreamOut, SessionTold, SessionsRightly, SettingsOut, StreamsAcceptedRightly, TakenGoesOut, WithinCredit};
 ghost use Rattle.wt_laws.specs.Left.{PendingExactly};
 ghost use Rattle.wt_laws.specs.Reachable.{AllLawful};
+ghost use Rattle.wt_laws.specs.Runs.{DoneAtOnce};
 ghost use Rattle.wt_laws.specs.TurnCauses.{ActionsWentOut, EntriesHaveCauses, ReplyIsRecorded};
 ghost use Rattle.wt_spec.specs.Answers.{answers_to};
 ghost use Rattle.wt_trace.specs.Laws.{AtEachTurn, BiStreamsInOrder, CallsAnswer, DoneAfterEnd, DriverIsRead, FaultsClose, HandshakesAnswer, HeadGoesOut, LateIsForgotten, MayBeCut, NonePendingAfterEnd, OfExchanges, ResultStaysAfterEnd, SettledStays, Throughout};
@@ -45,7 +46,7 @@ impl From<OutOfMemory> for TraceError {
 /// `trace` says them whole, `answers` and `each` one by one, `lawful`, `stop` and `complete` up to where.
 /// The clauses after these say what is true of them, of every list: where a session is established, which
 /// requests, streams and datagrams are given and in what order, what reads give (`sessions` to `next_datagram`);
-/// where a call is pending, what it answers, why each reply and each action comes (`pending` to `entries`);
+/// where a call is pending, what it answers, why each reply and each action comes (`pending` to `events`);
 /// what ends the connection and where in the peer's bytes that is read, how it is told, and what stays
 /// (`opened` to `settled`); what goes out (`settings` to `taken`); and that a piece may come in two parts
 /// (`cutting`).
@@ -74,8 +75,8 @@ pub fn run_trace(alloc: Global, side: Side, turns: &[Turn]) -> Result<Answers, T
     ensures replies { IfAnswered result (AtEachTurn side (ReplyHasCause side) turns.now) }
     ensures recorded { IfAnswered result (AtEachTurn side (ReplyIsRecorded side) turns.now) }
     ensures actions { IfAnswered result (Throughout side (ActionsWentOut side) turns.now) }
-    ensures caused { IfAnswered result (Throughout side (ActionsHaveCauses side) turns.now) }
     ensures entries { IfAnswered result (AtEachTurn side (EntriesHaveCauses side) turns.now) }
+    ensures events { IfAnswered result (AtEachTurn side (DoneAtOnce side) turns.now) }
     ensures opened { IfAnswered result (Throughout side (OpenExactly side) turns.now) }
     ensures faults { IfAnswered result (Throughout side (FaultsClose side) turns.now) }
     ensures endings { IfAnswered result (AtEachTurn side (EndingGoesOut side) turns.now) }

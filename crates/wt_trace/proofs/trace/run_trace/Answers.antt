@@ -2,9 +2,10 @@ use Rattle.std.proofs.Common.{◌≡◌, [], length, take}
 use Rattle.wt_laws.specs.Datagrams.{DatagramTold}
 use Rattle.wt_laws.specs.Ended.{EndingGoesOut}
 use Rattle.wt_laws.specs.GivenOnce.{GivenOnce}
-use Rattle.wt_laws.specs.Laws.{ActionsHaveCauses, DatagramsInOrder, HeadersOut, NothingAfterEnd, OneSession, OpenExactly, ReadsFromStart, ReadsInOrder, ReplyHasCause, RequestTold, SendsAll, SendsEnd, SendsInOrder, SessionStreamOut, SessionTold, SessionsRightly, SettingsOut, StreamsAcceptedRightly, TakenGoesOut, WithinCredit}
+use Rattle.wt_laws.specs.Laws.{DatagramsInOrder, HeadersOut, NothingAfterEnd, OneSession, OpenExactly, ReadsFromStart, ReadsInOrder, ReplyHasCause, RequestTold, SendsAll, SendsEnd, SendsInOrder, SessionStreamOut, SessionTold, SessionsRightly, SettingsOut, StreamsAcceptedRightly, TakenGoesOut, WithinCredit}
 use Rattle.wt_laws.specs.Left.{PendingExactly}
 use Rattle.wt_laws.specs.Reachable.{AllLawful}
+use Rattle.wt_laws.specs.Runs.{DoneAtOnce}
 use Rattle.wt_laws.specs.TurnCauses.{ActionsWentOut, EntriesHaveCauses, ReplyIsRecorded}
 use Rattle.wt_spec.specs.Answers.{answers_to}
 use Rattle.wt_trace.proofs.LawsHold.{laws}
@@ -85,11 +86,11 @@ returns-clause-recorded c = answered c.args.side c.args.turns.now _ (AtEachTurn 
 pub returns-clause-actions : goal.returns-clause-actions
 returns-clause-actions c = answered c.args.side c.args.turns.now _ (Throughout c.args.side (ActionsWentOut c.args.side) c.args.turns.now) c.run_turns.ensures.trace (laws c.args.side c.args.turns.now).actions
 
-pub returns-clause-caused : goal.returns-clause-caused
-returns-clause-caused c = answered c.args.side c.args.turns.now _ (Throughout c.args.side (ActionsHaveCauses c.args.side) c.args.turns.now) c.run_turns.ensures.trace (laws c.args.side c.args.turns.now).caused
-
 pub returns-clause-entries : goal.returns-clause-entries
 returns-clause-entries c = answered c.args.side c.args.turns.now _ (AtEachTurn c.args.side (EntriesHaveCauses c.args.side) c.args.turns.now) c.run_turns.ensures.trace (laws c.args.side c.args.turns.now).entries
+
+pub returns-clause-events : goal.returns-clause-events
+returns-clause-events c = answered c.args.side c.args.turns.now _ (AtEachTurn c.args.side (DoneAtOnce c.args.side) c.args.turns.now) c.run_turns.ensures.trace (laws c.args.side c.args.turns.now).events
 
 pub returns-clause-opened : goal.returns-clause-opened
 returns-clause-opened c = answered c.args.side c.args.turns.now _ (Throughout c.args.side (OpenExactly c.args.side) c.args.turns.now) c.run_turns.ensures.trace (laws c.args.side c.args.turns.now).opened

@@ -1,0 +1,114 @@
+-- Why a call records what it does: each record has one of these causes, in the call that leaves it.
+use Rattle.std.specs.Prelude.{[], ◌%◌, ◌∷◌, ◌≡◌, ◌≤◌, List, Option, Some, false, length, nat_lt, true, ℕ}
+use Rattle.wt_seam_spec.specs.Outgoing.{may_open, next_id, opening}
+use Rattle.wt_turn.specs.Log.{BytesRead, CallRecord, ConnectStarted, DatagramPassed, DatagramReceived, HandshakeOver, Log, OpeningFailed, OpeningStarted, Polled, PrioritySet, RequestDelivered, ResetUnsent, ResponseStarted, SessionEstablished, StreamAccepted, StreamGivenUp, StreamPassed, calls_of, is_open, with_actions}
+use Rattle.wt_turn.specs.declared.action.Action.{Action}
+use Rattle.wt_turn.specs.declared.connecting_error.ConnectingError.{ConnectingError}
+use Rattle.wt_turn.specs.declared.turn.Turn.{Turn}
+use Rattle.wt_wire.specs.declared.addr.Addr.{Addr}
+use Rattle.wt_wire.specs.declared.side.Side.{Side}
+use Rattle.wt_laws.specs.Causes.{AcceptCause, DialCause, EstablishedBy, FoundDatagram, FoundStream, ResponseFrom, is_under_way, opened_kind, polls_opening, reads_from}
+use Rattle.wt_laws.specs.ReplyCauses.{ConnectFailedCause, RejectedCause, is_call}
+use Rattle.wt_spec.specs.Answers.{is_client}
+use Rattle.wt_spec.specs.Connect.{authority_of, path_of, request_head, reserved_name}
+use Rattle.wt_spec.specs.Connection.{is_opening, stream_header}
+use Rattle.wt_spec.specs.Driver.{established}
+use Rattle.wt_spec.specs.Effect.{head_left}
+use Rattle.wt_spec.specs.Halves.{has_receiving_half, has_sending_half, is_done, unread}
+use Rattle.wt_spec.specs.Handshake.{AwaitingRequest, Requested, handshake_state, is_refused, queued_requests, requested}
+use Rattle.wt_spec.specs.StreamTable.{Classified}
+use Rattle.wt_turn.specs.declared.call.Call.TheVariants as calls
+use Rattle.wt_turn.specs.declared.turn.Turn.TheVariants as turns
+
+-- ---- the handshake; the log holds the call's own actions already
+
+-- the call asks for a request, and this is the stream of the first that is queued
+pub record DeliverCause (side : Side) (turn : Turn) (log : Log) (k : ℕ) : Type 0 where
+  pub asks : turn ≡ turns.Call calls.Incoming
+  pub by_server : is_client side ≡ false
+  pub under_way : handshake_state (calls_of log) ≡ AwaitingRequest
+  pub queued : Classified
+  pub later : List Classified
+  pub first : queued_requests side log ≡ queued ∷ later
+  pub same : queued.id ≡ k
+
+-- a client's first call connects and dials: this is its request, and the name among its headers that only the session layer sets
+pub record ConnectCause (side : Side) (turn : Turn) (log : Log) (reserved : Option (List ℕ)) (head : List ℕ) : Type 0 where
+  pub first : calls_of log ≡ []
+  pub by_client : is_client side ≡ true
+  pub address : Addr
+  pub name : List ℕ
+  pub dials : DialCause turn address name
+  pub request : head ≡ request_head (authority_of dials.to.url) (path_of dials.to.url) dials.to.headers
+  pub reserves : reserved ≡ reserved_name dials.to.headers
+
+-- why the call leaves no handshake and no session: no request comes any more; the connection ended, or the peer stopped the response,
+-- before an acceptance was out; a rejection is over; or a connect failed
+pub data OverCause (side : Side) (turn : Turn) (log : Log) : Type 0 where
+  NoMoreRequests : turn ≡ turns.Call calls.Incoming → queued_requests side log ≡ [] → is_open log ≡ false → OverCause side turn log
+  AcceptanceEnded : (head : List ℕ) → ResponseFrom turn (calls_of log) true head → is_open log ≡ false → OverCause side turn log
+  AcceptanceStopped : (head : List ℕ) → ResponseFrom turn (calls_of log) true head → is_refused log (requested (calls_of log)) (head_left log (requested (calls_of log)) head) ≡ true → OverCause side turn log
+  RejectionEnded : RejectedCause side turn log → OverCause side turn log
+  ConnectEnded : (e : ConnectingError) → ConnectFailedCause side turn log e → OverCause side turn log
+
+-- a call ends the handshake that is under way, with its own actions before the record
+pub record OverBy (side : Side) (turn : Turn) (log : Log) : Type 0 where
+  pub before : Log
+  pub own : List Action
+  pub is : log ≡ with_actions own before
+  pub under_way : is_under_way (handshake_state (calls_of before)) ≡ true
+  pub why : OverCause side turn before
+
+-- ---- streams
+
+-- the call opens a stream of this kind, on the established session
+pub record OpeningCause (side : Side) (turn : Turn) (log : Log) (k session : ℕ) : Type 0 where
+  pub opens : opened_kind side turn ≡ Some (k % 4)
+  pub at : ℕ
+  pub is_established : established (calls_of log) ≡ Some (session, at)
+
+-- why an opening fails, which the call polls: the connection ended, or the peer stopped the stream before its header was out
+pub data OpeningOver (side : Side) (turn : Turn) (log : Log) (k : ℕ) : Type 0 where
+  AtEnd : polls_opening k turn ≡ true → is_opening log k ≡ true → is_open log ≡ false → OpeningOver side turn log k
+  HeaderStopped : (session at : ℕ) → polls_opening k turn ≡ true → is_opening log k ≡ true → established (calls_of log) ≡ Some (session, at) → is_refused log k (head_left log k (stream_header k session)) ≡ true → OpeningOver side turn log k
+
+-- why so many bytes of a stream count as read
+pub record ReadCause (side : Side) (turn : Turn) (log : Log) (k count : ℕ) : Type 0 where
+  pub reads : reads_from k turn ≡ true
+  pub has_half : has_receiving_half side log k ≡ true
+  pub within : count ≤ length (unread side log k)
+
+-- ---- every record
+
+-- why a call leaves this record
+abbrev pub RecordCause : Side → Turn → Log → CallRecord → Type 0
+RecordCause side turn log (StreamAccepted k) = AcceptCause side turn log k
+RecordCause side turn log (StreamPassed k) = FoundStream side turn log k false
+RecordCause side turn log DatagramReceived = FoundDatagram side turn log true
+RecordCause side turn log DatagramPassed = FoundDatagram side turn log false
+RecordCause side turn log (RequestDelivered k) = DeliverCause side turn log k
+RecordCause side turn log (ResponseStarted accepts head) = ResponseFrom turn (calls_of log) accepts head × (id : ℕ) × (handshake_state (calls_of log) ≡ Requested id)
+RecordCause side turn log (ConnectStarted reserved head) = ConnectCause side turn log reserved head
+RecordCause side turn log (SessionEstablished id at) = EstablishedBy side turn log id at
+RecordCause side turn log HandshakeOver = OverBy side turn log
+RecordCause side turn log (OpeningStarted k session) = OpeningCause side turn log k session
+RecordCause side turn log (OpeningFailed k) = OpeningOver side turn log k
+RecordCause side turn log (BytesRead k count) = ReadCause side turn log k count
+RecordCause side turn log (StreamGivenUp k) = (code : ℕ) × (turn ≡ turns.Call (calls.StopRecv k code)) × (has_receiving_half side log k ≡ true)
+RecordCause side turn log (ResetUnsent k code) = (turn ≡ turns.Call (calls.ResetSend k code)) × (has_sending_half side log k ≡ true) × (is_done log k ≡ false) × (is_open log ≡ false)
+RecordCause side turn log (PrioritySet k priority) = (turn ≡ turns.Call (calls.SetPriority k priority)) × (has_sending_half side log k ≡ true) × (is_done log k ≡ false)
+RecordCause side turn log Polled = is_call turn ≡ true
+
+-- an opening opens the next stream of its kind
+pub record NewOpening (side : Side) (turn : Turn) (log : Log) (own : List Action) (k session : ℕ) : Type 0 where
+  pub cause : OpeningCause side turn (with_actions own log) k session
+  pub kind : ℕ
+  pub own_is : own ≡ opening side log kind
+  pub may : may_open side log kind ≡ true
+  pub next : k ≡ next_id side log kind
+  pub small : nat_lt kind 4 ≡ true
+
+-- the cause of a record, with the call's own actions beside it
+abbrev pub CallCause : Side → Turn → Log → List Action → CallRecord → Type 0
+CallCause side turn log own (OpeningStarted k session) = NewOpening side turn log own k session
+CallCause side turn log own r = RecordCause side turn (with_actions own log) r
