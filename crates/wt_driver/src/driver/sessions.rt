@@ -1,6 +1,6 @@
 //! The calls for a session: the request that is given, the stream that is opened for one, and the session
 //! that is registered.
-ghost use Rattle.std.specs.Prelude.{◌≡◌, IfOk, List, None, OnOk, true, ℕ};
+ghost use Rattle.std.specs.Prelude.{◌≡◌, IfOk, List, None, OnOk, false, is_some, true, ℕ};
 ghost use Rattle.wt_dispatch.specs.Requests.{first_request};
 ghost use Rattle.wt_driver.specs.Given.{ended_or_pending, given_by};
 ghost use Rattle.wt_driver.specs.Results.{result_of};
@@ -91,6 +91,7 @@ impl Driver {
     fn register(&mut self, id: StreamId, at: usize) -> Result<(), OutOfMemory>
         ensures log { (side : Side) (log : Log) (taken : ℕ) → Follows side self.old log taken → is_open log ≡ true → (may_register log ≡ true → MayBeCalled side log (SessionEstablished id at))
             → OnOk result (Follows side self.new (registered side log id at) taken) }
+        ensures further { OnOk result (is_some self.old.state.session ≡ true → self.new ≡ self.old) }
     {
         match self.session() {
             None => self.called(&Record::SessionEstablished(id, at)),
@@ -108,6 +109,8 @@ impl Driver {
         ensures answer { IfOk result (λ r. r ≡ registered_answer (result_of self.old.state.is_open self.old.state.progress.ending)) }
         ensures log { (side : Side) (log : Log) (taken : ℕ) → Follows side self.old log taken → (may_register log ≡ true → MayBeCalled side log (SessionEstablished id at))
             → OnOk result (Follows side self.new (registered side log id at) taken) }
+        ensures further { OnOk result (is_some self.old.state.session ≡ true → self.new ≡ self.old) }
+        ensures late { OnOk result (self.old.state.is_open ≡ false → self.new ≡ self.old) }
     {
         match self.result()? {
             Some(error) => Ok(Err(error)),
