@@ -7,3 +7,6 @@ pub mod Beginning
 pub mod Delivering
 pub mod Responding
 pub mod Connects
+pub mod Leaves
+pub mod Stays
+pub mod Gives

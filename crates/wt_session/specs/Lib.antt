@@ -7,3 +7,4 @@ pub mod Openings
 pub mod Replies
 pub mod Responding
 pub mod Standing
+pub mod Staying

@@ -1,12 +1,13 @@
 //! A session that is established (draft-ietf-webtrans-http3, section 4).
-ghost use Rattle.std.specs.Prelude.{◌≡◌, IfOk, OnOk, ℕ};
-ghost use Rattle.wt_session.specs.Openings.{opening_in};
+ghost use Rattle.std.specs.Prelude.{◌≡◌, IfOk, OnOk, false, true, ℕ};
+ghost use Rattle.wt_session.specs.Openings.{IsOpening, opening_in};
 ghost use Rattle.wt_session.specs.Replies.{IsOneStream, closed_in, closed_reply, sent_in, sent_reply};
-ghost use Rattle.wt_session.specs.Standing.{IsEstablished};
+ghost use Rattle.wt_session.specs.Standing.{IfGiven, IsEstablished};
 ghost use Rattle.wt_driver.specs.Tie.{Follows};
 ghost use Rattle.wt_laws.specs.Reachable.{IsReachable};
 ghost use Rattle.wt_calls.specs.Given.{poll_reply};
 ghost use Rattle.wt_spec.specs.Answers.{call_effect};
+ghost use Rattle.wt_spec.specs.Halves.{has_receiving_half, has_sending_half};
 ghost use Rattle.wt_turn.specs.Log.{Log};
 ghost use Rattle.wt_turn.specs.declared.call.Call.TheVariants as calls;
 ghost use Rattle.wt_turn.specs.declared.reply.Reply.TheVariants as replies;
@@ -100,7 +101,8 @@ fn opening_uni(
     session: SessionId,
     answer: Poll<Result<StreamId, ConnectionError>>,
 ) -> Poll<Result<OpeningUniStream, ConnectionError>>
-    ensures { poll_reply (λ stream. replies.Opening stream.id) result ≡ poll_reply replies.Opening answer }
+    ensures reply { poll_reply (λ stream. replies.Opening stream.id) result ≡ poll_reply replies.Opening answer }
+    ensures session { IfGiven result (λ stream. stream.session ≡ session) }
 {
     match answer {
         Poll::Ready(Ok(id)) => Poll::Ready(Ok(OpeningUniStream::new(id, session))),
@@ -114,7 +116,8 @@ fn opening_bi(
     session: SessionId,
     answer: Poll<Result<StreamId, ConnectionError>>,
 ) -> Poll<Result<OpeningBiStream, ConnectionError>>
-    ensures { poll_reply (λ stream. replies.Opening stream.id) result ≡ poll_reply replies.Opening answer }
+    ensures reply { poll_reply (λ stream. replies.Opening stream.id) result ≡ poll_reply replies.Opening answer }
+    ensures session { IfGiven result (λ stream. stream.session ≡ session) }
 {
     match answer {
         Poll::Ready(Ok(id)) => Poll::Ready(Ok(OpeningBiStream::new(id, session))),
@@ -192,6 +195,8 @@ impl Connection {
             → IfOk result (λ a. poll_reply replies.Uni a ≡ (call_effect side log calls.AcceptUni).reply) }
         ensures log { (side : Side) (log : Log) (taken : ℕ) → Follows side d.old log taken → IsReachable side log → IsEstablished log self.old
             → OnOk result (Follows side d.new (call_effect side log calls.AcceptUni).log taken) }
+        ensures stands { (side : Side) (log : Log) (taken : ℕ) → Follows side d.old log taken → IsReachable side log → IsEstablished log self.old
+            → IfOk result (λ a. IfGiven a (λ half. has_receiving_half side (call_effect side log calls.AcceptUni).log half ≡ true)) }
         ensures same { self.new ≡ self.old }
     {
         Ok(receiving_half(acting::accept_uni(alloc, d, self.session)?))
@@ -215,6 +220,10 @@ impl Connection {
             → IfOk result (λ a. poll_reply (λ halves. replies.Bi halves.0) a ≡ (call_effect side log calls.AcceptBi).reply) }
         ensures log { (side : Side) (log : Log) (taken : ℕ) → Follows side d.old log taken → IsReachable side log → IsEstablished log self.old
             → OnOk result (Follows side d.new (call_effect side log calls.AcceptBi).log taken) }
+        ensures send_stands { (side : Side) (log : Log) (taken : ℕ) → Follows side d.old log taken → IsReachable side log → IsEstablished log self.old
+            → IfOk result (λ a. IfGiven a (λ halves. has_sending_half side (call_effect side log calls.AcceptBi).log halves.0 ≡ true)) }
+        ensures recv_stands { (side : Side) (log : Log) (taken : ℕ) → Follows side d.old log taken → IsReachable side log → IsEstablished log self.old
+            → IfOk result (λ a. IfGiven a (λ halves. has_receiving_half side (call_effect side log calls.AcceptBi).log halves.1 ≡ true)) }
         ensures halves { IfOk result (λ a. IsOneStream a) }
         ensures same { self.new ≡ self.old }
     {
@@ -264,6 +273,8 @@ impl Connection {
             → IfOk result (λ a. poll_reply (λ stream. replies.Opening stream.id) a ≡ (call_effect side log calls.OpenUni).reply) }
         ensures log { (side : Side) (log : Log) (taken : ℕ) → Follows side d.old log taken → IsReachable side log → IsEstablished log self.old
             → OnOk result (Follows side d.new (call_effect side log calls.OpenUni).log taken) }
+        ensures stands { (side : Side) (log : Log) (taken : ℕ) → Follows side d.old log taken → IsReachable side log → IsEstablished log self.old
+            → IfOk result (λ a. IfGiven a (λ stream. IsOpening false (call_effect side log calls.OpenUni).log stream)) }
         ensures same { self.new ≡ self.old }
     {
         let plan = connection_plans::open_uni(alloc, transport(d), self.session)?;
@@ -288,6 +299,8 @@ impl Connection {
             → IfOk result (λ a. poll_reply (λ stream. replies.Opening stream.id) a ≡ (call_effect side log calls.OpenBi).reply) }
         ensures log { (side : Side) (log : Log) (taken : ℕ) → Follows side d.old log taken → IsReachable side log → IsEstablished log self.old
             → OnOk result (Follows side d.new (call_effect side log calls.OpenBi).log taken) }
+        ensures stands { (side : Side) (log : Log) (taken : ℕ) → Follows side d.old log taken → IsReachable side log → IsEstablished log self.old
+            → IfOk result (λ a. IfGiven a (λ stream. IsOpening true (call_effect side log calls.OpenBi).log stream)) }
         ensures same { self.new ≡ self.old }
     {
         let plan = connection_plans::open_bi(alloc, transport(d), self.session)?;

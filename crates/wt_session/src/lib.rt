@@ -9,6 +9,7 @@ pub mod connecting;
 pub mod connection;
 pub mod datagram;
 pub mod incoming;
+pub mod laws;
 pub mod opening;
 pub mod recv_stream;
 pub mod rejecting;

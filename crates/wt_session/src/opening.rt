@@ -2,9 +2,11 @@
 ghost use Rattle.std.specs.Prelude.{◌≡◌, IfOk, OnOk, false, true, ℕ};
 ghost use Rattle.wt_session.specs.Openings.{IsOpening, ready_in};
 ghost use Rattle.wt_session.specs.Replies.{IsOneStream, ready_reply};
+ghost use Rattle.wt_session.specs.Standing.{IfGiven, IfPending};
 ghost use Rattle.wt_driver.specs.Tie.{Follows};
 ghost use Rattle.wt_laws.specs.Reachable.{IsReachable};
 ghost use Rattle.wt_spec.specs.Answers.{call_effect};
+ghost use Rattle.wt_spec.specs.Halves.{has_receiving_half, has_sending_half};
 ghost use Rattle.wt_turn.specs.Log.{Log};
 ghost use Rattle.wt_turn.specs.declared.call.Call.TheVariants as calls;
 ghost use Rattle.wt_turn.specs.declared.reply.Reply.TheVariants as replies;
@@ -118,6 +120,10 @@ impl OpeningUniStream {
             → IfOk result (λ a. ready_reply replies.SendReady a ≡ (call_effect side log (calls.PollOpening self.old.id)).reply) }
         ensures log { (side : Side) (log : Log) (taken : ℕ) → Follows side d.old log taken → IsReachable side log → IsOpening false log self.old
             → OnOk result (Follows side d.new (call_effect side log (calls.PollOpening self.old.id)).log taken) }
+        ensures stands { (side : Side) (log : Log) (taken : ℕ) → Follows side d.old log taken → IsReachable side log → IsOpening false log self.old
+            → IfOk result (λ a. IfGiven a (λ half. has_sending_half side (call_effect side log (calls.PollOpening self.old.id)).log half ≡ true)) }
+        ensures goes_on { (side : Side) (log : Log) (taken : ℕ) → Follows side d.old log taken → IsReachable side log → IsOpening false log self.old
+            → IfOk result (λ a. IfPending a (IsOpening false (call_effect side log (calls.PollOpening self.old.id)).log self.old)) }
         ensures same { self.new ≡ self.old }
     {
         let t = transport(d);
@@ -153,6 +159,12 @@ impl OpeningBiStream {
             → IfOk result (λ a. ready_reply (λ halves. replies.BiReady halves.0) a ≡ (call_effect side log (calls.PollOpening self.old.id)).reply) }
         ensures log { (side : Side) (log : Log) (taken : ℕ) → Follows side d.old log taken → IsReachable side log → IsOpening true log self.old
             → OnOk result (Follows side d.new (call_effect side log (calls.PollOpening self.old.id)).log taken) }
+        ensures send_stands { (side : Side) (log : Log) (taken : ℕ) → Follows side d.old log taken → IsReachable side log → IsOpening true log self.old
+            → IfOk result (λ a. IfGiven a (λ halves. has_sending_half side (call_effect side log (calls.PollOpening self.old.id)).log halves.0 ≡ true)) }
+        ensures recv_stands { (side : Side) (log : Log) (taken : ℕ) → Follows side d.old log taken → IsReachable side log → IsOpening true log self.old
+            → IfOk result (λ a. IfGiven a (λ halves. has_receiving_half side (call_effect side log (calls.PollOpening self.old.id)).log halves.1 ≡ true)) }
+        ensures goes_on { (side : Side) (log : Log) (taken : ℕ) → Follows side d.old log taken → IsReachable side log → IsOpening true log self.old
+            → IfOk result (λ a. IfPending a (IsOpening true (call_effect side log (calls.PollOpening self.old.id)).log self.old)) }
         ensures same { self.new ≡ self.old }
         ensures halves { IfOk result (λ a. IsOneStream a) }
     {

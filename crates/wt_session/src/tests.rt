@@ -3,4 +3,5 @@ mod drivers;
 mod halves;
 mod handshakes;
 mod sessions;
+mod streams;
 mod values;
