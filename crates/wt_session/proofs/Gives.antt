@@ -14,7 +14,7 @@ use Rattle.wt_laws.proofs.Reached.{reached}
 use Rattle.wt_laws.proofs.Steps.{KeepsEntries, by-entries, calls-logged}
 use Rattle.wt_laws.proofs.StreamLaws.{streams-accepted-rightly}
 use Rattle.wt_laws.proofs.TurnCauses.{reply-is-recorded}
-use Rattle.wt_laws.specs.Causes.{RecordCause}
+use Rattle.wt_laws.specs.RecordCauses.{AtEnd, HeaderStopped, OpeningOver, RecordCause}
 use Rattle.wt_laws.specs.Laws.{AcceptedRightly, IsDuring}
 use Rattle.wt_laws.specs.Reachable.{IsReachable, is_among}
 use Rattle.wt_laws.specs.Told.{Logged, NoRecord, OneRecord, Tells, ThenPolled, datagram_told, given_stream, is_quiet, read_piece, request_told, session_told}
@@ -86,7 +86,7 @@ abbrev OnlyGiven : Log → Type 0
 OnlyGiven log = (k : ℕ) → list_any (gives_up k) (calls_of log) ≡ true → is_accepted log k ≡ true
 
 new-given-up : (side : Side) (turn : Turn) (log : Log) (k : ℕ) (r : CallRecord) → RecordCause side turn log r → gives_up k r ≡ true → is_accepted (Called r ∷ log) k ≡ true
-new-given-up side turn log k (StreamGivenUp id) c e = subst (λ (j : ℕ). is_accepted log j ≡ true) (eqb-true id k e) (and_parts (is_accepted log id) (not (id % 4 == local_uni side)) (and_parts (is_accepted log id && not (id % 4 == local_uni side)) _ c).0).0
+new-given-up side turn log k (StreamGivenUp id) c e = subst (λ (j : ℕ). is_accepted log j ≡ true) (eqb-true id k e) (and_parts (is_accepted log id) (not (id % 4 == local_uni side)) (and_parts (is_accepted log id && not (id % 4 == local_uni side)) _ c.2).0).0
 new-given-up side turn log k _ c e = absurd (cc)
 
 only-given : (side : Side) (log : Log) → IsReachable side log → OnlyGiven log
@@ -245,8 +245,12 @@ module _ (side : Side) (log : Log) (r : IsReachable side log) (session : ℕ) (s
 abbrev OnlyStarted : Log → Type 0
 OnlyStarted log = (k : ℕ) → list_any (fails_opening k) (calls_of log) ≡ true → list_any (starts_opening k) (calls_of log) ≡ true
 
+over-opening : (side : Side) (turn : Turn) (log : Log) (k : ℕ) → OpeningOver side turn log k → is_opening log k ≡ true
+over-opening side turn log k (AtEnd p o e) = o
+over-opening side turn log k (HeaderStopped session at p o e r) = o
+
 new-failed : (side : Side) (turn : Turn) (log : Log) (k : ℕ) (r : CallRecord) → RecordCause side turn log r → fails_opening k r ≡ true → list_any (starts_opening k) (r ∷ calls_of log) ≡ true
-new-failed side turn log k (OpeningFailed id) c e = subst (λ (j : ℕ). list_any (starts_opening j) (calls_of log) ≡ true) (eqb-true id k e) (and_parts (list_any (starts_opening id) (calls_of log)) _ c).0
+new-failed side turn log k (OpeningFailed id) c e = subst (λ (j : ℕ). list_any (starts_opening j) (calls_of log) ≡ true) (eqb-true id k e) (and_parts (list_any (starts_opening id) (calls_of log)) _ (over-opening side turn log id c)).0
 new-failed side turn log k _ c e = absurd (cc)
 
 only-started : (side : Side) (log : Log) → IsReachable side log → OnlyStarted log

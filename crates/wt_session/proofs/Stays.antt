@@ -11,7 +11,8 @@ use Rattle.wt_laws.proofs.ReadLaws.{local-unclassified}
 use Rattle.wt_laws.proofs.Reached.{keeps-turn, reached}
 use Rattle.wt_laws.proofs.SessionLaws.{one-session}
 use Rattle.wt_laws.proofs.Steps.{Keeps, KeepsEntries, by-entries}
-use Rattle.wt_laws.specs.Causes.{AcceptCause, ByAccept, ByOpening, FoundStream, OpenedStream, RecordCause, polls_opening}
+use Rattle.wt_laws.specs.Causes.{AcceptCause, ByAccept, ByOpening, FoundStream, OpenedStream, polls_opening}
+use Rattle.wt_laws.specs.RecordCauses.{RecordCause}
 use Rattle.wt_laws.specs.Laws.{GoesOnFrom}
 use Rattle.wt_laws.specs.Reachable.{AfterTurn, IsReachable}
 use Rattle.wt_laws.specs.ReplyCauses.{is_call}
