@@ -4,7 +4,7 @@
 #![tactic(auto)]
 
 pub mod driver;
-pub mod scan;
+mod scan;
 #[cfg(test)]
 mod tests;
 

@@ -2,6 +2,7 @@
 mod drivers;
 mod halves;
 mod handshakes;
+mod polls;
 mod sessions;
 mod streams;
 mod values;

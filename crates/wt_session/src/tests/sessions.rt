@@ -28,6 +28,7 @@ fn receive(rt: &impl Abort, alloc: Global, driver: &mut Driver, session: &mut Co
         .expect(rt, "no memory");
     let datagram = given(rt, answer);
     assert!(rt; datagram.payload() == b"hi".as_slice());
+    assert!(rt; datagram.session_id() == session.session_id());
 }
 
 fn send(rt: &impl Abort, alloc: Global, driver: &mut Driver, session: &mut Connection) {
