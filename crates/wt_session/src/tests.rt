@@ -1,7 +1,6 @@
 //! What the contracts leave open: that memory suffices where there is enough, and a session of each call.
 mod drivers;
 mod halves;
-mod handshakes;
 mod polls;
 mod sessions;
 mod streams;

@@ -31,18 +31,18 @@ begun_answer {S = S} {G = G} decide steady s p bytes more open_ end has = ap (λ
 
 -- ---- the bytes since the last item
 
-ended-since : {G : Type 0} (open_ : Bool) (end : StreamEnd) (between : Bool) (bytes : List ℕ) → since_item {G = G} (ended open_ end between) bytes ≡ bytes
-ended-since true Running between bytes = refl
-ended-since false Running between bytes = refl
-ended-since open_ Fin true bytes = refl
-ended-since open_ Fin false bytes = refl
-ended-since open_ (Reset code) between bytes = refl
+ended-since : (G : Type 0) (open_ : Bool) (end : StreamEnd) (between : Bool) (bytes : List ℕ) → since_item {G = G} (ended open_ end between) bytes ≡ bytes
+ended-since G true Running between bytes = refl
+ended-since G false Running between bytes = refl
+ended-since G open_ Fin true bytes = refl
+ended-since G open_ Fin false bytes = refl
+ended-since G open_ (Reset code) between bytes = refl
 
 handed-since : {S G : Type 0} (decide : S → List ℕ → Step S (Result G ErrorCode)) (s : S) (p : Progress S (Result G ErrorCode)) (bytes : List ℕ) (open_ : Bool) (end : StreamEnd) → p.state ≡ s → HasBegun decide s p bytes
     → (stop : Option (Result G ErrorCode)) (between : Bool) → HasBegun decide s (handed_out stop p) (since_item (stopped_or_ended open_ end between stop) bytes)
 handed-since {S = S} {G = G} decide s p bytes open_ end same has (Some (Ok item)) between = ap (λ (x : S). at_item {O = Result G ErrorCode} x) same
 handed-since decide s p bytes open_ end same has (Some (Err fault)) between = has
-handed-since decide s p bytes open_ end same has None between = has ∙ ap (λ (xs : List ℕ). progress_over decide s None 0 xs) (sym (ended-since open_ end between bytes))
+handed-since {S = S} {G = G} decide s p bytes open_ end same has None between = has ∙ ap (λ (xs : List ℕ). progress_over decide s None 0 xs) (sym (ended-since G open_ end between bytes))
 
 -- what a read leaves has begun with the bytes behind the last item, where no item changes the state
 pub item_since : {S G E : Type 0} (decide : S → List ℕ → Step S (Result G ErrorCode)) → IsSteady decide → (s : S) → ((xs : List ℕ) → (progress_over decide s None 0 xs).state ≡ s)

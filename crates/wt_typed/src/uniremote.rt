@@ -84,6 +84,7 @@ impl Stream<QuicRecvStream, UniRemoteQuic> {
     /// a session's id that isn't a multiple of 4 by `H3(Id)`, an end before the header by
     /// `IO(ImmediateFin)`, one inside it by `IO(UnexpectedFin)`, a reset by `IO(Reset)`, and a header
     /// that isn't whole on a connection that isn't open by `IO(NotConnected)`.
+    #[tactic(auto, using(crate::proofs::ReadLaws::header_since))]
     pub fn upgrade(
         &mut self,
         t: &mut Transport,

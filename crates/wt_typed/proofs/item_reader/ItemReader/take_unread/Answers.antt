@@ -25,8 +25,8 @@ loop-taken-preserved-then-self-gt0 g c =
       limit = c.unread-unread.ensures.now;
     }
 
-pub next_byte-byte-requires-clause-some : goal.next_byte-byte-requires-clause-some
-next_byte-byte-requires-clause-some g c =
+pub next_byte-byte-requires : goal.next_byte-byte-requires
+next_byte-byte-requires g c =
     let left : length (unread_now c.loop-taken.t c.args.id) ≡ length (unread_now c.args.t.now c.args.id) - c.loop-taken.taken =
     ap (λ u. length (unread_now u c.args.id)) c.loop-taken.invariant.state ∙ (ap length (taken-unread c.args.t.now c.args.id c.requires c.loop-taken.taken) ∙ length-drop c.loop-taken.taken (unread_now c.args.t.now c.args.id)) in
     omega (arith, left, c.loop-taken-test.true, c.unread-unread.ensures.now)
@@ -44,12 +44,6 @@ loop-taken-preserved g c =
           ∙ taken-more c.args.t.now c.args.id c.requires c.loop-taken.taken 1 (omega arith));
       limit = c.unread-unread.ensures.now;
     }
-
-pub consume-in-Ok-requires : goal.consume-in-Ok-requires
-consume-in-Ok-requires g c =
-    let left : length (unread_now c.loop-taken.t c.args.id) ≡ length (unread_now c.args.t.now c.args.id) - c.loop-taken.taken =
-    ap (λ u. length (unread_now u c.args.id)) c.loop-taken.invariant.state ∙ (ap length (taken-unread c.args.t.now c.args.id c.requires c.loop-taken.taken) ∙ length-drop c.loop-taken.taken (unread_now c.args.t.now c.args.id)) in
-    omega (arith, left, c.loop-taken-test.true, c.unread-unread.ensures.now)
 
 pub returns-in-Err-clause-err : goal.returns-in-Err-clause-err
 returns-in-Err-clause-err g c =
