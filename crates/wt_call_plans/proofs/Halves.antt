@@ -1,6 +1,6 @@
 -- A call on a half that the application has is planned as such.
 use Rattle.std.proofs.Common.{◌≡◌, IfOk, Result, true, ℕ}
-use Rattle.wt_plan.specs.FactsNow.{DriverFacts, facts_now}
+use Rattle.wt_plan.specs.FactsNow.{DriverAnswers, facts_now}
 use Rattle.wt_plan.specs.Planned.{planned}
 use Rattle.wt_plan.specs.Table.{TableValue}
 use Rattle.wt_plan.specs.Tells.{session_now}
@@ -11,7 +11,7 @@ use Rattle.wt_session_spec.specs.Plans.{with_receiving, with_sending}
 use Rattle.wt_session_spec.specs.SessionState.{has_receiving_now, has_sending_now}
 use Rattle.wt_wire.specs.declared.error.OutOfMemory.{OutOfMemory}
 
-module _ (t : TransportState) (d : DriverFacts) (s : TableValue) (k : ℕ) where
+module _ (t : TransportState) (d : DriverAnswers) (s : TableValue) (k : ℕ) where
   pub sending_there : (call p : Plan) → has_sending_now t.side (session_now s) k ≡ true → p ≡ call → p ≡ with_sending (facts_now t d) (session_now s) k call
   sending_there call p h e = rw h e
 

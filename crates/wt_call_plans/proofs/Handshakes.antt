@@ -2,7 +2,7 @@
 use Rattle.std.proofs.Common.{[], ◌∙◌, ◌∷◌, ◌≡◌, ap, Bool, false, IfOk, List, None, Option, Result, refl, Some, subst, sym, true, ℕ}
 use Rattle.std.specs.Prelude.{if◌then◌else◌, is_some, not}
 use Rattle.wt_dispatch.specs.Requests.{first_request, request_in}
-use Rattle.wt_plan.specs.FactsNow.{DriverFacts, facts_now}
+use Rattle.wt_plan.specs.FactsNow.{DriverAnswers, facts_now}
 use Rattle.wt_plan.specs.Planned.{planned}
 use Rattle.wt_plan.specs.declared.plan.Plan as code
 use Rattle.wt_seam.specs.State.{TransportState}
@@ -68,7 +68,7 @@ without : (p x y : Plan) (b : Bool) → b ≡ false → p ≡ x → p ≡ (if no
 without p x y false e g = g
 without p x y true e g = absurd cc
 
-module _ (t : TransportState) (d : DriverFacts) (reserved : Option (List ℕ)) (head : List ℕ) where
+module _ (t : TransportState) (d : DriverAnswers) (reserved : Option (List ℕ)) (head : List ℕ) where
   abbrev Goes : Plan
   Goes = if d.settings_came then request_unless (facts_now t d) reserved head else awaited (facts_now t d) d.driver_error
 

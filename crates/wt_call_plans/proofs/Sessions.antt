@@ -1,6 +1,6 @@
 -- A call on the established session is planned as such.
 use Rattle.std.proofs.Common.{◌≡◌, IfOk, Result, Some, subst, true, ℕ}
-use Rattle.wt_plan.specs.FactsNow.{DriverFacts, facts_now}
+use Rattle.wt_plan.specs.FactsNow.{DriverAnswers, facts_now}
 use Rattle.wt_plan.specs.Planned.{planned}
 use Rattle.wt_plan.specs.declared.plan.Plan as code
 use Rattle.wt_seam.specs.State.{TransportState}
@@ -13,7 +13,7 @@ use Rattle.wt_session_spec.specs.SessionState.{SessionState, is_opening_now}
 use Rattle.wt_spec.specs.Connection.{stream_header}
 use Rattle.wt_wire.specs.declared.error.OutOfMemory.{OutOfMemory}
 
-pub in_session : (t : TransportState) (d : DriverFacts) (call : ℕ → Plan) (id at k : ℕ) (r : Result code.Plan OutOfMemory) → d.session ≡ Some (id, at)
+pub in_session : (t : TransportState) (d : DriverAnswers) (call : ℕ → Plan) (id at k : ℕ) (r : Result code.Plan OutOfMemory) → d.session ≡ Some (id, at)
     → IfOk r (λ p. planned p ≡ call k) → k ≡ id → IfOk r (λ p. planned p ≡ with_session (facts_now t d) call)
 in_session t d call id at k r h e same = rw h (subst (λ (j : ℕ). IfOk r (λ p. planned p ≡ call j)) same e)
 

@@ -6,7 +6,7 @@ use Rattle.wt_driver.specs.DriverValue.{DriverValue}
 use Rattle.wt_dispatch.specs.Requests.{first_request, request_as}
 use Rattle.wt_driver.specs.Tie.{Follows, untaken_since}
 use Rattle.wt_laws.specs.Reachable.{IsReachable}
-use Rattle.wt_plan.specs.DriverAnswers.{requests_now}
+use Rattle.wt_driver_spec.specs.DriverState.{requests_now}
 use Rattle.wt_plan.specs.Tells.{KeepsRequestEnd}
 use Rattle.wt_session_spec.specs.CallFacts.{facts_of}
 use Rattle.wt_session_spec.specs.Plan.{Plan, Step}

@@ -5,12 +5,12 @@ use Rattle.std.proofs.lemmas.Bool.{and_parts}
 use Rattle.wt_driver.specs.DriverValue.{DriverValue}
 use Rattle.wt_driver.specs.Tie.{Follows, untaken_since}
 use Rattle.wt_driver_spec.specs.Asking.{AwaitsResponse}
-use Rattle.wt_driver_spec.specs.DriverState.{DriverState, state_of}
+use Rattle.wt_driver_spec.specs.DriverState.{DriverState, requests_now, state_of}
 use Rattle.wt_driver_spec.specs.Uses.{role_of, use_of}
 use Rattle.wt_laws.specs.Reachable.{IsReachable}
 use Rattle.wt_plan.proofs.PlansSame.{plan_same, sending_kept, sending_there}
-use Rattle.wt_plan.specs.DriverAnswers.{answers_now, requests_now}
-use Rattle.wt_plan.specs.FactsNow.{DriverFacts, facts_now}
+use Rattle.wt_plan.specs.DriverAnswers.{answers_now}
+use Rattle.wt_plan.specs.FactsNow.{DriverAnswers, facts_now}
 use Rattle.wt_plan.specs.Planned.{planned}
 use Rattle.wt_plan.specs.Table.{KeepsCalls, TableValue}
 use Rattle.wt_plan.specs.Tells.{KeepsRequestEnd, TellsFacts, session_now}
@@ -122,7 +122,7 @@ module _ (side : Side) (d : DriverValue) (log : Log) (taken : ℕ) (s : TableVal
   may-answer _ m = tt
 
   module _ (walk : ResponseWalk) (end : KeepsRequestEnd side log s.request_end) (known : KnowsResponse side log walk) where
-    abbrev answered : DriverFacts
+    abbrev answered : DriverAnswers
     answered = answers_now d.inbox.transport d.state (is_first log) s.request_end walk
 
     tells : TellsFacts side log d.inbox.transport answered

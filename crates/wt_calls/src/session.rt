@@ -2,7 +2,7 @@
 ghost use Rattle.std.specs.Prelude.{◌≡◌, [], IfOk, OnOk, false, is_some, true, ℕ};
 ghost use Rattle.wt_driver.specs.Tie.{Follows};
 ghost use Rattle.wt_laws.specs.Reachable.{IsReachable};
-ghost use Rattle.wt_laws.specs.ReplyCauses.{is_call};
+ghost use Rattle.wt_spec.specs.Turns.{is_call};
 ghost use Rattle.wt_plan.specs.Planned.{planned};
 ghost use Rattle.wt_plan.specs.Table.{KeepsCalls, handshake_as};
 ghost use Rattle.wt_plan.specs.Tells.{KeepsRequestEnd};

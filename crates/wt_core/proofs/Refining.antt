@@ -4,11 +4,10 @@ use Rattle.std.specs.Prelude.{IsTrue}
 use Rattle.wt_core.proofs.Below.{driver_fits, session_calls}
 use Rattle.wt_core.specs.CoreState.{CoreState, Refines, may_come, may_turn}
 use Rattle.wt_laws.specs.Reachable.{AfterTurn, IsReachable}
-use Rattle.wt_laws.specs.ReplyCauses as laws
 use Rattle.wt_seam.specs.Step.{fits_now}
 use Rattle.wt_seam_spec.specs.Arrivals.{fits}
 use Rattle.wt_spec.specs.Answers.{actions_since, answer_to, is_lawful, log_after, turn_effect}
-use Rattle.wt_driver.specs.Arriving.{is_call}
+use Rattle.wt_spec.specs.Turns.{is_call}
 use Rattle.wt_driver.specs.DriverValue.{DriverValue}
 use Rattle.wt_driver.specs.Tie.{Follows}
 use Rattle.wt_calls.specs.Keeping.{Keeps}
@@ -74,14 +73,10 @@ event_reply side log (turns.Call call) n = absurd (n call refl)
 event_reply side log (turns.Bytes id piece) n = refl
 event_reply side log _ n = refl
 
--- what the transport may tell is no call, in the driver's word and in the laws'
+-- what the transport may tell is no call
 pub fits_event : (side : Side) (log : Log) (turn : Turn) → fits side log turn ≡ true → is_call turn ≡ false
 fits_event side log (turns.Call call) f = absurd (cc)
 fits_event side log _ f = refl
-
-pub fits_no_call : (side : Side) (log : Log) (turn : Turn) → fits side log turn ≡ true → laws.is_call turn ≡ false
-fits_no_call side log (turns.Call call) f = absurd (cc)
-fits_no_call side log _ f = refl
 
 -- and it is lawful
 pub fits_lawful : (side : Side) (log : Log) (turn : Turn) → fits side log turn ≡ true → is_lawful side log turn ≡ true

@@ -129,7 +129,7 @@ impl Core {
         requires { IsTrue (may_turn self.old turn.now) }
         ensures answer { (log : Log) → Refines self.old log → IfOk result (λ a. a ≡ answer_to self.old.side log turn.now) }
         ensures state { (log : Log) → Refines self.old log → OnOk result (Refines self.new (log_after self.old.side log turn.now)) }
-        ensures side { OnOk result (self.new.side ≡ self.old.side) }
+        ensures side { self.new.side ≡ self.old.side }
         ensures failed { IsTrue self.old.failed → IsErr result }
         ensures fails { OnErr result (IsTrue self.new.failed) }
     {

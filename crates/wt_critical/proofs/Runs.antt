@@ -18,7 +18,7 @@ use Rattle.wt_error.specs.declared.driver_error.DriverError.{DriverError}
 use Rattle.wt_turn.specs.declared.poll.Poll.{Poll}
 use Rattle.wt_seam.specs.State.{TransportState}
 use Rattle.wt_seam.specs.Step.{end_now, unread_now}
-use Rattle.wt_critical.specs.Critical.{RemoteUni, SessionStream, Watched, control_answer, session_answer, session_bytes, shown_by_fault, shown_by_walk, shown_or_ended, uni_bytes}
+use Rattle.wt_critical.specs.Critical.{RemoteUni, SessionStream, Watched, control_answer, control_after_run, control_shows, session_answer, session_bytes, session_after_run, session_shows, shown_by_fault, shown_by_walk, shown_or_ended, uni_bytes}
 use Rattle.wt_critical.specs.Reading.{WasRead, read_on}
 use Rattle.wt_critical.proofs.ReadOn.{was-read-more, was-read-outcome}
 
@@ -55,6 +55,22 @@ module _ (old : ControlWatched) (o : Option RemoteUni) (s : RemoteUni) (r : Cont
       ∙ (was-read-more control_decides control_lawful.steady None r bytes (was-inside bytes was) (unread_now t id) (end_now t id)
       ∙ ap (λ (xs : List ℕ). progress_over control_decides None None 0 xs)
       (ap (λ k. bytes ++ unread_now t k) its ∙ ap (λ (x : Option RemoteUni). uni_bytes x t bytes) (sym stream)))
+
+  pub control-reading : (new : ControlReading) → new ≡ read_on control_decides r (unread_now t id) (end_now t id) → new ≡ control_after_run old.stream t old.reading
+  control-reading new new_is =
+      new_is
+      ∙ (ap (λ k. read_on control_decides r (unread_now t k) (end_now t k)) its
+      ∙ (ap (λ (x : Option RemoteUni). control_after_run x t r) (sym stream)
+      ∙ ap (λ (w : ControlWatched). control_after_run old.stream t w.reading) view))
+
+  pub control-now : (is_open : Bool) → is_open ≡ t.is_open → (shown : Option DriverError) → shown ≡ shown_by_fault (outcome_in control_unfinished (read_on control_decides r (unread_now t id) (end_now t id))).fault
+      → (result : Poll DriverError) → result ≡ shown_or_ended is_open shown → result ≡ control_shows old.stream t.is_open (control_after_run old.stream t old.reading)
+  control-now is_open open_is shown shown_is result result_is =
+      result_is
+      ∙ (ap (λ b. shown_or_ended b shown) open_is
+      ∙ (ap (λ x. shown_or_ended t.is_open x) shown_is
+      ∙ (ap (λ (x : ControlReading). control_shows (Some s) t.is_open x) (control-reading (read_on control_decides r (unread_now t id) (end_now t id)) refl)
+      ∙ ap (λ (x : Option RemoteUni). control_shows x t.is_open (control_after_run old.stream t old.reading)) (sym stream))))
 
 -- an end changes no settings
 settings-at : (stop : Option ControlWalk) (end : StreamEnd) (settings : Option Settings) (between : Bool) → (unwrap_or stop (control_unfinished end settings between)).settings ≡ (unwrap_or stop (control_unfinished Running settings between)).settings
@@ -104,3 +120,19 @@ module _ (old : SessionWatched) (o : Option SessionStream) (s : SessionStream) (
       ∙ (was-read-more session_decides session_lawful.steady tt r bytes (session-inside bytes was) (unread_now t id) (end_now t id)
       ∙ ap (λ (xs : List ℕ). progress_over session_decides tt None 0 xs)
       (ap (λ k. bytes ++ unread_now t k) its ∙ ap (λ (x : Option SessionStream). session_bytes x t bytes) (sym session-set)))
+
+  pub session-reading : (new : SessionReading) → new ≡ read_on session_decides r (unread_now t id) (end_now t id) → new ≡ session_after_run old.stream t old.reading
+  session-reading new new_is =
+      new_is
+      ∙ (ap (λ k. read_on session_decides r (unread_now t k) (end_now t k)) its
+      ∙ (ap (λ (x : Option SessionStream). session_after_run x t r) (sym session-set)
+      ∙ ap (λ (w : SessionWatched). session_after_run old.stream t w.reading) view))
+
+  pub session-now : (is_open : Bool) → is_open ≡ t.is_open → (shown : Option DriverError) → shown ≡ shown_by_walk (outcome_in session_unfinished (read_on session_decides r (unread_now t id) (end_now t id)))
+      → (result : Poll DriverError) → result ≡ shown_or_ended is_open shown → result ≡ session_shows old.stream t.is_open (session_after_run old.stream t old.reading)
+  session-now is_open open_is shown shown_is result result_is =
+      result_is
+      ∙ (ap (λ b. shown_or_ended b shown) open_is
+      ∙ (ap (λ x. shown_or_ended t.is_open x) shown_is
+      ∙ (ap (λ (x : SessionReading). session_shows (Some s) t.is_open x) (session-reading (read_on session_decides r (unread_now t id) (end_now t id)) refl)
+      ∙ ap (λ (x : Option SessionStream). session_shows x t.is_open (session_after_run old.stream t old.reading)) (sym session-set))))

@@ -11,9 +11,11 @@ use Rattle.wt_message.specs.FixedBytes.{local_settings}
 use Rattle.wt_message.specs.Settings.{settings_bytes}
 use Rattle.wt_proto.specs.declared.session_walk.SessionWalk.{SessionWalk}
 use Rattle.wt_proto.specs.declared.session_walk.SessionWalk.TheVariants as walks
-use Rattle.wt_proto.specs.ControlWalk.{control_walk_of}
-use Rattle.wt_proto.specs.SessionWalk.{session_walk_of}
+use Rattle.wt_proto.specs.declared.control_walk.ControlWalk.{ControlWalk}
+use Rattle.wt_proto.specs.ControlWalk.{control_decides, control_unfinished, control_walk_of}
+use Rattle.wt_proto.specs.SessionWalk.{session_decides, session_unfinished, session_walk_of}
 use Rattle.wt_proto.specs.Progress.{Reading}
+use Rattle.wt_proto.specs.Reading.{outcome_in}
 use Rattle.wt_error.specs.declared.driver_error.DriverError.{DriverError}
 use Rattle.wt_error.specs.declared.driver_error.DriverError.TheVariants as errors
 use Rattle.wt_turn.specs.declared.poll.Poll.{Poll}
@@ -30,7 +32,7 @@ use Rattle.wt_typed.specs.declared.stream.UniRemoteH3.{UniRemoteH3}
 use Rattle.wt_typed.specs.declared.stream.Session.{Session}
 use Rattle.wt_typed.specs.Typed.{Pair, Typed, can_write_now}
 use Rattle.wt_typed.specs.Writing.{Continues, Pending, after_pending, pending_answer, rest, write_of}
-use Rattle.wt_critical.specs.Reading.{after_reading_all}
+use Rattle.wt_critical.specs.Reading.{after_reading_all, read_on}
 
 -- a unidirectional stream of this end, behind its header
 abbrev pub LocalUni : Type 0
@@ -71,7 +73,7 @@ abbrev pub shown_by_fault : Option ErrorCode → Option DriverError
 shown_by_fault None = None
 shown_by_fault (Some code) = Some (errors.Proto code)
 
--- the stream of a session shows how the peer closed the session, or its fault (draft-ietf-webtrans-http3, section 6)
+-- the stream of a session shows how the peer closed the session, or its fault (draft-ietf-webtrans-http3, section 5)
 abbrev pub shown_by_walk : SessionWalk → Option DriverError
 shown_by_walk walks.Running = None
 shown_by_walk (walks.Closed code reason) = Some (errors.ApplicationClosed (record { code = code; reason = reason }))
@@ -99,10 +101,20 @@ abbrev pub control_answer : Option RemoteUni → TransportState → List ℕ →
 control_answer None t bytes = polls.Pending
 control_answer (Some s) t bytes = shown_or_ended t.is_open (shown_by_fault (control_walk_of (bytes ++ unread_now t s.halves.id) (end_now t s.halves.id)).fault)
 
+-- the same, by how far the walk over the stream is
+abbrev pub control_shows : Option RemoteUni → Bool → Reading (Option Settings) ControlWalk → Poll DriverError
+control_shows None open_ r = polls.Pending
+control_shows (Some s) open_ r = shown_or_ended open_ (shown_by_fault (outcome_in control_unfinished r).fault)
+
 -- what it answers on the stream of a session, of which these bytes were read before: by them and all that is unread
 abbrev pub session_answer : Option SessionStream → TransportState → List ℕ → Poll DriverError
 session_answer None t bytes = polls.Pending
 session_answer (Some s) t bytes = shown_or_ended t.is_open (shown_by_walk (session_walk_of (bytes ++ unread_now t s.halves.0.id) (end_now t s.halves.0.id)))
+
+-- the same, by how far the walk over the stream is
+abbrev pub session_shows : Option SessionStream → Bool → Reading (Unit {0}) SessionWalk → Poll DriverError
+session_shows None open_ r = polls.Pending
+session_shows (Some s) open_ r = shown_or_ended open_ (shown_by_walk (outcome_in session_unfinished r))
 
 -- ---- what a run leaves
 
@@ -115,6 +127,16 @@ after_uni_run (Some s) t = after_reading_all t s.halves.id
 abbrev pub after_session_run : Option SessionStream → TransportState → TransportState
 after_session_run None t = t
 after_session_run (Some s) t = after_reading_all t s.halves.0.id
+
+-- how far the walk over the peer's control stream is after a run
+abbrev pub control_after_run : Option RemoteUni → TransportState → Reading (Option Settings) ControlWalk → Reading (Option Settings) ControlWalk
+control_after_run None t r = r
+control_after_run (Some s) t r = read_on control_decides r (unread_now t s.halves.id) (end_now t s.halves.id)
+
+-- how far the walk over the stream of a session is after a run
+abbrev pub session_after_run : Option SessionStream → TransportState → Reading (Unit {0}) SessionWalk → Reading (Unit {0}) SessionWalk
+session_after_run None t r = r
+session_after_run (Some s) t r = read_on session_decides r (unread_now t s.halves.0.id) (end_now t s.halves.0.id)
 
 -- the bytes that were read after a run on a unidirectional stream of the peer
 abbrev pub uni_bytes : Option RemoteUni → TransportState → List ℕ → List ℕ
@@ -160,6 +182,11 @@ ContinuesSettings (Some s) = Continues s.stage.writing settings_frame_bytes
 -- the write of the frame that was begun on the stream, or a new one
 abbrev pub settings_write : LocalUni → Pending
 settings_write s = write_of s.stage.writing settings_frame_bytes
+
+-- the stream, on which the write of the frame was begun
+abbrev pub settings_begun : Option LocalUni → Option LocalUni
+settings_begun None = None
+settings_begun (Some s) = Some (record s { stage = record s.stage { writing = settings_write s } })
 
 -- what a write of the frame on the stream answers
 abbrev pub settings_answer : Option LocalUni → TransportState → Poll (Result (Unit {0}) DriverError)

@@ -1,9 +1,9 @@
-//! The stream of a session, on which the peer closes it (draft-ietf-webtrans-http3, section 6).
+//! The stream of a session, on which the peer closes it (draft-ietf-webtrans-http3, section 5).
 ghost use Rattle.std.specs.Prelude.{◌≡◌, ℕ, List, [], IfOk, None, Ok, OnOk, Some, is_some, not};
 ghost use Rattle.wt_proto.specs.Reading.{outcome_in};
 ghost use Rattle.wt_proto.specs.SessionWalk.{session_decides, session_unfinished};
 ghost use Rattle.wt_seam.specs.Step.{end_now, unread_now};
-ghost use Rattle.wt_critical.specs.Critical.{after_session_run, session_answer, session_bytes, shown_by_walk};
+ghost use Rattle.wt_critical.specs.Critical.{after_session_run, session_answer, session_bytes, session_after_run, session_shows, shown_by_walk};
 ghost use Rattle.wt_critical.specs.Reading.{WasRead, after_reading_all, read_on};
 
 use crate::reading::read_all;
@@ -106,6 +106,8 @@ impl ConnectStream {
     pub fn run(&mut self, t: &mut Transport) -> Result<Poll<DriverError>, OutOfMemory>
         ensures answer { (bytes : List ℕ) → WasRead session_decides tt self.old.reading bytes → IfOk result (λ a. a ≡ session_answer self.old.stream t.old bytes) }
         ensures read { (bytes : List ℕ) → WasRead session_decides tt self.old.reading bytes → OnOk result (WasRead session_decides tt self.new.reading (session_bytes self.old.stream t.old bytes)) }
+        ensures now { IfOk result (λ a. a ≡ session_shows self.old.stream t.old.is_open (session_after_run self.old.stream t.old self.old.reading)) }
+        ensures reading { OnOk result (self.new.reading ≡ session_after_run self.old.stream t.old self.old.reading) }
         ensures state { OnOk result (t.new ≡ after_session_run self.old.stream t.old) }
         ensures stream { self.new.stream ≡ self.old.stream }
     {

@@ -1,5 +1,5 @@
 //! The control streams, on which SETTINGS go (RFC 9114, section 6.2.1).
-ghost use Rattle.std.specs.Prelude.{◌≡◌, ◌||◌, ℕ, List, [], IfOk, IsTrue, None, Ok, OnErr, OnOk, Some, false, is_some, not, true};
+ghost use Rattle.std.specs.Prelude.{◌≡◌, ◌↔◌, ◌||◌, ℕ, List, [], IfOk, IsTrue, None, Ok, OnErr, OnOk, Some, false, is_some, not, true};
 ghost use Rattle.wt_wire.specs.FrameBytes.{frame_bytes};
 ghost use Rattle.wt_wire.specs.declared.side.StreamEnd.TheVariants.{Running};
 ghost use Rattle.wt_proto.specs.ControlWalk.{control_decides, control_unfinished, control_walk_of};
@@ -10,7 +10,7 @@ ghost use Rattle.wt_seam.specs.Step.{end_now, unread_now};
 ghost use Rattle.wt_typed.specs.Typed.{can_write_now};
 ghost use Rattle.wt_typed.specs.UniHeader.{kind_of};
 ghost use Rattle.wt_typed.specs.Writing.{Continues, after_pending, pending_answer, rest, write_of};
-ghost use Rattle.wt_critical.specs.Critical.{ContinuesSettings, after_settings, after_uni_run, can_send_settings, control_answer, given_once, local_answer, settings_answer, shown_by_fault, uni_bytes, with_settings, write_error, written_answer};
+ghost use Rattle.wt_critical.specs.Critical.{ContinuesSettings, after_settings, after_uni_run, can_send_settings, control_answer, control_after_run, control_shows, given_once, local_answer, settings_answer, settings_begun, shown_by_fault, uni_bytes, with_settings, write_error, written_answer};
 ghost use Rattle.wt_critical.specs.Reading.{WasRead, after_reading_all, read_on};
 
 use crate::reading::read_all;
@@ -88,8 +88,10 @@ fn send_frame(
     ensures answer { IfOk result (λ a. a ≡ written_answer (pending_answer t.old.is_open (sending_half_now t.old stream.old.halves.id) (rest (write_of stream.old.stage.writing (frame_bytes frame.now))))) }
     ensures state { OnOk result (t.new ≡ after_write t.old stream.old.halves.id (rest (write_of stream.old.stage.writing (frame_bytes frame.now)))) }
     ensures stream { OnOk result (stream.new ≡ record stream.old { stage = record stream.old.stage { writing = after_pending t.old.is_open (sending_half_now t.old stream.old.halves.id) (write_of stream.old.stage.writing (frame_bytes frame.now)) } }) }
-    ensures goes_on { OnOk result (Continues stream.new.stage.writing (frame_bytes frame.now)) }
+    ensures goes_on { Continues stream.new.stage.writing (frame_bytes frame.now) }
+    ensures others { stream.new ≡ record stream.old { stage = record stream.old.stage { writing = stream.new.stage.writing } } }
     ensures err { OnErr result (t.new ≡ t.old) }
+    ensures kept { OnErr result (write_of stream.new.stage.writing (frame_bytes frame.now) ≡ write_of stream.old.stage.writing (frame_bytes frame.now)) }
 {
     let answer = stream.write_frame(t, frame)?;
     Ok(written(answer))
@@ -143,8 +145,9 @@ impl LocalSettingsStream {
         ensures answer { IfOk result (λ a. a ≡ settings_answer self.old t.old) }
         ensures state { OnOk result (t.new ≡ after_settings self.old t.old) }
         ensures stream { OnOk result (self.new ≡ with_settings self.old t.old) }
-        ensures goes_on { OnOk result (ContinuesSettings self.new) }
+        ensures goes_on { ContinuesSettings self.new }
         ensures err { OnErr result (t.new ≡ t.old) }
+        ensures kept { OnErr result (settings_begun self.new ≡ settings_begun self.old) }
     {
         let frame = Settings::local().generate_frame(self.alloc)?;
         match &mut self.stream {
@@ -166,7 +169,7 @@ impl LocalSettingsStream {
 
     /// Whether no other frame is half written on the stream.
     pub fn continues(&self) -> Result<bool, OutOfMemory>
-        ensures { IfOk result (λ b. IsTrue b → ContinuesSettings self.now) }
+        ensures { IfOk result (λ b. IsTrue b ↔ ContinuesSettings self.now) }
     {
         let frame = Settings::local().generate_frame(self.alloc)?;
         match &self.stream {
@@ -249,6 +252,8 @@ impl RemoteSettingsStream {
     pub fn run(&mut self, t: &mut Transport) -> Result<Poll<DriverError>, OutOfMemory>
         ensures answer { (bytes : List ℕ) → WasRead control_decides None self.old.reading bytes → IfOk result (λ a. a ≡ control_answer self.old.stream t.old bytes) }
         ensures read { (bytes : List ℕ) → WasRead control_decides None self.old.reading bytes → OnOk result (WasRead control_decides None self.new.reading (uni_bytes self.old.stream t.old bytes)) }
+        ensures now { IfOk result (λ a. a ≡ control_shows self.old.stream t.old.is_open (control_after_run self.old.stream t.old self.old.reading)) }
+        ensures reading { OnOk result (self.new.reading ≡ control_after_run self.old.stream t.old self.old.reading) }
         ensures state { OnOk result (t.new ≡ after_uni_run self.old.stream t.old) }
         ensures stream { self.new.stream ≡ self.old.stream }
     {
@@ -295,6 +300,8 @@ impl RemoteSettingsWatcher {
     pub fn accept_settings(&mut self, s: &RemoteSettingsStream) -> Poll<Settings>
         ensures answer { (bytes : List ℕ) → WasRead control_decides None s.now.reading bytes → result ≡ given_once self.old (control_walk_of bytes Running).settings }
         ensures given { (bytes : List ℕ) → WasRead control_decides None s.now.reading bytes → self.new ≡ (self.old || is_some (control_walk_of bytes Running).settings) }
+        ensures now { result ≡ given_once self.old (outcome_in control_unfinished s.now.reading).settings }
+        ensures now_given { self.new ≡ (self.old || is_some (outcome_in control_unfinished s.now.reading).settings) }
     {
         self.give(s.settings())
     }

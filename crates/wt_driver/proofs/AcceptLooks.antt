@@ -3,19 +3,19 @@ use Rattle.std.proofs.Common.{arith, ◌≡◌, ◌<◌, ℕ, zero, suc, Bool, t
 use Rattle.std.specs.Prelude.{Option, Some, None}
 use Rattle.wt_driver.specs.DriverValue.{DriverValue}
 use Rattle.wt_driver.specs.Tie.{Follows}
-use Rattle.wt_driver_spec.specs.Due.{Due, DueRule, Outcome, give_or_pass_due, take_due, take_next}
+use Rattle.wt_driver_spec.specs.Due.{Due, DueRule, DueOutcome, give_or_pass_due, take_due, take_next}
 use Rattle.wt_turn.specs.Log.{Log}
 use Rattle.wt_wire.specs.declared.side.Side.{Side}
 
 -- ---- the loop
 
 -- What is left of the looks, from the log that the driver follows now, leads to the call's outcome.
-pub record LooksOn {T : Type 0} (side : Side) (taken : ℕ) (rule : DueRule Log T) (whole : Outcome Log T) (left : ℕ) (d : DriverValue) : Type 0 where
+pub record LooksOn {T : Type 0} (side : Side) (taken : ℕ) (rule : DueRule Log T) (whole : DueOutcome Log T) (left : ℕ) (d : DriverValue) : Type 0 where
   pub log_now : Log
   pub follows : Follows side d log_now taken
   pub same : whole ≡ take_due rule (suc left) log_now
 
-module _ {T : Type 0} (rule : DueRule Log T) (whole : Outcome Log T) (left : ℕ) (log : Log) (same : whole ≡ take_due rule (suc left) log) where
+module _ {T : Type 0} (rule : DueRule Log T) (whole : DueOutcome Log T) (left : ℕ) (log : Log) (same : whole ≡ take_due rule (suc left) log) where
   pub none-due : rule.next log ≡ None → whole ≡ record { state = log; given = None }
   none-due e = same ∙ ap (take_next rule (λ u. take_due rule left u) log) e
 

@@ -10,7 +10,7 @@ use Rattle.wt_driver.specs.Given.{ended_or_pending, given_by, is_own, next_datag
 use Rattle.wt_driver.specs.Moving.{front_of}
 use Rattle.wt_driver.specs.Tie.{Follows, unsettled}
 use Rattle.wt_driver_spec.specs.Asking.{MayBeCalled}
-use Rattle.wt_driver_spec.specs.Due.{Due, DueRule, Outcome, accepted, due_datagram, due_stream, log_datagrams, log_streams, received, state_next_due, take_due}
+use Rattle.wt_driver_spec.specs.Due.{Due, DueRule, DueOutcome, accepted, due_datagram, due_stream, log_datagrams, log_streams, received, state_next_due, take_due}
 use Rattle.wt_seam_spec.specs.Reports.{datagrams_of}
 use Rattle.wt_seam_spec.specs.Streams.{peer_count}
 use Rattle.wt_spec.specs.Connection.{is_for_session, next_datagram, next_due, pass_stream, read_datagram}
@@ -24,7 +24,7 @@ use Rattle.wt_wire.specs.declared.side.Side.{Side}
 
 -- ---- any call
 
-module _ {T : Type 0} (side : Side) (taken : ℕ) (rule : DueRule Log T) (whole : Outcome Log T) where
+module _ {T : Type 0} (side : Side) (taken : ℕ) (rule : DueRule Log T) (whole : DueOutcome Log T) where
   module _ (log : Log) (left : ℕ) (behind : whole ≡ take_due rule left log) where
     -- a look is left behind a pass
     pub looks-again : (d : DriverValue) → Follows side d log taken → 0 < left → LooksOn side taken rule whole (left - 1) d
@@ -39,10 +39,10 @@ module _ {T : Type 0} (side : Side) (taken : ℕ) (rule : DueRule Log T) (whole 
     looks-end none = behind ∙ ap (λ n. take_due rule n log) none
 
     pub end-follows : (d : DriverValue) → left ≡ 0 → Follows side d log taken → Follows side d whole.state taken
-    end-follows d none f = subst (λ (x : Outcome Log T). Follows side d x.state taken) (sym (looks-end none)) f
+    end-follows d none f = subst (λ (x : DueOutcome Log T). Follows side d x.state taken) (sym (looks-end none)) f
 
     pub end-given : left ≡ 0 → None ≡ whole.given
-    end-given none = sym (ap (λ (x : Outcome Log T). x.given) (looks-end none))
+    end-given none = sym (ap (λ (x : DueOutcome Log T). x.given) (looks-end none))
 
 -- ---- streams
 
@@ -64,7 +64,7 @@ accepted-is side log kind of_kind session looks same count =
     by true o = ap (λ n. take_due (log_streams side of_kind session) (suc n) log) (count o)
     by false o = one-look (log_streams side of_kind session) log looks (peer_count side (events_of log) of_kind) (own-only o (next_due side log of_kind session) refl)
 
-module _ (side : Side) (taken kind session left : ℕ) (whole : Outcome Log ℕ) (d : DriverValue) (s : LooksOn side taken (log_streams side kind session) whole left d)
+module _ (side : Side) (taken kind session left : ℕ) (whole : DueOutcome Log ℕ) (d : DriverValue) (s : LooksOn side taken (log_streams side kind session) whole left d)
     (o : Option (ℕ × Bool)) (found : due_as o ≡ due_stream session (state_next_due d.state kind session)) where
   next-is : due_stream session (next_due side s.log_now kind session) ≡ due_as o
   next-is = due-kept side s.log_now taken d s.follows kind session ∙ sym found
@@ -74,10 +74,10 @@ module _ (side : Side) (taken kind session left : ℕ) (whole : Outcome Log ℕ)
 
   -- no stream is due
   pub none-follows : o ≡ None → Follows side d whole.state taken
-  none-follows e = subst (λ (x : Outcome Log ℕ). Follows side d x.state taken) (sym (no-stream e)) s.follows
+  none-follows e = subst (λ (x : DueOutcome Log ℕ). Follows side d x.state taken) (sym (no-stream e)) s.follows
 
   pub none-given : o ≡ None → None ≡ whole.given
-  none-given e = sym (ap (λ (x : Outcome Log ℕ). x.given) (no-stream e))
+  none-given e = sym (ap (λ (x : DueOutcome Log ℕ). x.given) (no-stream e))
 
   module _ (id : ℕ) (own : Bool) (is : o ≡ Some (id, own)) where
     due-is : (b : Bool) → own ≡ b → due_stream session (next_due side s.log_now kind session) ≡ Some (record { item = id; is_own = b })
@@ -91,10 +91,10 @@ module _ (side : Side) (taken kind session left : ℕ) (whole : Outcome Log ℕ)
     stream-gives e = own-due (log_streams side kind session) whole left s.log_now s.same id (due-is true e)
 
     pub stream-follows : (new : DriverValue) → own ≡ true → Follows side new (log_and_flush side s.log_now (Called (StreamAccepted id))) taken → Follows side new whole.state taken
-    stream-follows new e f = subst (λ (x : Outcome Log ℕ). Follows side new x.state taken) (sym (stream-gives e)) f
+    stream-follows new e f = subst (λ (x : DueOutcome Log ℕ). Follows side new x.state taken) (sym (stream-gives e)) f
 
     pub stream-given : own ≡ true → Some id ≡ whole.given
-    stream-given e = sym (ap (λ (x : Outcome Log ℕ). x.given) (stream-gives e))
+    stream-given e = sym (ap (λ (x : DueOutcome Log ℕ). x.given) (stream-gives e))
 
     -- one of another session is passed
     pub stream-passes : own ≡ false → MayPass side s.log_now id
@@ -132,7 +132,19 @@ front-paid session d o own piece found is front none =
     by true None g n = cc
     by true (Some x) g n = cc
 
-module _ (side : Side) (taken session left : ℕ) (whole : Outcome Log (List ℕ)) (d : DriverValue) (s : LooksOn side taken (log_datagrams side session) whole left d)
+-- one of the session is the session's
+pub front-own : (session : ℕ) (d : DriverValue) (o : Option Bool) (own : Bool) (given : Option (List ℕ)) → o ≡ is_own session (next_datagram_now d) → o ≡ Some own → own ≡ true → given ≡ front_of d.queue
+    → is_own session (read_datagram given) ≡ Some true
+front-own session d o own given found is so front =
+    ap (λ (x : Option (List ℕ)). is_own session (read_datagram x)) front
+    ∙ by (nat_lt d.state.datagrams d.state.progress.datagrams) (read_datagram (front_of d.queue)) (sym found ∙ is)
+    ∙ ap (λ (b : Bool). Some b) so
+  where
+    by : (b : Bool) (x : Option (ℕ × List ℕ)) → is_own session (if b then x else None) ≡ Some own → is_own session x ≡ Some own
+    by false x e = absurd cc
+    by true x e = e
+
+module _ (side : Side) (taken session left : ℕ) (whole : DueOutcome Log (List ℕ)) (d : DriverValue) (s : LooksOn side taken (log_datagrams side session) whole left d)
     (o : Option Bool) (found : o ≡ is_own session (next_datagram_now d)) where
   kept : next_datagram side s.log_now ≡ next_datagram_now d
   kept = datagram-kept side s.log_now taken d s.follows
@@ -146,10 +158,10 @@ module _ (side : Side) (taken session left : ℕ) (whole : Outcome Log (List ℕ
 
   -- no datagram is due
   pub none-received : o ≡ None → Follows side d whole.state taken
-  none-received e = subst (λ (x : Outcome Log (List ℕ)). Follows side d x.state taken) (sym (no-datagram e)) s.follows
+  none-received e = subst (λ (x : DueOutcome Log (List ℕ)). Follows side d x.state taken) (sym (no-datagram e)) s.follows
 
   pub none-paid : o ≡ None → None ≡ whole.given
-  none-paid e = sym (ap (λ (x : Outcome Log (List ℕ)). x.given) (no-datagram e))
+  none-paid e = sym (ap (λ (x : DueOutcome Log (List ℕ)). x.given) (no-datagram e))
 
   module _ (own : Bool) (is : o ≡ Some own) where
     -- it is this datagram
@@ -177,10 +189,10 @@ module _ (side : Side) (taken session left : ℕ) (whole : Outcome Log (List ℕ
     datagram-gives e = own-due (log_datagrams side session) whole left s.log_now s.same datagram-due.datagram.1 (due-by true e)
 
     pub datagram-follows : (new : DriverValue) → own ≡ true → Follows side new (log_and_flush side s.log_now (Called DatagramReceived)) taken → Follows side new whole.state taken
-    datagram-follows new e f = subst (λ (x : Outcome Log (List ℕ)). Follows side new x.state taken) (sym (datagram-gives e)) f
+    datagram-follows new e f = subst (λ (x : DueOutcome Log (List ℕ)). Follows side new x.state taken) (sym (datagram-gives e)) f
 
     pub datagram-given : (piece : Option (List ℕ)) → own ≡ true → piece ≡ front_of d.queue → payload_in (read_datagram piece) ≡ whole.given
-    datagram-given piece e p = ap (λ (x : Option (List ℕ)). payload_in (read_datagram x)) p ∙ ap payload_in datagram-due.front ∙ sym (ap (λ (x : Outcome Log (List ℕ)). x.given) (datagram-gives e))
+    datagram-given piece e p = ap (λ (x : Option (List ℕ)). payload_in (read_datagram x)) p ∙ ap payload_in datagram-due.front ∙ sym (ap (λ (x : DueOutcome Log (List ℕ)). x.given) (datagram-gives e))
 
     pub datagram-passed : own ≡ false → whole ≡ take_due (log_datagrams side session) left (log_and_flush side s.log_now (Called DatagramPassed))
     datagram-passed e = other-due (log_datagrams side session) whole left s.log_now s.same datagram-due.datagram.1 (due-by false e)
@@ -205,6 +217,13 @@ nothing-by (Err x) o end e f = f
 pub nothing-paid : (r : Result (Poll (Result (List ℕ) DriverError)) OutOfMemory) (o : Option (List ℕ)) (end : Option DriverError) → None ≡ o → IfOk r (λ p. p ≡ ended_or_pending end) → IfOk r (λ p. payload_by p ≡ o)
 nothing-paid (Ok p) o end e f = ap (λ (x : Poll (Result (List ℕ) DriverError)). payload_by x) f ∙ ap (λ (x : Option (List ℕ)). payload_in (read_datagram x)) (gives-none end) ∙ e
 nothing-paid (Err x) o end e f = f
+
+-- no datagram is given, so none of another session
+pub nothing-own : (r : Result (Poll (Result (List ℕ) DriverError)) OutOfMemory) (session : ℕ) (end : Option DriverError) → IfOk r (λ p. p ≡ ended_or_pending end)
+    → IfOk r (λ p. (piece : List ℕ) → given_by p ≡ Some piece → is_own session (read_datagram (given_by p)) ≡ Some true)
+nothing-own (Ok p) session end f = λ piece e.
+    absurd (let none : None ≡ Some piece = sym (gives-none end) ∙ sym (ap (λ (x : Poll (Result (List ℕ) DriverError)). given_by x) f) ∙ e in cc)
+nothing-own (Err x) session end f = f
 
 -- it is the end, or the wait, whatever is asked of what it gives
 pub nothing-else : {T : Type 0} (r : Result (Poll (Result T DriverError)) OutOfMemory) (end : Option DriverError) (asked : Poll (Result T DriverError) → Type 0) → IfOk r (λ p. p ≡ ended_or_pending end)

@@ -27,7 +27,7 @@ use Rattle.wt_spec.specs.Connection.{first_of, is_due, is_for_session, next_data
 use Rattle.wt_spec.specs.Driver.{apply_if, call_view, established, establishes, flush, is_moment, log_and_flush, or_earlier, pending_actions, settled_datagrams, settles_datagram, stream_table, transport_view}
 use Rattle.wt_spec.specs.Scan.{bi_ids, has, uni_ids}
 use Rattle.wt_spec.specs.StreamTable.{Classified, StreamTable, TransportView, dispatched, verdict_of}
-use Rattle.wt_turn.specs.Log.{CallRecord, Called, DatagramPassed, DatagramReceived, Log, Sent, StreamAccepted, StreamPassed, calls_of, events_of, is_open, with_actions}
+use Rattle.wt_turn.specs.Log.{CallRecord, Called, DatagramPassed, DatagramReceived, Log, Polled, Sent, StreamAccepted, StreamPassed, calls_of, events_of, is_open, with_actions}
 use Rattle.wt_wire.specs.declared.side.Side.{Side}
 
 -- ---- sending goes on
@@ -39,6 +39,10 @@ call-sends side log r none spares sends o = record {
   unreset = λ i. spares (local_uni side) i || (sends o).unreset i;
   session = λ s e. (sends o).session s (sym (ap (λ (x : Option (ℕ × ℕ)). or_earlier x (established (calls_of log))) none) ∙ e);
 }
+
+-- a call that records nothing else may come behind each log
+pub may-poll : (side : Side) (log : Log) (taken : ℕ) (d : DriverValue) → Follows side d log taken → MayBeCalled side log Polled
+may-poll side log taken d f = record { may = tt; can = tt; sends = call-sends side log Polled refl (λ k. refl) f.sends; half = tt }
 
 -- a stop leaves this end's control stream alone
 pub passing-spares : (side : Side) (log : Log) (id : ℕ) → SparesControl side log (passing id)

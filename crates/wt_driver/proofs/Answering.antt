@@ -6,7 +6,7 @@ use Rattle.wt_driver.proofs.SettingsKept.{due-settings-are, state-came}
 use Rattle.wt_driver.proofs.StageAnswers.{response-fits}
 use Rattle.wt_driver.specs.DriverValue.{DriverValue}
 use Rattle.wt_driver.specs.PeerSettings.{KeepsSettings, peer_settings, unless_given}
-use Rattle.wt_driver.specs.Results.{due_settings, requests_now, result_of, settings_or}
+use Rattle.wt_driver.specs.Results.{due_settings, result_of, settings_or}
 use Rattle.wt_error.specs.declared.driver_error.DriverError.{DriverError}
 use Rattle.wt_message.specs.declared.settings.Settings.{Settings}
 use Rattle.wt_proto.proofs.WalkLaws.{if_ok_same}
@@ -14,7 +14,7 @@ use Rattle.wt_turn.specs.declared.poll.Poll.{Poll}
 use Rattle.wt_dispatch.specs.Requests.{first_request, request_in}
 use Rattle.wt_driver.specs.Tie.{Follows, untaken_since}
 use Rattle.wt_driver_spec.specs.Asking.{AwaitsResponse}
-use Rattle.wt_driver_spec.specs.DriverState.{DriverState, state_of}
+use Rattle.wt_driver_spec.specs.DriverState.{DriverState, requests_now, state_of}
 use Rattle.wt_inbox.specs.Stage.{Refines, ResponseHead, with_stage}
 use Rattle.wt_proto.specs.declared.verdict.Verdict.{Verdict}
 use Rattle.wt_proto.specs.declared.verdict.Verdict.TheVariants as verdicts

@@ -19,7 +19,7 @@ use Rattle.wt_driver.specs.Tie.{Follows, TakenIn, unsettled, untaken_since}
 use Rattle.wt_driver_spec.proofs.RestMoments.{open-says}
 use Rattle.wt_driver_spec.specs.DriverState.{DriverState, state_of}
 use Rattle.wt_driver_spec.specs.Moment.{may_release}
-use Rattle.wt_driver_spec.specs.Step.{after_call, deliver, release}
+use Rattle.wt_driver_spec.specs.Step.{after_call, remove_request, release}
 use Rattle.wt_inbox.proofs.Passing.{goes-called, passes}
 use Rattle.wt_inbox.specs.Stage as inboxes
 use Rattle.wt_inbox.specs.Stage.{Anywhere, Body, IsAt, Stage, awaits_response, body_offset, stage_from, with_stage}
@@ -187,9 +187,9 @@ module _ (side : Side) (log : Log) (taken : ℕ) (d : DriverValue) (f : Follows 
   first id may = early side log id f.refines.fits may d f.refines.state_is
 
   module _ (new : DriverValue) where
-    pub delivered-taken : (id : ℕ) → new ≡ with_state d (deliver id d.state) → Asks (RequestDelivered id) → TakenIn side log (Called (RequestDelivered id)) new taken
+    pub delivered-taken : (id : ℕ) → new ≡ with_state d (remove_request id d.state) → Asks (RequestDelivered id) → TakenIn side log (Called (RequestDelivered id)) new taken
     delivered-taken id e a = subst (λ (v : DriverValue). TakenIn side log (Called (RequestDelivered id)) v taken) (sym e)
-        (call-taken side log taken d f (RequestDelivered id) a (with_state d (deliver id d.state)) d.state.is_open (kept (RequestDelivered id) tt) refl opened refl refl)
+        (call-taken side log taken d f (RequestDelivered id) a (with_state d (remove_request id d.state)) d.state.is_open (kept (RequestDelivered id) tt) refl opened refl refl)
 
     pub established-taken : (id at : ℕ) → ReleasesResponse d new id at → KeepsStages d new → new.state ≡ record d.state { session = Some (id, at); is_open = new.inbox.transport.is_open } → new.queue ≡ d.queue → new.settings ≡ d.settings
         → Asks (SessionEstablished id at) → TakenIn side log (Called (SessionEstablished id at)) new taken
@@ -230,7 +230,7 @@ module _ (side : Side) (log : Log) (taken : ℕ) (d : DriverValue) (f : Follows 
         → ((offset : ℕ) → body_offset (f.refines.stage id) ≡ Some offset → count ≤ length (drop offset (contents log id)) → inboxes.Refines side new.inbox log (with_stage f.refines.stage id (Body (offset + count))) (untaken_since taken log))
         → new.state ≡ record d.state { is_open = new.inbox.transport.is_open } → new.queue ≡ d.queue → new.settings ≡ d.settings → Asks (BytesRead id count) → TakenIn side log (Called (BytesRead id count)) new taken
     read-taken id count x s q k a =
-        let at = halves.body_offset (verdict_of id (stream_table side log).classified) + halves.total_read id (calls_of log) in
+        let at = halves.body_start (verdict_of id (stream_table side log).classified) + halves.total_read id (calls_of log) in
         let e : body_offset (f.refines.stage id) ≡ Some at = read-staged side log f.refines.stage id f.refines.fits f.refines.uses f.refines.staged a.half in
         let z = x at e a.can.1 in
         let w = subst (λ (o : Option ℕ). inboxes.Refines side new.inbox log (with_stage f.refines.stage id (stage_from (read_on count o))) (untaken_since taken log)) (sym e) z in

@@ -23,7 +23,7 @@ use Rattle.wt_seam_spec.specs.Reports.{end_of, is_running}
 use Rattle.wt_seam_spec.specs.Streams.{contents, with_byte}
 use Rattle.wt_spec.specs.Driver.{apply_if, call_view, is_moment, settings_came, stream_table, transport_view}
 use Rattle.wt_spec.specs.Scan.{SlotRule, bi_rule, check_control, check_datagram, check_qpack, check_session, critical_if, dequeued_datagram, parsed_datagram, scan_order, session_ends, uni_rule, unless_ended, with_fault}
-use Rattle.wt_spec.specs.StreamTable.{Classified, Dispatched, Ending, Progress, StreamTable, TransportView, control_offset, first_at, or_later}
+use Rattle.wt_spec.specs.StreamTable.{Classified, Dispatched, Ending, Progress, StreamTable, TransportView, control_start, first_at, or_later}
 use Rattle.wt_turn.specs.Log.{Called, DatagramPassed, DatagramReceived, Entry, Log, PeerBi, PeerUni, Received, Reported, RequestDelivered, Sent, SessionEstablished, StreamAccepted, StreamPassed, events_of, is_open, with_actions}
 use Rattle.wt_turn.specs.declared.action.Action.{Action}
 use Rattle.wt_wire.specs.declared.error.ErrorCode.{ErrorCode}
@@ -76,7 +76,7 @@ idle-table side log e idle = ap (λ (b : Bool). apply_if b (scan_order (transpor
 pub idle-keeps : (side : Side) (log : Log) (e : Entry) (kept : Option Settings) → (is_moment e && is_open (e ∷ log)) ≡ false → KeepsSettings side log kept → KeepsSettings side (e ∷ log) kept
 idle-keeps side log e kept idle k = record {
   came = k.came ∙ ap (λ (x : StreamTable). x.progress.settings) (sym same);
-  read = λ s is. ap (λ (x : StreamTable). settings_read (transport_view side (e ∷ log)) (first_at control_offset x.classified)) same ∙ read-stays side log e (peer_control side log) s (k.read s is);
+  read = λ s is. ap (λ (x : StreamTable). settings_read (transport_view side (e ∷ log)) (first_at control_start x.classified)) same ∙ read-stays side log e (peer_control side log) s (k.read s is);
 }
   where
     same : stream_table side (e ∷ log) ≡ stream_table side log

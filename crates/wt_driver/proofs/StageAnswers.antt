@@ -156,7 +156,7 @@ local-bi-role Server k e other =
 
 -- the application reads a stream from behind its header on, and what it read before
 pub read-staged : (side : Side) (log : Log) (stage : ℕ → Stage) (k : ℕ) → Fits side log → Uses side log → StagesFit side log stage → has_receiving_half side log k ≡ true
-    → body_offset (stage k) ≡ Some (halves.body_offset (verdict_of k (stream_table side log).classified) + total_read k (calls_of log))
+    → body_offset (stage k) ≡ Some (halves.body_start (verdict_of k (stream_table side log).classified) + total_read k (calls_of log))
 read-staged side log stage k fits uses f half =
     let parts = and_parts (is_accepted log k && not (k % 4 == local_uni side)) (not (list_any (gives_up k) (calls_of log))) half in
     let first = and_parts (is_accepted log k) (not (k % 4 == local_uni side)) parts.0 in
@@ -178,16 +178,16 @@ read-staged side log stage k fits uses f half =
     local role e g kept = (rw e at g) kept ∙ ap (λ n. Some (0 + n)) (use-read k (calls_of log))
 
     named : (surplus : Bool) (v : Verdict) → is_webtransport v ≡ true → ClassifiedSays surplus v (use_of k (calls_of log)) (stream_table side log).progress.ending (stage k) → (use_of k (calls_of log)).is_dropped ≡ false
-        → body_offset (stage k) ≡ Some (halves.body_offset (Some v) + total_read k (calls_of log))
+        → body_offset (stage k) ≡ Some (halves.body_start (Some v) + total_read k (calls_of log))
     named surplus (verdicts.WebTransport session at) e g kept = g kept ∙ ap (λ n. Some (at + n)) (use-read k (calls_of log))
     named surplus _ e g kept = absurd cc
 
-    found : (o : Option Classified) → classified_of k cs ≡ o → is_sessions o ≡ true → (use_of k (calls_of log)).is_dropped ≡ false → body_offset (stage k) ≡ Some (halves.body_offset (verdict_of k cs) + total_read k (calls_of log))
+    found : (o : Option Classified) → classified_of k cs ≡ o → is_sessions o ≡ true → (use_of k (calls_of log)).is_dropped ≡ false → body_offset (stage k) ≡ Some (halves.body_start (verdict_of k cs) + total_read k (calls_of log))
     found None e g kept = absurd cc
     found (Some c) e g kept = rw (verdict-found k cs, e) (named c.surplus c.verdict g (says (Some c) e) kept)
 
     by : (use_of k (calls_of log)).is_dropped ≡ false → (k % 4 == local_uni side) ≡ false → (may_give (role_of side k) None ≡ true) ⊎ (is_sessions (classified_of k cs) ≡ true)
-        → body_offset (stage k) ≡ Some (halves.body_offset (verdict_of k cs) + total_read k (calls_of log))
+        → body_offset (stage k) ≡ Some (halves.body_start (verdict_of k cs) + total_read k (calls_of log))
     by kept other (inl e) =
         let none = own-unclassified side log k fits e in
         rw (verdict-found k cs, none) (local (role_of side k) (local-bi-role side k e other) (says None none) kept)

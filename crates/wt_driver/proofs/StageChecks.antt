@@ -16,7 +16,7 @@ use Rattle.wt_proto.specs.declared.verdict.Verdict.{Verdict}
 use Rattle.wt_proto.specs.declared.verdict.Verdict.TheVariants as verdicts
 use Rattle.wt_spec.specs.Driver.{ControlSent}
 use Rattle.wt_spec.specs.Scan.{check_control, check_datagram, check_qpack, check_session, checked, critical_if, session_ends, unless_ended}
-use Rattle.wt_spec.specs.StreamTable.{CallView, Classified, Ending, Progress, StreamTable, TransportView, control_offset, decoder_offset, encoder_offset, first_at, or_later, paired, verdict_of}
+use Rattle.wt_spec.specs.StreamTable.{CallView, Classified, Ending, Progress, StreamTable, TransportView, control_start, decoder_start, encoder_start, first_at, or_later, paired, verdict_of}
 use Rattle.wt_turn.specs.Log.{CallRecord}
 use Rattle.wt_wire.specs.declared.side.StreamEnd.TheVariants as ends
 use Rattle.wt_wire.specs.declared.side.Side.{Side}
@@ -24,7 +24,7 @@ use Rattle.wt_wire.specs.declared.side.Side.TheVariants.{Client, Server}
 
 -- ---- the dispatched control stream is classified so
 
-pub control-found : (k at : ℕ) (cs : List Classified) → IsOnce cs → first_at control_offset cs ≡ Some (k, at) → verdict_of k cs ≡ Some (verdicts.Control at)
+pub control-found : (k at : ℕ) (cs : List Classified) → IsOnce cs → first_at control_start cs ≡ Some (k, at) → verdict_of k cs ≡ Some (verdicts.Control at)
 control-found k at [] once e = absurd cc
 control-found k at (c ∷ cs) once e = by c.verdict refl e (control-found k at cs once.1)
   where
@@ -35,7 +35,7 @@ control-found k at (c ∷ cs) once e = by c.verdict refl e (control-found k at c
     here : (n : ℕ) → c.verdict ≡ verdicts.Control n → c.id ≡ k → n ≡ at → (if c.id == k then Some c.verdict else verdict_of k cs) ≡ Some (verdicts.Control at)
     here n v same place = rw (eq-eqb c.id k same, v, place) refl
 
-    by : (v : Verdict) → c.verdict ≡ v → or_later (paired c.id (control_offset v)) (first_at control_offset cs) ≡ Some (k, at) → (first_at control_offset cs ≡ Some (k, at) → verdict_of k cs ≡ Some (verdicts.Control at))
+    by : (v : Verdict) → c.verdict ≡ v → or_later (paired c.id (control_start v)) (first_at control_start cs) ≡ Some (k, at) → (first_at control_start cs ≡ Some (k, at) → verdict_of k cs ≡ Some (verdicts.Control at))
         → (if c.id == k then Some c.verdict else verdict_of k cs) ≡ Some (verdicts.Control at)
     by (verdicts.Control n) f g again =
         let pair : (c.id, n) ≡ (k, at) = cc in
@@ -113,10 +113,10 @@ module _ (side : Side) (calls : List CallRecord) (cs : List Classified) (t : Tra
             (λ k ne. weaker p.ending (check_session t (Some s) p).ending stage (λ g. runs) f k) (here s e (is_session_over t s) refl)
 
     module _ (once : IsOnce cs) where
-      control-fits : (ending later : Option Ending) (stage : ℕ → Stage) → (later ≡ None → ending ≡ None) → FitAt ending stage → FitAt later (control_stages (first_at control_offset cs) stage)
-      control-fits ending later stage w f = by (first_at control_offset cs) refl
+      control-fits : (ending later : Option Ending) (stage : ℕ → Stage) → (later ≡ None → ending ≡ None) → FitAt ending stage → FitAt later (control_stages (first_at control_start cs) stage)
+      control-fits ending later stage w f = by (first_at control_start cs) refl
         where
-          by : (o : Option (ℕ × ℕ)) → first_at control_offset cs ≡ o → FitAt later (control_stages o stage)
+          by : (o : Option (ℕ × ℕ)) → first_at control_start cs ≡ o → FitAt later (control_stages o stage)
           by None e = weaker ending later stage w f
           by (Some c) e = with-fits (λ k x. StageSays (role_of side k) (use_of k calls) later (classified_of k cs) x) stage c.0 (ControlBody c.1)
               (λ k ne. weaker ending later stage w f k)
@@ -137,11 +137,11 @@ module _ (side : Side) (calls : List CallRecord) (cs : List Classified) (t : Tra
 
         -- what is known after the check of the peer's
         abbrev fourth : Progress
-        fourth = unless_ended third.ending (check_control t (first_at control_offset cs)) third
+        fourth = unless_ended third.ending (check_control t (first_at control_start cs)) third
 
         -- what is known after the check of the QPACK encoder's stream
         abbrev fifth : Progress
-        fifth = unless_ended fourth.ending (check_qpack t (first_at encoder_offset cs)) fourth
+        fifth = unless_ended fourth.ending (check_qpack t (first_at encoder_start cs)) fourth
 
         -- the stages once the session was checked
         abbrev pub session_checked_stages : ℕ → Stage
@@ -154,16 +154,16 @@ module _ (side : Side) (calls : List CallRecord) (cs : List Classified) (t : Tra
             by (Some x) e g = g
             by None e g = session-fits first stage e g
 
-        fourth-fits : FitAt fourth.ending (unless_ended_stage third.ending (control_stages (first_at control_offset cs) session_checked_stages) session_checked_stages)
+        fourth-fits : FitAt fourth.ending (unless_ended_stage third.ending (control_stages (first_at control_start cs) session_checked_stages) session_checked_stages)
         fourth-fits = by third.ending refl (weaker second.ending third.ending session_checked_stages (went-on (critical_if t.control_stopped) second) second-fits)
           where
             by : (e : Option Ending) → third.ending ≡ e → FitAt third.ending session_checked_stages
-                → FitAt (unless_ended e (check_control t (first_at control_offset cs)) third).ending (unless_ended_stage e (control_stages (first_at control_offset cs) session_checked_stages) session_checked_stages)
+                → FitAt (unless_ended e (check_control t (first_at control_start cs)) third).ending (unless_ended_stage e (control_stages (first_at control_start cs) session_checked_stages) session_checked_stages)
             by (Some x) e g = g
-            by None e g = control-fits third.ending (check_control t (first_at control_offset cs) third).ending session_checked_stages (λ h. e) g
+            by None e g = control-fits third.ending (check_control t (first_at control_start cs) third).ending session_checked_stages (λ h. e) g
 
-        last-fits : FitAt (unless_ended fifth.ending (check_qpack t (first_at decoder_offset cs)) fifth).ending (unless_ended_stage third.ending (control_stages (first_at control_offset cs) session_checked_stages) session_checked_stages)
-        last-fits = weaker fourth.ending _ _ (λ g. went-on (check_qpack t (first_at encoder_offset cs)) fourth (went-on (check_qpack t (first_at decoder_offset cs)) fifth g)) fourth-fits
+        last-fits : FitAt (unless_ended fifth.ending (check_qpack t (first_at decoder_start cs)) fifth).ending (unless_ended_stage third.ending (control_stages (first_at control_start cs) session_checked_stages) session_checked_stages)
+        last-fits = weaker fourth.ending _ _ (λ g. went-on (check_qpack t (first_at encoder_start cs)) fourth (went-on (check_qpack t (first_at decoder_start cs)) fifth g)) fourth-fits
 
 -- all checks
 pub checks-fit : (side : Side) (calls : List CallRecord) (t : TransportView) (d : CallView) (sent : ControlSent) (open_ : Bool) (table : StreamTable) (stage : ℕ → Stage) → IsOwn side table.classified → IsOnce table.classified

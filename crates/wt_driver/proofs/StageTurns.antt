@@ -29,7 +29,7 @@ use Rattle.wt_spec.specs.Connect.{address_of, authority_of, connect, connect_to,
 use Rattle.wt_spec.specs.Connection.{accept_due, accept_first, datagram_allowed, datagram_within, ends_opening, give_or_pass, is_for_session, is_opening, next_datagram, next_due, open_stream, pass_stream, poll_opening, read_datagram, receive_first, receive_next, receive_or_pass, send_datagram, starts_opening, stream_header}
 use Rattle.wt_spec.specs.Driver.{call_view, established, flush, log_and_flush, settings_came, settled_datagrams, stream_table}
 use Rattle.wt_spec.specs.Effect.{Effect, closing, driver_error, head_left, is_covered, is_empty, log_call, poll_sending, reply_with, transport_error}
-use Rattle.wt_spec.specs.Halves.{all_written_reply, exact_at_end, finishing, has_receiving_half, has_sending_half, is_done, on_half, read, read_exact, read_reply, reset, set_priority, take_bytes, unread, write_by, write_error, written_reply}
+use Rattle.wt_spec.specs.Halves.{all_written_reply, exact_at_end, finishing, has_receiving_half, has_sending_half, is_done, on_half, read, read_exact, read_reply, reset, set_priority, take_bytes, unread_body, write_by, write_error, written_reply}
 use Rattle.wt_spec.specs.Handshake.{Connecting, HandshakeState, Requested, Responding, accept_response, await_or_fail, await_response, awaits_answer, continue_by, deliver, establish, fail_handshake, handshake_state, has_success, incoming, is_refused, open_request, queued_requests, read_response, reject_response, request_end, requested, respond, send_request, start_response, unless_reserved}
 use Rattle.wt_spec.specs.StreamTable.{Classified, dispatched, verdict_of}
 use Rattle.wt_turn.specs.Log.{Acked, BytesRead, CallRecord, Called, ConnectStarted, Connected, Datagram, DatagramLimit, DatagramPassed, DatagramReceived, End, Event, HandshakeOver, Log, Loss, MaxBi, MaxData, MaxUni, OpeningFailed, OpeningStarted, PeerBi, PeerUni, Polled, PrioritySet, Received, Reported, RequestDelivered, Reset, ResetUnsent, ResponseStarted, Sent, SessionEstablished, Stop, StreamAccepted, StreamGivenUp, StreamPassed, actions_of, calls_of, events_of, is_open, with_actions}
@@ -219,22 +219,22 @@ module _ (side : Side) (log : Log) (fits : Fits side log) (uses : Uses side log)
   set-uses : (k : ℕ) (p : ℤ) → LeadsUses side (set_priority side log k p)
   set-uses k p = either side (is_done log k) _ _ (polls [] _) (called-uses side log [] (PrioritySet k p) uses tt)
 
-  taken-uses : (k : ℕ) (bytes : List ℕ) (reply : Reply) → has_receiving_half side log k ≡ true → length bytes ≤ length (unread side log k) → LeadsUses side (take_bytes side log k bytes reply)
+  taken-uses : (k : ℕ) (bytes : List ℕ) (reply : Reply) → has_receiving_half side log k ≡ true → length bytes ≤ length (unread_body side log k) → LeadsUses side (take_bytes side log k bytes reply)
   taken-uses k bytes reply half within = called-uses side log [] (BytesRead k (length bytes)) uses (half-uses side log k fits uses half, within)
 
   read-uses : (k size : ℕ) → has_receiving_half side log k ≡ true → LeadsUses side (read side log k size)
-  read-uses k size half = either side (size == 0) _ _ (polls [] _) (by (unread side log k) refl)
+  read-uses k size half = either side (size == 0) _ _ (polls [] _) (by (unread_body side log k) refl)
     where
-      by : (bytes : List ℕ) → unread side log k ≡ bytes → LeadsUses side (read_reply side log k size bytes)
+      by : (bytes : List ℕ) → unread_body side log k ≡ bytes → LeadsUses side (read_reply side log k size bytes)
       by [] e = polls [] _
       by (b ∷ bytes) e = taken-uses k (take size (b ∷ bytes)) (replies.Read (Some (take size (b ∷ bytes)))) half (rw e (taken-within size (b ∷ bytes)))
 
   exact-uses : (k size : ℕ) → has_receiving_half side log k ≡ true → LeadsUses side (read_exact side log k size)
-  exact-uses k size half = either side (nat_lt (length (unread side log k)) size) _ _ (by (end_of (events_of log) k)) (taken-uses k (take size (unread side log k)) _ half (taken-within size (unread side log k)))
+  exact-uses k size half = either side (nat_lt (length (unread_body side log k)) size) _ _ (by (end_of (events_of log) k)) (taken-uses k (take size (unread_body side log k)) _ half (taken-within size (unread_body side log k)))
     where
-      by : (e : StreamEnd) → LeadsUses side (exact_at_end side log k (unread side log k) e)
+      by : (e : StreamEnd) → LeadsUses side (exact_at_end side log k (unread_body side log k) e)
       by ends.Running = polls [] _
-      by ends.Fin = taken-uses k (unread side log k) _ half (omega arith)
+      by ends.Fin = taken-uses k (unread_body side log k) _ half (omega arith)
       by (ends.Reset code) = polls [] _
 
   -- ---- the handshake

@@ -8,7 +8,8 @@ use Rattle.wt_driver.proofs.Moved.{on_ok, open-is}
 use Rattle.wt_driver.proofs.SettingsKept.{idle-keeps}
 use Rattle.wt_driver.proofs.StageMoments.{late-staged}
 use Rattle.wt_driver.proofs.StageWork.{datagram-waits}
-use Rattle.wt_driver.specs.Arriving.{EventTaken, arrived, event_of, is_call}
+use Rattle.wt_driver.specs.Arriving.{EventTaken, arrived}
+use Rattle.wt_spec.specs.Turns.{event_of, is_call}
 use Rattle.wt_driver.specs.DriverValue.{DriverValue, with_state}
 use Rattle.wt_driver.specs.PeerSettings.{KeepsSettings}
 use Rattle.wt_driver_spec.specs.Asking.{SendFacts}
@@ -17,7 +18,7 @@ use Rattle.wt_driver.specs.Tie.{Follows, TakenIn, unsettled, untaken_since}
 use Rattle.wt_driver_spec.proofs.Following.{open-more}
 use Rattle.wt_driver_spec.proofs.RestMoments.{late-followed, open-says}
 use Rattle.wt_driver_spec.specs.DriverState.{DriverState, state_of}
-use Rattle.wt_driver_spec.specs.Step.{after_event, new_slot}
+use Rattle.wt_driver_spec.specs.Step.{with_arrival, new_slot}
 use Rattle.wt_inbox.specs.Stage as inboxes
 use Rattle.wt_inbox.specs.Stage.{Stage}
 use Rattle.wt_inbox.proofs.Passing.{peer-bis-are, peer-unis-are}
@@ -66,12 +67,12 @@ stands side log m x stage untaken r = open-is side (m ∷ log) untaken x stage r
 module _ (side : Side) (log : Log) (taken : ℕ) (d : DriverValue) (f : Follows side d log taken) where
   -- an event was taken in
   pub event-taken : (e : Event) (new : DriverValue) → is_open log ≡ true → inboxes.Refines side new.inbox (Reported e ∷ log) f.refines.stage (untaken_since taken log)
-      → new.state ≡ record (after_event (transport_view side log) e d.state) { is_open = new.inbox.transport.is_open } → new.queue ≡ with_datagram e d.queue → new.settings ≡ d.settings → TakenIn side log (Reported e) new taken
+      → new.state ≡ record (with_arrival (transport_view side log) e d.state) { is_open = new.inbox.transport.is_open } → new.queue ≡ with_datagram e d.queue → new.settings ≡ d.settings → TakenIn side log (Reported e) new taken
   event-taken e new o r s q k = record {
     stage = f.refines.stage;
     inbox = r;
     fit = f.refines.staged;
-    state_is = s ∙ (λ i. record (after_event (transport_view side log) e (f.refines.state_is i)) { is_open = stands side log (Reported e) new.inbox f.refines.stage (untaken_since taken log) r i });
+    state_is = s ∙ (λ i. record (with_arrival (transport_view side log) e (f.refines.state_is i)) { is_open = stands side log (Reported e) new.inbox f.refines.stage (untaken_since taken log) r i });
     queue_is = q ∙ ap (with_datagram e) f.refines.queue_is ∙ sym (event-waits side log e f.refines.uses);
     settings = subst (KeepsSettings side log) (sym k) f.refines.settings;
     within = f.within;

@@ -9,7 +9,7 @@ use Rattle.wt_message.specs.declared.settings.Settings.{Settings}
 use Rattle.wt_proto.specs.ControlWalk.{control_walk_of}
 use Rattle.wt_spec.specs.Driver.{settings_came, stream_table, transport_view}
 use Rattle.wt_spec.specs.Scan.{unless_ended}
-use Rattle.wt_spec.specs.StreamTable.{TransportView, control_offset, first_at}
+use Rattle.wt_spec.specs.StreamTable.{TransportView, control_start, first_at}
 use Rattle.wt_turn.specs.Log.{Log}
 use Rattle.wt_wire.specs.declared.side.Side.{Side}
 
@@ -22,7 +22,7 @@ settings_read t (Some control) = (control_walk_of (drop control.1 (t.contents co
 
 -- the peer's control stream, and where its part begins: the first that was classified so
 abbrev pub peer_control : Side → Log → Option (ℕ × ℕ)
-peer_control side log = first_at control_offset (stream_table side log).classified
+peer_control side log = first_at control_start (stream_table side log).classified
 
 -- the peer's SETTINGS, where they came
 abbrev pub peer_settings : Side → Log → Option Settings

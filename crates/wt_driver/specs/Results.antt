@@ -1,17 +1,12 @@
 -- How a driver tells the ending of the connection, the peer's SETTINGS and the request that is queued.
-use Rattle.std.specs.Borrow.{Bor}
-use Rattle.std.specs.Prelude.{[], ◌∷◌, ◌&&◌, Bool, Err, List, None, Ok, Option, Result, Some, false, if◌then◌else◌, not, true, ℕ}
+use Rattle.std.specs.Prelude.{◌&&◌, Bool, Err, None, Ok, Option, Result, Some, false, if◌then◌else◌, not, true}
 use Rattle.wt_driver.specs.DriverValue.{DriverValue}
-use Rattle.wt_driver_spec.specs.DriverState.{DriverState}
 use Rattle.wt_message.specs.declared.settings.Settings.{Settings}
-use Rattle.wt_proto.specs.declared.verdict.Verdict.{Verdict}
-use Rattle.wt_proto.specs.declared.verdict.Verdict.TheVariants as verdicts
-use Rattle.wt_spec.specs.StreamTable.{ByFault, BySession, Classified, Ending}
+use Rattle.wt_spec.specs.StreamTable.{ByFault, BySession, Ending}
 use Rattle.wt_error.specs.declared.driver_error.DriverError.{DriverError}
 use Rattle.wt_error.specs.declared.driver_error.DriverError.TheVariants as errors
 use Rattle.wt_turn.specs.declared.poll.Poll.{Poll}
 use Rattle.wt_turn.specs.declared.poll.Poll.TheVariants.{Pending, Ready}
-use Rattle.wt_wire.specs.HeaderList.{Fields}
 
 -- ---- the ending
 
@@ -37,9 +32,3 @@ abbrev pub settings_or : Option Settings → Option DriverError → Poll (Result
 settings_or (Some settings) end = Ready (Ok settings)
 settings_or None (Some error) = Ready (Err error)
 settings_or None None = Pending
-
--- ---- the request that is queued
-
--- the queued requests, once SETTINGS came
-abbrev pub requests_now : DriverState → List Classified
-requests_now s = if s.progress.settings then s.dispatched.requests else []

@@ -4,9 +4,7 @@
 #![tactic(auto)]
 
 pub mod driver;
-pub mod scan;
-#[cfg(test)]
-mod tests;
+mod scan;
 
 pub use wt_channel::{bichannel, shared_result, utils};
 pub use wt_critical::{connect, qpack, settings};

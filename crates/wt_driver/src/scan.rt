@@ -26,7 +26,7 @@ use wt_wire::error::OutOfMemory;
 use wt_wire::ids::StreamId;
 
 /// So many slots a kind has.
-pub fn slots_of(half: Half) -> usize
+fn slots_of(half: Half) -> usize
     ensures { result ≡ slots_of half }
 {
     match half {
@@ -187,7 +187,7 @@ pub(crate) fn remove_at(slots: &mut VecDeque<Slot>, at: usize)
 }
 
 /// Scans the slots of a kind in order; behind the first few none is dequeued.
-pub fn scan(
+pub(crate) fn scan(
     inbox: &mut Inbox,
     half: Half,
     slots: &mut VecDeque<Slot>,

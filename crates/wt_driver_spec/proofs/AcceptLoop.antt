@@ -7,7 +7,7 @@ use Rattle.wt_driver_spec.proofs.Sending.{sent_at_once}
 use Rattle.wt_driver_spec.specs.AtOnce.{control_flushed, flushed}
 use Rattle.wt_driver_spec.specs.Bounds.{IsSized}
 use Rattle.wt_driver_spec.specs.DriverState.{DriverState}
-use Rattle.wt_driver_spec.specs.Due.{DriverRun, Due, DueRule, Outcome, give_or_pass_due, passing, run_action, run_from, run_moment, state_datagrams, state_streams, take_due, take_next}
+use Rattle.wt_driver_spec.specs.Due.{DriverRun, Due, DueRule, DueOutcome, give_or_pass_due, passing, run_action, begin_run, run_moment, state_datagrams, state_streams, take_due, take_next}
 use Rattle.wt_driver_spec.specs.Moment.{actions_if, flush_state, moment_actions, moment_state, scan_if}
 use Rattle.wt_driver_spec.specs.Step.{after_call, after_entry, release, scan_state}
 use Rattle.wt_message.specs.FixedBytes.{local_control_bytes}
@@ -83,7 +83,7 @@ module _ (t : TransportView) (session : ℕ) where
 
 -- ---- the loop
 
-module _ {S T : Type 0} (rule : DueRule S T) (n i : ℕ) (x : S) (whole : Outcome S T) (so_far : whole ≡ take_due rule (n - i) x) where
+module _ {S T : Type 0} (rule : DueRule S T) (n i : ℕ) (x : S) (whole : DueOutcome S T) (so_far : whole ≡ take_due rule (n - i) x) where
   next-look : i < n → whole ≡ take_next rule (λ u. take_due rule (n - suc i) u) x (rule.next x)
   next-look lt = so_far ∙ ap (λ m. take_due rule m x) (let e : n - i ≡ suc (n - suc i) = omega arith in e)
 
@@ -110,7 +110,7 @@ pub record OnlyAdds {T : Type 0} (rule : DueRule DriverRun T) : Type 0 where
   pub pass : (before : List Action) (item : T) (x : DriverRun) → rule.pass item (ahead before x) ≡ ahead before (rule.pass item x)
   pub give : (before : List Action) (item : T) (x : DriverRun) → rule.give item (ahead before x) ≡ ahead before (rule.give item x)
 
-abbrev pub outcome_ahead : {T : Type 0} → List Action → Outcome DriverRun T → Outcome DriverRun T
+abbrev pub outcome_ahead : {T : Type 0} → List Action → DueOutcome DriverRun T → DueOutcome DriverRun T
 outcome_ahead before x = record { state = ahead before x.state; given = x.given }
 
 module _ {T : Type 0} (rule : DueRule DriverRun T) (adds : OnlyAdds rule) (before : List Action) where
@@ -152,5 +152,5 @@ datagrams-add t session = record {
 
 -- a call that begins with these actions out leaves them in front of its own
 pub take-from : {T : Type 0} (rule : DueRule DriverRun T) → OnlyAdds rule → (before : List Action) (n : ℕ) (s : DriverState)
-    → take_due rule n (record { state = s; actions = before }) ≡ outcome_ahead before (take_due rule n (run_from s))
-take-from rule adds before n s = ap (λ (acts : List Action). take_due rule n (record { state = s; actions = acts })) (sym (append-nil before)) ∙ take-ahead rule adds before n (run_from s)
+    → take_due rule n (record { state = s; actions = before }) ≡ outcome_ahead before (take_due rule n (begin_run s))
+take-from rule adds before n s = ap (λ (acts : List Action). take_due rule n (record { state = s; actions = acts })) (sym (append-nil before)) ∙ take-ahead rule adds before n (begin_run s)

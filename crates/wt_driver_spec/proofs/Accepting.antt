@@ -6,7 +6,7 @@ use Rattle.wt_driver_spec.proofs.ClassifiedOnce.{found-in, in-classified, only-i
 use Rattle.wt_driver_spec.proofs.Following.{Sound, events-with, moment-fits, moment-followed, moment-out, out-followed, sound, view-with}
 use Rattle.wt_driver_spec.proofs.RestMoments.{moment-rests-open, quiet-call, quiet-call-rests, quiet-call-state}
 use Rattle.wt_driver_spec.specs.DriverState.{DriverState, state_of}
-use Rattle.wt_driver_spec.specs.Due.{CallFollowed, DriverRun, Due, DueRule, Outcome, accepted, due_datagram, due_stream, ending_error, give_or_pass_due, given_reply, log_datagrams, log_streams, outcome_effect, passing, received, reply_or, run_action, run_from, run_moment, state_accepted, state_datagrams, state_next_datagram, state_next_due, state_pending_or_failed, state_received, state_reply, state_streams, take_due, take_next}
+use Rattle.wt_driver_spec.specs.Due.{CallFollowed, DriverRun, Due, DueRule, DueOutcome, accepted, due_datagram, due_stream, ending_error, give_or_pass_due, given_reply, log_datagrams, log_streams, outcome_effect, passing, received, reply_or, run_action, begin_run, run_moment, state_accepted, state_datagrams, state_next_datagram, state_next_due, state_pending_or_failed, state_received, state_reply, state_streams, take_due, take_next}
 use Rattle.wt_driver_spec.specs.Moment.{Fits, MayCall, is_local, may_release, moment_actions, moment_state, names_session}
 use Rattle.wt_driver_spec.specs.Rest.{RestsWhileOpen, rested}
 use Rattle.wt_driver_spec.specs.Step.{after_entry}
@@ -93,7 +93,7 @@ pub record TracksAtRest (side : Side) (since log : Log) (x : DriverRun) : Type 0
   pub tracks : Tracks side since log x
   pub rests : RestsWhileOpen side log
 
-pub tracks-start : (side : Side) (log : Log) → Fits side log → RestsWhileOpen side log → TracksAtRest side log log (run_from (state_of side log))
+pub tracks-start : (side : Side) (log : Log) → Fits side log → RestsWhileOpen side log → TracksAtRest side log log (begin_run (state_of side log))
 tracks-start side log fits rests = record {
   tracks = record { state = refl; actions = refl; view = refl; events = refl; fits = fits };
   rests = rests;
@@ -131,7 +131,7 @@ module _ (side : Side) (since : Log) where
 -- ---- the loop, whatever is due
 
 module _ {T : Type 0} (side : Side) (since : Log) where
-  pub record OutcomeFollowed (a : Outcome Log T) (b : Outcome DriverRun T) : Type 0 where
+  pub record OutcomeFollowed (a : DueOutcome Log T) (b : DueOutcome DriverRun T) : Type 0 where
     pub tracks : TracksAtRest side since a.state b.state
     pub given : a.given ≡ b.given
 
@@ -142,13 +142,13 @@ module _ {T : Type 0} (side : Side) (since : Log) where
     pub give : (log : Log) (x : DriverRun) (d : Due T) → Tracks side since log x → w.next log ≡ Some d → TracksAtRest side since (w.give d.item log) (v.give d.item x)
 
   module _ (w : DueRule Log T) (v : DueRule DriverRun T) (alike : Alike w v) where
-    due-follows : (f : Log → Outcome Log T) (g : DriverRun → Outcome DriverRun T) → ((log : Log) (x : DriverRun) → TracksAtRest side since log x → OutcomeFollowed (f log) (g x))
+    due-follows : (f : Log → DueOutcome Log T) (g : DriverRun → DueOutcome DriverRun T) → ((log : Log) (x : DriverRun) → TracksAtRest side since log x → OutcomeFollowed (f log) (g x))
         → (log : Log) (x : DriverRun) (d : Due T) → TracksAtRest side since log x → w.next log ≡ Some d → (b : Bool)
         → OutcomeFollowed (give_or_pass_due b w f d.item log) (give_or_pass_due b v g d.item x)
     due-follows f g again log x d t e true = record { tracks = alike.give log x d t.tracks e; given = refl }
     due-follows f g again log x d t e false = again (w.pass d.item log) (v.pass d.item x) (alike.pass log x d t.tracks e)
 
-    next-follows : (f : Log → Outcome Log T) (g : DriverRun → Outcome DriverRun T) → ((log : Log) (x : DriverRun) → TracksAtRest side since log x → OutcomeFollowed (f log) (g x))
+    next-follows : (f : Log → DueOutcome Log T) (g : DriverRun → DueOutcome DriverRun T) → ((log : Log) (x : DriverRun) → TracksAtRest side since log x → OutcomeFollowed (f log) (g x))
         → (log : Log) (x : DriverRun) → TracksAtRest side since log x → (o : Option (Due T)) → w.next log ≡ o → OutcomeFollowed (take_next w f log o) (take_next v g x o)
     next-follows f g again log x t None e = record { tracks = t; given = refl }
     next-follows f g again log x t (Some d) e = due-follows f g again log x d t e d.is_own
@@ -235,13 +235,13 @@ module _ {T : Type 0} (side : Side) (log : Log) (reply : T → Reply) where
   reply-same later s e is (Some item) = refl
   reply-same later s e is None = pending-same later s e is
 
-  given-same : (a : Outcome Log T) (b : Outcome DriverRun T) → OutcomeFollowed side log a b → given_reply side reply a ≡ state_reply reply (transport_error log) b
+  given-same : (a : DueOutcome Log T) (b : DueOutcome DriverRun T) → OutcomeFollowed side log a b → given_reply side reply a ≡ state_reply reply (transport_error log) b
   given-same a b f =
       ap (reply_or reply (pending_or_failed side a.state)) f.given
       ∙ reply-same a.state b.state.state f.tracks.tracks.events f.tracks.tracks.state b.given
 
   -- the poll that ends the call leaves all at rest
-  pub call-followed : (a : Outcome Log T) (b : Outcome DriverRun T) → OutcomeFollowed side log a b → CallFollowed side log (outcome_effect side reply a) reply b
+  pub call-followed : (a : DueOutcome Log T) (b : DueOutcome DriverRun T) → OutcomeFollowed side log a b → CallFollowed side log (outcome_effect side reply a) reply b
   call-followed a b f =
       let t = f.tracks.tracks in
       let alone : log_and_flush side a.state (Called Polled) ≡ Called Polled ∷ a.state = quiet-call side a.state Polled tt t.fits refl f.tracks.rests in
@@ -261,7 +261,7 @@ accept-follows side reply kind log session fits rests =
     rw (accept-is side reply kind session (suc (peer_count side (events_of log) kind)) log)
     (call-followed side log reply (accepted side kind log session) (state_accepted (transport_view side log) kind (peer_count side (events_of log) kind) (state_of side log) session)
     (take-follows side log (log_streams side kind session) (state_streams (transport_view side log) kind session) (streams-alike side log kind session)
-    (suc (peer_count side (events_of log) kind)) log (run_from (state_of side log)) (tracks-start side log fits rests)))
+    (suc (peer_count side (events_of log) kind)) log (begin_run (state_of side log)) (tracks-start side log fits rests)))
 
 -- A receive of a datagram likewise.
 pub receive-follows : (side : Side) (log : Log) (session : ℕ) → Fits side log → RestsWhileOpen side log
@@ -270,4 +270,4 @@ receive-follows side log session fits rests =
     rw (receive-is side session (suc (length (datagrams_of (events_of log)))) log)
     (call-followed side log (payload_reply side session) (received side log session) (state_received (transport_view side log) (length (datagrams_of (events_of log))) (state_of side log) session)
     (take-follows side log (log_datagrams side session) (state_datagrams (transport_view side log) session) (datagrams-alike side log session)
-    (suc (length (datagrams_of (events_of log)))) log (run_from (state_of side log)) (tracks-start side log fits rests)))
+    (suc (length (datagrams_of (events_of log)))) log (begin_run (state_of side log)) (tracks-start side log fits rests)))

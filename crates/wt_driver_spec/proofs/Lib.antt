@@ -15,6 +15,7 @@ pub mod Turns
 pub mod DistinctSlots
 pub mod ScanLoop
 pub mod AcceptLoop
+pub mod Dequeues
 pub mod Theorems
 pub mod ControlStream
 pub mod Asked

@@ -8,7 +8,7 @@ use Rattle.wt_driver_spec.specs.Step.{Known, Scanned, after_slots, classify_slot
 use Rattle.wt_proto.specs.Uni.{is_final}
 use Rattle.wt_proto.specs.declared.verdict.Verdict.{Verdict}
 use Rattle.wt_spec.specs.Scan.{Scan, SlotRule, classify, dequeue, has, is_released, occupied, scan, unless_ended, visit, with_dequeued}
-use Rattle.wt_spec.specs.StreamTable.{CallView, Classified, Consequence, Dispatched, Ending, StreamTable, awaits_accept, awaits_delivery, control_offset, decoder_offset, dispatched, encoder_offset, first_at, is_request, is_webtransport, kept_if, only, or_later, paired, verdict_of}
+use Rattle.wt_spec.specs.StreamTable.{CallView, Classified, Consequence, Dispatched, Ending, StreamTable, awaits_accept, awaits_delivery, control_start, decoder_start, dispatched, encoder_start, first_at, is_request, is_webtransport, kept_if, only, or_later, paired, verdict_of}
 use Rattle.wt_proto.specs.declared.verdict.Verdict.TheVariants as verdicts
 
 -- ---- lists of ids
@@ -36,7 +36,7 @@ IsDistinct (k ∷ ks) = (has k ks ≡ false) × IsDistinct ks
 
 -- ---- what is dequeued and classified after one more
 
-dequeued-here : (k : ℕ) (xs : List ℕ) → has k (cond (has k xs) xs (k ∷ xs)) ≡ true
+pub dequeued-here : (k : ℕ) (xs : List ℕ) → has k (cond (has k xs) xs (k ∷ xs)) ≡ true
 dequeued-here k xs = by (has k xs) refl
   where
     by : (b : Bool) → has k xs ≡ b → has k (cond b xs (k ∷ xs)) ≡ true
@@ -50,7 +50,7 @@ dequeued-other k j xs ne = by (has k xs)
     by true = refl
     by false = rw ne refl
 
-dequeued-stays : (k j : ℕ) (xs : List ℕ) → has j xs ≡ true → has j (cond (has k xs) xs (k ∷ xs)) ≡ true
+pub dequeued-stays : (k j : ℕ) (xs : List ℕ) → has j xs ≡ true → has j (cond (has k xs) xs (k ∷ xs)) ≡ true
 dequeued-stays k j xs e = by (has k xs)
   where
     by : (b : Bool) → has j (cond b xs (k ∷ xs)) ≡ true
@@ -143,9 +143,9 @@ is_queued c = is_request c.verdict && not c.surplus
 -- one more among those that are dispatched, whatever its verdict
 abbrev added : Dispatched → Classified → Dispatched
 added o r = record {
-  control = or_later o.control (paired r.id (control_offset r.verdict));
-  encoder = or_later o.encoder (paired r.id (encoder_offset r.verdict));
-  decoder = or_later o.decoder (paired r.id (decoder_offset r.verdict));
+  control = or_later o.control (paired r.id (control_start r.verdict));
+  encoder = or_later o.encoder (paired r.id (encoder_start r.verdict));
+  decoder = or_later o.decoder (paired r.id (decoder_start r.verdict));
   requests = o.requests ++ kept_if (is_queued r) r;
   waiting = o.waiting ++ kept_if (is_webtransport r.verdict) r;
 }
@@ -187,9 +187,9 @@ dispatched-append d rs r l g = whole ∙ added-by (dispatched d rs) r.id r.verdi
 
     whole : dispatched d (rs ++ r ∷ []) ≡ added (dispatched d rs) r
     whole = λ i. record {
-      control = first-append control_offset rs r i;
-      encoder = first-append encoder_offset rs r i;
-      decoder = first-append decoder_offset rs r i;
+      control = first-append control_start rs r i;
+      encoder = first-append encoder_start rs r i;
+      decoder = first-append decoder_start rs r i;
       requests = queued i;
       waiting = waits i;
     }
@@ -233,7 +233,7 @@ module _ (ready : Bool) (d : CallView) (rule : SlotRule) where
       let same = classify-same (is_final (rule.verdict k)) k j (record p { table = with_dequeued k p.table }) ne in
       record { dequeued = same.dequeued ∙ dequeued-other k j p.table.dequeued ne; classified = same.classified }
 
-  visit-same : (o : Option Verdict) (k j : ℕ) (p : Scan) → (k == j) ≡ false → Same j p.table (visit ready d rule k o p).table
+  pub visit-same : (o : Option Verdict) (k j : ℕ) (p : Scan) → (k == j) ≡ false → Same j p.table (visit ready d rule k o p).table
   visit-same (Some v) k j p ne = record { dequeued = refl; classified = refl }
   visit-same None k j p ne = dequeue-same (has k p.table.dequeued || (ready && nat_lt p.occupied rule.slots)) k j p ne
 

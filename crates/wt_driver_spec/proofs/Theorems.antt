@@ -13,7 +13,7 @@ use Rattle.wt_driver_spec.specs.Bounds.{Bounded, HasDistinctSlots}
 use Rattle.wt_driver_spec.specs.Claims.{AcceptFollows, ByteRests, DequeuedAsk, IsOnce, MomentFollows, NothingLeft, ReceiveFollows, RestsOn, StreamsStay}
 use Rattle.wt_driver_spec.specs.DriverState.{state_of}
 use Rattle.wt_driver_spec.specs.Moment.{Fits, MayCall, MayFollow}
-use Rattle.wt_driver_spec.specs.Rest.{AtRest, DriverFacts, IsQuiet, RestsWhileOpen}
+use Rattle.wt_driver_spec.specs.Rest.{AtRest, FitsAndRests, IsQuiet, RestsWhileOpen}
 use Rattle.wt_driver_spec.specs.Step.{after_call}
 use Rattle.wt_seam_spec.specs.Streams.{contents}
 use Rattle.wt_spec.specs.Driver.{call_view, is_moment, log_and_flush, stream_table, transport_view}
@@ -26,13 +26,13 @@ use Rattle.wt_wire.specs.declared.side.Side.{Side}
 pub moment_theorem : (side : Side) (log : Log) (e : Entry) → MayFollow side log e → Fits side log → MomentFollows side log e
 moment_theorem side log e may fits = record { state = moment-followed side log e may fits; actions = moment-out side log e may fits }
 
-pub accept_theorem : (side : Side) (log : Log) (reply : ℕ → Reply) (kind session : ℕ) → DriverFacts side log → AcceptFollows side log reply kind session
+pub accept_theorem : (side : Side) (log : Log) (reply : ℕ → Reply) (kind session : ℕ) → FitsAndRests side log → AcceptFollows side log reply kind session
 accept_theorem side log reply kind session facts = accept-follows side reply kind log session facts.fits facts.rests
 
-pub receive_theorem : (side : Side) (log : Log) (session : ℕ) → DriverFacts side log → ReceiveFollows side log session
+pub receive_theorem : (side : Side) (log : Log) (session : ℕ) → FitsAndRests side log → ReceiveFollows side log session
 receive_theorem side log session facts = receive-follows side log session facts.fits facts.rests
 
-pub nothing_theorem : (side : Side) (log : Log) (session : ℕ) → DriverFacts side log → NothingLeft side log session
+pub nothing_theorem : (side : Side) (log : Log) (session : ℕ) → FitsAndRests side log → NothingLeft side log session
 nothing_theorem side log session facts = record {
   unis = accept-uni-ends side log session facts.fits;
   bis = accept-bi-ends side log session facts.fits;
@@ -42,7 +42,7 @@ nothing_theorem side log session facts = record {
 pub rest_theorem : (side : Side) (log : Log) (e : Entry) → MayFollow side log e → Fits side log → is_moment e ≡ true → RestsWhileOpen side (log_and_flush side log e)
 rest_theorem side log e may fits is = moment-rests-open side log e may fits is
 
-pub call_theorem : (side : Side) (log : Log) (r : CallRecord) → MayCall side log r → DriverFacts side log → after_call r (state_of side log) ≡ state_of side log → RestsOn side log (Called r)
+pub call_theorem : (side : Side) (log : Log) (r : CallRecord) → MayCall side log r → FitsAndRests side log → after_call r (state_of side log) ≡ state_of side log → RestsOn side log (Called r)
 call_theorem side log r may facts e = record {
   alone = quiet-call side log r may facts.fits e facts.rests;
   state = quiet-call-state side log r may facts.fits e facts.rests;

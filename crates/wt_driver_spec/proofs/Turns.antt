@@ -14,7 +14,7 @@ use Rattle.wt_driver_spec.proofs.Following.{actions-fit, moment-fits, sound}
 use Rattle.wt_driver_spec.proofs.RestMoments.{moment-rests-open, start-rests}
 use Rattle.wt_driver_spec.proofs.ScanSlots.{left}
 use Rattle.wt_driver_spec.specs.Moment.{Fits, MayCall, MayFollow, is_local, names_session}
-use Rattle.wt_driver_spec.specs.Rest.{DriverFacts}
+use Rattle.wt_driver_spec.specs.Rest.{FitsAndRests}
 use Rattle.wt_message.specs.Datagram.{datagram_bytes}
 use Rattle.wt_proto.specs.ResponseWalk.{response_walk_of}
 use Rattle.wt_proto.specs.declared.response_walk.ResponseWalk.{ResponseWalk}
@@ -29,7 +29,7 @@ use Rattle.wt_spec.specs.Connect.{address_of, authority_of, connect, connect_to,
 use Rattle.wt_spec.specs.Connection.{accept_stream, datagram_allowed, datagram_within, ends_opening, is_opening, open_stream, poll_opening, receive_datagram, send_datagram, send_header, starts_opening, stream_header}
 use Rattle.wt_spec.specs.Driver.{call_view, established, flush, is_moment, log_and_flush, settings_came, stream_table}
 use Rattle.wt_spec.specs.Effect.{Effect, closing, driver_error, head_left, is_covered, is_empty, log_call, poll_sending, reply_with, transport_error}
-use Rattle.wt_spec.specs.Halves.{all_written_reply, exact_at_end, finishing, has_receiving_half, has_sending_half, is_done, on_half, read, read_exact, read_reply, reset, set_priority, take_bytes, unread, write_by, write_error, written_reply}
+use Rattle.wt_spec.specs.Halves.{all_written_reply, exact_at_end, finishing, has_receiving_half, has_sending_half, is_done, on_half, read, read_exact, read_reply, reset, set_priority, take_bytes, unread_body, write_by, write_error, written_reply}
 use Rattle.wt_spec.specs.Handshake.{Connecting, HandshakeState, Responding, accept_response, await_or_fail, await_response, continue_by, establish, fail_handshake, handshake_state, has_success, incoming, is_refused, open_request, queued_requests, read_response, reject_response, requested, respond, send_request, start_response, unless_reserved}
 use Rattle.wt_spec.specs.StreamTable.{Classified, awaits_delivery, dispatched, verdict_of}
 use Rattle.wt_turn.specs.Log.{Acked, BytesRead, CallRecord, Called, ConnectStarted, Connected, Datagram, DatagramLimit, End, Entry, Event, HandshakeOver, Log, Loss, MaxBi, MaxData, MaxUni, OpeningFailed, OpeningStarted, PeerBi, PeerUni, Polled, PrioritySet, Received, Reported, RequestDelivered, Reset, ResetUnsent, ResponseStarted, SessionEstablished, Stop, StreamAccepted, StreamGivenUp, actions_of, calls_of, events_of, is_open, with_actions}
@@ -62,9 +62,9 @@ use Rattle.wt_turn.specs.declared.reply.Reply.TheVariants as replies
 
 -- the log of the effect has what a driver asks
 pub record Leads (side : Side) (effect : Effect) : Type 0 where
-  pub facts : DriverFacts side effect.log
+  pub facts : FitsAndRests side effect.log
 
-pub called-facts : (side : Side) (log : Log) (own : List Action) (r : CallRecord) → MayCall side (with_actions own log) r → Fits side log → DriverFacts side (log_call side log own r)
+pub called-facts : (side : Side) (log : Log) (own : List Action) (r : CallRecord) → MayCall side (with_actions own log) r → Fits side log → FitsAndRests side (log_call side log own r)
 called-facts side log own r may fits =
     let before = actions-fit side own log fits in
     record {
@@ -96,7 +96,7 @@ openings-local side (Called (OpeningStarted id session) ∷ log) k fits e = by (
 openings-local side (Called _ ∷ log) k fits e = openings-local side log k fits.1 e
 openings-local side (_ ∷ log) k fits e = openings-local side log k fits.1 e
 
-module _ (side : Side) (log : Log) (held : DriverFacts side log) where
+module _ (side : Side) (log : Log) (held : FitsAndRests side log) where
   abbrev fitting : Fits side log
   fitting = held.fits
 
@@ -182,16 +182,16 @@ module _ (side : Side) (log : Log) (held : DriverFacts side log) where
   taken-leads k bytes reply = called-leads side log [] (BytesRead k (length bytes)) tt fitting
 
   read-leads : (k size : ℕ) → Leads side (read side log k size)
-  read-leads k size = either side (size == 0) _ _ (polls [] _) (by (unread side log k))
+  read-leads k size = either side (size == 0) _ _ (polls [] _) (by (unread_body side log k))
     where
       by : (bytes : List ℕ) → Leads side (read_reply side log k size bytes)
       by [] = polls [] _
       by (b ∷ bytes) = taken-leads k _ _
 
   exact-leads : (k size : ℕ) → Leads side (read_exact side log k size)
-  exact-leads k size = either side (nat_lt (length (unread side log k)) size) _ _ (by (end_of (events_of log) k)) (taken-leads k _ _)
+  exact-leads k size = either side (nat_lt (length (unread_body side log k)) size) _ _ (by (end_of (events_of log) k)) (taken-leads k _ _)
     where
-      by : (e : StreamEnd) → Leads side (exact_at_end side log k (unread side log k) e)
+      by : (e : StreamEnd) → Leads side (exact_at_end side log k (unread_body side log k) e)
       by ends.Running = polls [] _
       by ends.Fin = taken-leads k _ _
       by (ends.Reset code) = polls [] _
@@ -350,27 +350,27 @@ module _ (side : Side) (log : Log) (held : DriverFacts side log) where
 
 -- ---- each turn
 
-moment-leads : (side : Side) (log : Log) (m : Entry) → MayFollow side log m → is_moment m ≡ true → DriverFacts side log → DriverFacts side (log_and_flush side log m)
+moment-leads : (side : Side) (log : Log) (m : Entry) → MayFollow side log m → is_moment m ≡ true → FitsAndRests side log → FitsAndRests side (log_and_flush side log m)
 moment-leads side log m may is facts = record { fits = moment-fits side log m may facts.fits; rests = moment-rests-open side log m may facts.fits is }
 
-event-leads : (side : Side) (log : Log) (e : Event) → DriverFacts side log → DriverFacts side (flush side (log_event log e))
+event-leads : (side : Side) (log : Log) (e : Event) → FitsAndRests side log → FitsAndRests side (flush side (log_event log e))
 unfolding flush
 event-leads side log e facts = by (is_open log) refl
   where
-    by : (b : Bool) → is_open log ≡ b → DriverFacts side (log_and_flush side log (event_entry b e))
+    by : (b : Bool) → is_open log ≡ b → FitsAndRests side (log_and_flush side log (event_entry b e))
     by true o = moment-leads side log (Reported e) tt refl facts
     by false o = record { fits = (tt, facts.fits); rests = λ p. absurd (true≢false (sym p ∙ o)) }
 
-pub bytes-lead : (side : Side) (bytes : List ℕ) (log : Log) (k : ℕ) → DriverFacts side log → DriverFacts side (receive side log k bytes)
+pub bytes-lead : (side : Side) (bytes : List ℕ) (log : Log) (k : ℕ) → FitsAndRests side log → FitsAndRests side (receive side log k bytes)
 bytes-lead side [] log k facts = facts
 bytes-lead side (b ∷ bytes) log k facts = bytes-lead side bytes (if is_open log then log_and_flush side log (Received k b) else log) k (by (is_open log))
   where
-    by : (o : Bool) → DriverFacts side (if o then log_and_flush side log (Received k b) else log)
+    by : (o : Bool) → FitsAndRests side (if o then log_and_flush side log (Received k b) else log)
     by true = moment-leads side log (Received k b) tt refl facts
     by false = facts
 
 -- What holds as far as a driver is concerned holds behind each turn.
-pub turn-leads : (side : Side) (log : Log) (turn : Turn) → DriverFacts side log → DriverFacts side (log_after side log turn)
+pub turn-leads : (side : Side) (log : Log) (turn : Turn) → FitsAndRests side log → FitsAndRests side (log_after side log turn)
 turn-leads side log (turns.Bytes id piece) facts = bytes-lead side piece log id facts
 turn-leads side log (turns.Call call) facts = (call-leads side log facts call).facts
 turn-leads side log (turns.Connected uni bi credit fact) facts = event-leads side log (Connected uni bi credit fact) facts
@@ -387,21 +387,21 @@ turn-leads side log (turns.MaxData id total) facts = event-leads side log (MaxDa
 turn-leads side log (turns.DatagramLimit fact) facts = event-leads side log (DatagramLimit fact) facts
 turn-leads side log (turns.Loss reason) facts = event-leads side log (Loss reason) facts
 
-pub start-leads : (side : Side) → DriverFacts side []
+pub start-leads : (side : Side) → FitsAndRests side []
 start-leads side = record { fits = tt; rests = start-rests side }
 
 -- And so it holds of every log that turns lead to.
-pub turns-lead : (side : Side) (all : List Turn) (log : Log) → DriverFacts side log → DriverFacts side (log_from side log all)
+pub turns-lead : (side : Side) (all : List Turn) (log : Log) → FitsAndRests side log → FitsAndRests side (log_from side log all)
 turns-lead side [] log facts = facts
 turns-lead side (turn ∷ later) log facts = turns-lead side later (log_after side log turn) (turn-leads side log turn facts)
 
 -- ---- as they are claimed
 
-pub start_theorem : (side : Side) → DriverFacts side []
+pub start_theorem : (side : Side) → FitsAndRests side []
 start_theorem side = start-leads side
 
-pub turn_theorem : (side : Side) (log : Log) (turn : Turn) → DriverFacts side log → DriverFacts side (log_after side log turn)
+pub turn_theorem : (side : Side) (log : Log) (turn : Turn) → FitsAndRests side log → FitsAndRests side (log_after side log turn)
 turn_theorem side log turn facts = turn-leads side log turn facts
 
-pub turns_theorem : (side : Side) (all : List Turn) → DriverFacts side (log_from side [] all)
+pub turns_theorem : (side : Side) (all : List Turn) → FitsAndRests side (log_from side [] all)
 turns_theorem side all = turns-lead side all [] (start-leads side)

@@ -4,7 +4,7 @@ use Rattle.std.specs.Prelude.{[], ◌++◌, ◌∷◌, Bool, List, None, Option,
 use Rattle.wt_proto.specs.declared.verdict.Verdict.{Verdict}
 use Rattle.wt_spec.specs.Driver.{ControlSent, call_view, control_sent, stream_table, transport_view}
 use Rattle.wt_spec.specs.Scan.{bi_ids, has, is_released, uni_ids}
-use Rattle.wt_spec.specs.StreamTable.{CallView, Dispatched, Progress, StreamTable, TransportView, dispatched, verdict_of}
+use Rattle.wt_spec.specs.StreamTable.{CallView, Classified, Dispatched, Progress, StreamTable, TransportView, dispatched, verdict_of}
 use Rattle.wt_turn.specs.Log.{Log, is_open}
 use Rattle.wt_wire.specs.declared.side.Side.{Side}
 
@@ -60,3 +60,7 @@ state_by t calls sent open_ table = record {
 -- what a driver keeps of a log
 unfoldable pub state_of : Side → Log → DriverState
 state_of side log = state_by (transport_view side log) (call_view log) (control_sent side log) (is_open log) (stream_table side log)
+
+-- the queued requests, once SETTINGS came
+abbrev pub requests_now : DriverState → List Classified
+requests_now s = if s.progress.settings then s.dispatched.requests else []

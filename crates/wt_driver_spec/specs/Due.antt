@@ -37,22 +37,22 @@ pub record DueRule (S T : Type 0) : Type 0 where
   pub give : T → S → S
 
 -- what a call leads to
-pub record Outcome (S T : Type 0) : Type 0 where
+pub record DueOutcome (S T : Type 0) : Type 0 where
   pub state : S
   pub given : Option T
 
 -- an item of the session is given, another one passed
-abbrev pub give_or_pass_due : {S T : Type 0} → Bool → DueRule S T → (S → Outcome S T) → T → S → Outcome S T
+abbrev pub give_or_pass_due : {S T : Type 0} → Bool → DueRule S T → (S → DueOutcome S T) → T → S → DueOutcome S T
 give_or_pass_due true rule again item s = record { state = rule.give item s; given = Some item }
 give_or_pass_due false rule again item s = again (rule.pass item s)
 
 -- by what is next
-abbrev pub take_next : {S T : Type 0} → DueRule S T → (S → Outcome S T) → S → Option (Due T) → Outcome S T
+abbrev pub take_next : {S T : Type 0} → DueRule S T → (S → DueOutcome S T) → S → Option (Due T) → DueOutcome S T
 take_next rule again s None = record { state = s; given = None }
 take_next rule again s (Some due) = give_or_pass_due due.is_own rule again due.item s
 
 -- it looks again behind each item that it passes, at most so many times
-abbrev pub take_due : {S T : Type 0} → DueRule S T → ℕ → S → Outcome S T
+abbrev pub take_due : {S T : Type 0} → DueRule S T → ℕ → S → DueOutcome S T
 take_due rule zero s = record { state = s; given = None }
 take_due rule (suc n) s = take_next rule (λ u. take_due rule n u) s (rule.next s)
 
@@ -87,11 +87,11 @@ log_datagrams side session = record {
 }
 
 -- the stream that an accept gives, and the log before its poll
-abbrev pub accepted : Side → ℕ → Log → ℕ → Outcome Log ℕ
+abbrev pub accepted : Side → ℕ → Log → ℕ → DueOutcome Log ℕ
 accepted side kind log session = take_due (log_streams side kind session) (suc (peer_count side (events_of log) kind)) log
 
 -- the payload that a receive gives, and the log before its poll
-abbrev pub received : Side → Log → ℕ → Outcome Log (List ℕ)
+abbrev pub received : Side → Log → ℕ → DueOutcome Log (List ℕ)
 received side log session = take_due (log_datagrams side session) (suc (length (datagrams_of (events_of log)))) log
 
 -- the reply to what was given, or else this one
@@ -100,11 +100,11 @@ reply_or reply other None = other
 reply_or reply other (Some item) = reply item
 
 -- the reply to what was given; without it the call waits or fails
-abbrev pub given_reply : {T : Type 0} → Side → (T → Reply) → Outcome Log T → Reply
+abbrev pub given_reply : {T : Type 0} → Side → (T → Reply) → DueOutcome Log T → Reply
 given_reply side reply x = reply_or reply (pending_or_failed side x.state) x.given
 
 -- the effect of a call that gives
-abbrev pub outcome_effect : {T : Type 0} → Side → (T → Reply) → Outcome Log T → Effect
+abbrev pub outcome_effect : {T : Type 0} → Side → (T → Reply) → DueOutcome Log T → Effect
 outcome_effect side reply x = poll_only side x.state (given_reply side reply x)
 
 -- ---- what is told where nothing is given
@@ -163,25 +163,25 @@ state_datagrams t session = record {
 }
 
 -- a call begins
-abbrev pub run_from : DriverState → DriverRun
-run_from s = record { state = s; actions = [] }
+abbrev pub begin_run : DriverState → DriverRun
+begin_run s = record { state = s; actions = [] }
 
 -- the stream that an accept gives, by what is kept
-abbrev pub state_accepted : TransportView → ℕ → ℕ → DriverState → ℕ → Outcome DriverRun ℕ
-state_accepted t kind count s session = take_due (state_streams t kind session) (suc count) (run_from s)
+abbrev pub state_accepted : TransportView → ℕ → ℕ → DriverState → ℕ → DueOutcome DriverRun ℕ
+state_accepted t kind count s session = take_due (state_streams t kind session) (suc count) (begin_run s)
 
 -- the payload that a receive gives, by what is kept and how many datagrams came
-abbrev pub state_received : TransportView → ℕ → DriverState → ℕ → Outcome DriverRun (List ℕ)
-state_received t count s session = take_due (state_datagrams t session) (suc count) (run_from s)
+abbrev pub state_received : TransportView → ℕ → DriverState → ℕ → DueOutcome DriverRun (List ℕ)
+state_received t count s session = take_due (state_datagrams t session) (suc count) (begin_run s)
 
 -- the reply to what was given, by what is kept; without it the call waits or fails
-abbrev pub state_reply : {T : Type 0} → (T → Reply) → ConnectionError → Outcome DriverRun T → Reply
+abbrev pub state_reply : {T : Type 0} → (T → Reply) → ConnectionError → DueOutcome DriverRun T → Reply
 state_reply reply error x = reply_or reply (state_pending_or_failed error x.state.state) x.given
 
 -- ---- a call on what is kept follows the call on the log
 
 -- after a log: what is kept of the later log, what went out since, and the reply
-pub record CallFollowed {T : Type 0} (side : Side) (log : Log) (effect : Effect) (reply : T → Reply) (x : Outcome DriverRun T) : Type 0 where
+pub record CallFollowed {T : Type 0} (side : Side) (log : Log) (effect : Effect) (reply : T → Reply) (x : DueOutcome DriverRun T) : Type 0 where
   pub state : state_of side effect.log ≡ rested x.state.state
   pub actions : actions_of effect.log ≡ newest_first x.state.actions (actions_of log)
   pub reply_is : effect.reply ≡ state_reply reply (transport_error log) x

@@ -6,5 +6,6 @@ pub mod Bounds
 pub mod AtOnce
 pub mod Rest
 pub mod Claims
+pub mod Dequeued
 pub mod Uses
 pub mod Asking

@@ -42,7 +42,7 @@ abbrev pub RestsWhileOpen : Side → Log → Type 0
 RestsWhileOpen side log = is_open log ≡ true → AtRest side log
 
 -- what holds of every log that turns lead to, as far as a driver is concerned: each entry might follow, and all is at rest
-pub record DriverFacts (side : Side) (log : Log) : Type 0 where
+pub record FitsAndRests (side : Side) (log : Log) : Type 0 where
   pub fits : Fits side log
   pub rests : RestsWhileOpen side log
 

@@ -179,18 +179,18 @@ release id s = record s {
 }
 
 -- a request is delivered
-abbrev pub deliver : ℕ → DriverState → DriverState
-deliver id s = record s { dispatched = record s.dispatched { requests = only (is_other id) s.dispatched.requests } }
+abbrev pub remove_request : ℕ → DriverState → DriverState
+remove_request id s = record s { dispatched = record s.dispatched { requests = only (is_other id) s.dispatched.requests } }
 
 -- a stream that the peer opened
 abbrev pub new_slot : ℕ → Slot
 new_slot id = record { id = id; place = Arrived }
 
 -- an event, by what the transport told before it
-abbrev pub after_event : TransportView → Event → DriverState → DriverState
-after_event t PeerUni s = record s { unis = s.unis ++ new_slot (4 * t.unis + peer_uni t.side) ∷ [] }
-after_event t PeerBi s = record s { bis = s.bis ++ new_slot (4 * t.bis + peer_bi t.side) ∷ [] }
-after_event t _ s = s
+abbrev pub with_arrival : TransportView → Event → DriverState → DriverState
+with_arrival t PeerUni s = record s { unis = s.unis ++ new_slot (4 * t.unis + peer_uni t.side) ∷ [] }
+with_arrival t PeerBi s = record s { bis = s.bis ++ new_slot (4 * t.bis + peer_bi t.side) ∷ [] }
+with_arrival t _ s = s
 
 -- what a call did
 abbrev pub after_call : CallRecord → DriverState → DriverState
@@ -198,13 +198,13 @@ after_call (StreamAccepted id) s = release id s
 after_call (StreamPassed id) s = release id s
 after_call DatagramReceived s = record s { datagrams = s.datagrams + 1 }
 after_call DatagramPassed s = record s { datagrams = s.datagrams + 1 }
-after_call (RequestDelivered id) s = deliver id s
+after_call (RequestDelivered id) s = remove_request id s
 after_call (SessionEstablished id at) s = record s { session = Some (id, at) }
 after_call _ s = s
 
 -- an entry, by its kind
 abbrev pub after_kind : TransportView → Entry → DriverState → DriverState
-after_kind t (Reported e) s = after_event t e s
+after_kind t (Reported e) s = with_arrival t e s
 after_kind t (Called r) s = after_call r s
 after_kind t (Sent a) s = record s { control_sent = control_after (local_uni t.side) a s.control_sent }
 after_kind t _ s = s

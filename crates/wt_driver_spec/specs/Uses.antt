@@ -5,7 +5,7 @@ use Rattle.wt_proto.specs.declared.verdict.Verdict.{Verdict}
 use Rattle.wt_seam_spec.specs.Reports.{datagrams_of}
 use Rattle.wt_seam_spec.specs.Streams.{local_bi, local_count, peer_bi, peer_uni}
 use Rattle.wt_spec.specs.Driver.{established, settled_datagrams, stream_table}
-use Rattle.wt_spec.specs.Halves.{is_accepted, unread}
+use Rattle.wt_spec.specs.Halves.{is_accepted, unread_body}
 use Rattle.wt_spec.specs.Handshake.{awaits_answer, handshake_state}
 use Rattle.wt_spec.specs.StreamTable.{Classified, is_webtransport}
 use Rattle.wt_turn.specs.Log.{BytesRead, CallRecord, Called, ConnectStarted, DatagramPassed, DatagramReceived, Entry, HandshakeOver, Log, OpeningStarted, RequestDelivered, ResponseStarted, SessionEstablished, StreamAccepted, StreamGivenUp, StreamPassed, actions_of, calls_of, events_of}
@@ -131,7 +131,7 @@ MayUse side log (SessionEstablished id at) = (session_at side (role_of side id) 
 MayUse side log (StreamAccepted id) = (may_give (role_of side id) (classified_of id (stream_table side log).classified) ≡ true) × (list_any (passes id) (calls_of log) ≡ false)
 MayUse side log (StreamPassed id) = (is_sessions (classified_of id (stream_table side log).classified) ≡ true) × (is_accepted log id ≡ false)
 MayUse side log (OpeningStarted id session) = may_give (role_of side id) None ≡ true
-MayUse side log (BytesRead id count) = (is_for_application (role_of side id) (classified_of id (stream_table side log).classified) ≡ true) × (count ≤ length (unread side log id))
+MayUse side log (BytesRead id count) = (is_for_application (role_of side id) (classified_of id (stream_table side log).classified) ≡ true) × (count ≤ length (unread_body side log id))
 MayUse side log (StreamGivenUp id) = is_for_application (role_of side id) (classified_of id (stream_table side log).classified) ≡ true
 MayUse side log DatagramReceived = settled_datagrams (calls_of log) < length (datagrams_of (events_of log))
 MayUse side log DatagramPassed = settled_datagrams (calls_of log) < length (datagrams_of (events_of log))

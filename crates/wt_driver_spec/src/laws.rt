@@ -2,9 +2,10 @@
 ghost use Rattle.std.specs.Prelude.{◌&&◌, ◌≡◌, ◌∷◌, ℕ, List, [], None, true};
 ghost use Rattle.wt_driver_spec.specs.Bounds.{Bounded, HasDistinctSlots};
 ghost use Rattle.wt_driver_spec.specs.Claims.{AcceptFollows, ByteRests, DequeuedAsk, IsOnce, MomentFollows, NothingLeft, ReceiveFollows, RestsOn, StreamsStay};
+ghost use Rattle.wt_driver_spec.specs.Dequeued.{StreamsDequeued};
 ghost use Rattle.wt_driver_spec.specs.DriverState.{state_of};
 ghost use Rattle.wt_driver_spec.specs.Moment.{Fits, MayCall, MayFollow};
-ghost use Rattle.wt_driver_spec.specs.Rest.{AtRest, DriverFacts, IsQuiet, RestsWhileOpen};
+ghost use Rattle.wt_driver_spec.specs.Rest.{AtRest, FitsAndRests, IsQuiet, RestsWhileOpen};
 ghost use Rattle.wt_driver_spec.specs.Step.{after_call};
 ghost use Rattle.wt_seam_spec.specs.Streams.{contents};
 ghost use Rattle.wt_spec.specs.Answers.{log_after, log_from};
@@ -20,9 +21,9 @@ ghost use Rattle.wt_wire.specs.declared.side.Side.{Side};
 /// before it, and all is at rest while the connection is open.
 #[tactic(auto, using(crate::proofs::Turns::start_theorem, crate::proofs::Turns::turn_theorem, crate::proofs::Turns::turns_theorem))]
 pub fn turns_keep_what_a_driver_asks()
-    ensures start { (side : Side) → DriverFacts side [] }
-    ensures turn { (side : Side) (log : Log) (turn : Turn) → DriverFacts side log → DriverFacts side (log_after side log turn) }
-    ensures turns { (side : Side) (all : List Turn) → DriverFacts side (log_from side [] all) }
+    ensures start { (side : Side) → FitsAndRests side [] }
+    ensures turn { (side : Side) (log : Log) (turn : Turn) → FitsAndRests side log → FitsAndRests side (log_after side log turn) }
+    ensures turns { (side : Side) (all : List Turn) → FitsAndRests side (log_from side [] all) }
 {}
 
 /// One entry more, whatever it is: what is kept behind its moment is the step of what was kept, and
@@ -36,9 +37,9 @@ pub fn moments_are_followed()
 /// definitions; and where they give nothing, nothing is left that they could give.
 #[tactic(auto, using(crate::proofs::Theorems::accept_theorem, crate::proofs::Theorems::receive_theorem, crate::proofs::Theorems::nothing_theorem))]
 pub fn accepts_and_receives_are_followed()
-    ensures accept { (side : Side) (log : Log) (reply : ℕ → Reply) (kind session : ℕ) → DriverFacts side log → AcceptFollows side log reply kind session }
-    ensures receive { (side : Side) (log : Log) (session : ℕ) → DriverFacts side log → ReceiveFollows side log session }
-    ensures nothing { (side : Side) (log : Log) (session : ℕ) → DriverFacts side log → NothingLeft side log session }
+    ensures accept { (side : Side) (log : Log) (reply : ℕ → Reply) (kind session : ℕ) → FitsAndRests side log → AcceptFollows side log reply kind session }
+    ensures receive { (side : Side) (log : Log) (session : ℕ) → FitsAndRests side log → ReceiveFollows side log session }
+    ensures nothing { (side : Side) (log : Log) (session : ℕ) → FitsAndRests side log → NothingLeft side log session }
 {}
 
 /// One scan brings a driver to rest; a call record that it doesn't ask of, and a byte that says
@@ -46,7 +47,7 @@ pub fn accepts_and_receives_are_followed()
 #[tactic(auto, using(crate::proofs::Theorems::rest_theorem, crate::proofs::Theorems::call_theorem, crate::proofs::Theorems::byte_theorem))]
 pub fn one_scan_brings_to_rest()
     ensures rest { (side : Side) (log : Log) (e : Entry) → MayFollow side log e → Fits side log → is_moment e ≡ true → RestsWhileOpen side (log_and_flush side log e) }
-    ensures call { (side : Side) (log : Log) (r : CallRecord) → MayCall side log r → DriverFacts side log → after_call r (state_of side log) ≡ state_of side log
+    ensures call { (side : Side) (log : Log) (r : CallRecord) → MayCall side log r → FitsAndRests side log → after_call r (state_of side log) ≡ state_of side log
         → RestsOn side log (Called r) }
     ensures byte { (side : Side) (log : Log) (id byte : ℕ) → Fits side log → is_open log ≡ true → AtRest side log
         → IsQuiet (transport_view side log) (contents (Received id byte ∷ log)) id (state_of side log) → ByteRests side log id byte }
@@ -67,4 +68,12 @@ pub fn streams_are_classified_once()
     ensures stay { (side : Side) (log : Log) (e : Entry) → StreamsStay side log e }
     ensures ask { (side : Side) (log : Log) (k : ℕ) → AtRest side log → has k (stream_table side log).dequeued ≡ true
         → verdict_of k (stream_table side log).classified ≡ None → DequeuedAsk side log k }
+{}
+
+/// Of the peer's streams of each kind: while the connection is open and this end ready, each behind few
+/// enough that aren't released is dequeued; and while it is open, each dequeued one whose verdict is
+/// final is classified. A dequeued one is behind so few, and a classified one is dequeued.
+pub fn streams_are_dequeued_in_turn()
+    ensures dequeued { (side : Side) (log : Log) → FitsAndRests side log → StreamsDequeued side log }
+    ensures turns { (side : Side) (all : List Turn) → StreamsDequeued side (log_from side [] all) }
 {}

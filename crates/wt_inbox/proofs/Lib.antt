@@ -4,6 +4,7 @@ pub mod Consuming
 pub mod ReadOn
 pub mod QuietLaws
 pub mod Shelves
+pub mod Counting
 pub mod Offsets
 pub mod Reaching
 pub mod Asked

@@ -1,12 +1,12 @@
 -- What leaves the readers' positions leaves the stages.
-use Rattle.std.proofs.Common.{arith, ◌≡◌, ◌≢◌, ◌<◌, ◌≤◌, ◌+◌, ◌*◌, ◌%◌, ℕ, Bool, true, false, List, [], ◌∷◌, ◌++◌, length, min, take, drop, Some, None, refl, sym, ap, subst, ◌∙◌, append_assoc, length-append}
-use Rattle.std.specs.Prelude.{IsTrue, is_some, nat_lt, not, ◌==◌, if◌then◌else◌}
+use Rattle.std.proofs.Common.{arith, ◌≡◌, ◌≢◌, ◌<◌, ◌≤◌, ◌+◌, ◌*◌, ◌%◌, ℕ, Bool, true, false, List, [], ◌∷◌, ◌++◌, length, take, drop, Some, None, refl, sym, ap, subst, ◌∙◌, append_assoc, length-append}
+use Rattle.std.specs.Prelude.{IsTrue, is_some, not, ◌==◌, if◌then◌else◌}
 use Rattle.std.proofs.lemmas.Bool.Decides.{nat_tests}
 use Rattle.std.proofs.lemmas.List.{append-nil, drop-append-le, length-drop, take-append-le}
 use Rattle.wt_wire.specs.declared.side.Side.{Side}
 use Rattle.wt_wire.specs.declared.side.Side.TheVariants.{Client, Server}
 use Rattle.wt_wire.specs.declared.side.StreamEnd.{StreamEnd}
-use Rattle.wt_wire.specs.declared.side.StreamEnd.TheVariants.{Running, Fin, Reset}
+use Rattle.wt_wire.specs.declared.side.StreamEnd.TheVariants.{Running}
 use Rattle.wt_turn.specs.declared.action.Action.{Action}
 use Rattle.wt_turn.specs.declared.action.Action.TheVariants as actions
 use Rattle.wt_turn.specs.declared.turn.Turn.{Turn}
@@ -24,16 +24,13 @@ use Rattle.wt_seam_spec.specs.Arrivals.{event_entry, log_bytes, log_bytes_if, lo
 use Rattle.wt_seam_spec.specs.Joined.{send_of}
 use Rattle.wt_seam_spec.specs.Outgoing.{if_open, may_open, opening, reset_entry, sending}
 use Rattle.wt_seam_spec.specs.Streams.{contents, local_bi, local_count, local_uni, one_more_if, opens, peer_bi, peer_count, peer_uni, stream_count}
-use Rattle.wt_seam_spec.specs.Reports.{end_of}
 use Rattle.wt_seam_spec.specs.Unread.{ReadPosition, AtOffset, advance, at_start, consumed, from_position, given_up, unread}
 use Rattle.wt_seam_spec.specs.Unread as positions
 use Rattle.wt_message.specs.FixedBytes.{local_control_bytes}
 use Rattle.wt_wire.specs.PrefixedInteger.{prefixed_bytes}
 use Rattle.wt_wire.specs.Varint.{varint_bytes}
-use Rattle.wt_streams.specs.HalfRules.{ReceivingHalf, count_of_few, read_count, read_exact_count}
 use Rattle.wt_streams.specs.StreamState.{give_up, has_stream}
-use Rattle.wt_seam.specs.Rules.{receiving_half}
-use Rattle.wt_seam.specs.Step.{after_consume, after_give_up, after_stop, can_receive_now, if_so, unread_now, with_action}
+use Rattle.wt_seam.specs.Step.{after_consume, after_give_up, can_receive_now, unread_now}
 use Rattle.wt_seam.proofs.Bools.{first}
 use Rattle.wt_seam.specs.State.{TransportState}
 use Rattle.wt_seam.specs.State as seam
@@ -47,7 +44,7 @@ use Rattle.wt_inbox.proofs.Asked.{same-at}
 use Rattle.wt_inbox.proofs.Consuming.{consume-consumes}
 use Rattle.wt_inbox.proofs.Staging.{here-consumed, is-at-same, other-consumed, staged-at}
 use Rattle.wt_inbox.proofs.Streams.{other-unread, quiet-changed}
-use Rattle.wt_inbox.specs.Stage.{Stage, Untouched, UniHeader, BiHeader, ResponseHead, Body, ControlBody, SessionBody, GivenUp, Anywhere, HasNoWalk, HasReached, IsAt, Refines, all_untouched, body_offset, half_from, with_stage}
+use Rattle.wt_inbox.specs.Stage.{Stage, Untouched, UniHeader, BiHeader, ResponseHead, Body, ControlBody, SessionBody, GivenUp, Anywhere, HasNoWalk, HasReached, IsAt, Refines, all_untouched, body_offset, with_stage}
 
 -- ---- more bytes
 
@@ -141,13 +138,6 @@ goes-send side log id (b ∷ bytes) = goes-sent side log (actions.Send id (b ∷
 pub goes-sending : (side : Side) (log : Log) (id : ℕ) (bytes : List ℕ) → GoesOn side log (with_actions (sending log id bytes) log)
 goes-sending side log id bytes = goes-send side log id _
 
-pub goes-sending-if : (side : Side) (log : Log) (id : ℕ) (bytes : List ℕ) (b : Bool) → GoesOn side log (with_actions (if b then sending log id bytes else []) log)
-goes-sending-if side log id bytes true = goes-sending side log id bytes
-goes-sending-if side log id bytes false = goes-nothing side log
-
-pub goes-finish-if : (side : Side) (log : Log) (id : ℕ) (b : Bool) → GoesOn side log (with_actions (if b then actions.Finish id ∷ [] else []) log)
-goes-finish-if side log id b = goes-if side log (actions.Finish id) (λ kind. refl) b
-
 goes-reset-if : (side : Side) (log : Log) (id code : ℕ) (b : Bool) → GoesOn side log ((if b then Sent (actions.ResetOut id code) else Called (ResetUnsent id code)) ∷ log)
 goes-reset-if side log id code true = goes-sent side log (actions.ResetOut id code) (λ kind. refl)
 goes-reset-if side log id code false = goes-same side log (Called (ResetUnsent id code) ∷ log) refl refl
@@ -155,16 +145,8 @@ goes-reset-if side log id code false = goes-same side log (Called (ResetUnsent i
 pub goes-reset : (side : Side) (log : Log) (id code : ℕ) → GoesOn side log (reset_entry log id code ∷ log)
 goes-reset side log id code = goes-reset-if side log id code (is_open log)
 
-pub goes-reset-unless : (side : Side) (log : Log) (id code : ℕ) (b : Bool) → GoesOn side log (if b then log else reset_entry log id code ∷ log)
-goes-reset-unless side log id code true = goes-nothing side log
-goes-reset-unless side log id code false = goes-reset side log id code
-
 pub goes-called : (side : Side) (log : Log) (r : _) → GoesOn side log (Called r ∷ log)
 goes-called side log r = goes-same side log (Called r ∷ log) refl refl
-
-pub goes-called-unless : (side : Side) (log : Log) (r : _) (b : Bool) → GoesOn side log (if b then log else Called r ∷ log)
-goes-called-unless side log r true = goes-nothing side log
-goes-called-unless side log r false = goes-called side log r
 
 -- opening
 
@@ -289,27 +271,12 @@ module _ (side : Side) (x : InboxState) (log : Log) (stage : ℕ → Stage) (unt
         (is-at-same x (with_transport x t) k (same-readers x t k) (contents log k) (r.position k) (stage k) (r.staged k)));
   }
 
-  pub stops-half : (t : TransportState) (id : ℕ) (later : Log) (then_untaken : List Action) → GoesOn side log later → seam.Refines side t later (given_up r.position id) then_untaken → Refines side (with_transport x t) later (with_stage stage id GivenUp) then_untaken
-  stops-half t id later then_untaken g s = record {
-    position = given_up r.position id;
-    transport = s;
-    no_uni = g.no_uni ∙ r.no_uni;
-    no_bi = g.no_bi ∙ r.no_bi;
-    staged = staged-at (with_transport x t) later (given_up r.position id) stage id GivenUp (given-here r.position id)
-        (λ k n. subst (λ (p : ReadPosition). IsAt (with_transport x t) k (contents later k) p (stage k)) (sym (given-other r.position id k n))
-        (subst (λ (bytes : List ℕ). IsAt (with_transport x t) k bytes (r.position k) (stage k)) (sym (g.grows k).1)
-        (is-at-more x t k (contents log k) (g.grows k).0 (r.position k) (stage k) (r.staged k))));
-  }
-
   module _ (id offset : ℕ) (a : body_offset (stage id) ≡ Some offset) where
     pub body-place : r.position id ≡ AtOffset offset
     body-place = (body-opens x id (contents log id) (r.position id) (stage id) offset a (r.staged id)).0
 
     pub body-unread : unread log r.position id ≡ drop offset (contents log id)
     body-unread = ap (λ (p : ReadPosition). from_position p (contents log id)) body-place
-
-    pub body-half : receiving_half log r.position id ≡ half_from log id offset
-    body-half = ap (λ (bytes : List ℕ). record { unread = length bytes; end = end_of (events_of log) id }) body-unread
 
     -- bytes of a stream are read
     pub reads-body : (t : TransportState) (count : ℕ) → seam.Refines side t log (consumed r.position id count) untaken → Refines side (with_transport x t) log (with_stage stage id (Body (offset + count))) untaken
@@ -356,45 +323,6 @@ module _ (x w : InboxState) (t : TransportState) (id : ℕ) (v : x ≡ w) where
 
     pub read-quiet-of : quiet t ≡ quiet w.transport
     read-quiet-of = ap quiet e ∙ (read-quiet x id count few ∙ ap (λ (z : InboxState). quiet z.transport) v)
-
--- what goes out leaves each stream's answers
-stop-same : (x : InboxState) (a : Action) (k : ℕ) (b : Bool) → SameAt x (with_transport x (if_so b (with_action x.transport a) x.transport)) k
-stop-same x a k true = record { uni = refl; bi = refl; response = refl; control = refl; session = refl; over = refl; unread = refl }
-stop-same x a k false = record { uni = refl; bi = refl; response = refl; control = refl; session = refl; over = refl; unread = refl }
-
-same-twice : (x y z : InboxState) (k : ℕ) → SameAt x y k → SameAt y z k → SameAt x z k
-same-twice x y z k a b = record { uni = b.uni ∙ a.uni; bi = b.bi ∙ a.bi; response = b.response ∙ a.response; control = b.control ∙ a.control; session = b.session ∙ a.session; over = b.over ∙ a.over; unread = b.unread ∙ a.unread }
-
-stop-can : (t : TransportState) (a : Action) (id : ℕ) (b : Bool) → can_receive_now (if_so b (with_action t a) t) id ≡ can_receive_now t id
-stop-can t a id true = refl
-stop-can t a id false = refl
-
-pub stopped-others-of : (x w : InboxState) (t : TransportState) (id code : ℕ) → x ≡ w → t ≡ after_give_up (after_stop x.transport id code) id → IsTrue (can_receive_now w.transport id) → (k : ℕ) → (id == k) ≡ false → SameAt w (with_transport x t) k
-stopped-others-of x w t id code v e can k n =
-    let y : InboxState = with_transport x (after_stop x.transport id code) in
-    let here : SameAt x y k = stop-same x (actions.StopOut id code) k x.transport.is_open in
-    let can_ : IsTrue (can_receive_now y.transport id) = stop-can x.transport (actions.StopOut id code) id x.transport.is_open ∙ subst (λ (z : InboxState). IsTrue (can_receive_now z.transport id)) (sym v) can in
-    subst (λ (z : InboxState). SameAt z (with_transport x t) k) v
-    (subst (λ (u : TransportState). SameAt x (with_transport x u) k) (sym e) (same-twice x y (with_transport y (after_give_up y.transport id)) k here (given-others y id can_ k n)))
-
--- how many bytes a read takes is no more than are unread
-min-few : (size n : ℕ) → min size n ≤ n
-min-few size n = omega arith
-
-pub read-few : (half : ReceivingHalf) (size : ℕ) → read_count half size ≤ half.unread
-read-few half size = min-few size half.unread
-
-few-by : (end : StreamEnd) (n : ℕ) → count_of_few end n ≤ n
-few-by Running n = omega arith
-few-by Fin n = omega arith
-few-by (Reset code) n = omega arith
-
-exact-by : (b : Bool) (end : StreamEnd) (n size : ℕ) → nat_lt n size ≡ b → (if b then count_of_few end n else size) ≤ n
-exact-by true end n size e = few-by end n
-exact-by false end n size e = grind (arith, nat_tests)
-
-pub exact-few : (half : ReceivingHalf) (size : ℕ) → read_exact_count half size ≤ half.unread
-exact-few half size = exact-by (nat_lt half.unread size) half.end half.unread size refl
 
 -- ---- stages, as a layer above may see them
 

@@ -11,7 +11,7 @@ use Rattle.wt_proto.specs.declared.walk.Step.{Step}
 use Rattle.wt_seam.specs.State.{TransportState}
 use Rattle.std.proofs.lemmas.Bool.Decides.{nat_tests}
 use Rattle.wt_proto.specs.Progress.{Reading}
-use Rattle.wt_inbox.specs.Kept.{Kept, Pulled, Pulls, StandsAt, no_kept, no_reading, reading_of}
+use Rattle.wt_inbox.specs.Kept.{Kept, Pulled, Pulls, StandsAt, is_kept, no_kept, no_reading, reading_of}
 
 -- numbers that are the same have the same test
 same-test : (a id k : ℕ) → (a == id) ≡ true → (id == k) ≡ false → (a == k) ≡ false
@@ -115,12 +115,15 @@ module _ {S O : Type 0} (start : S) (id : ℕ) where
 
   module _ (decide : S → List ℕ → Step S O) (final : O → Bool) (outcome_of : List ℕ → StreamEnd → O) where
     pub pulled-at : (old mid new : List (Kept S O)) (i : ℕ) (x y : Kept S O) (t u : TransportState) → StandsAt start mid id i → ((k : ℕ) → reading_of start mid k ≡ reading_of start old k)
-        → x ≡ get_or mid i x → y.id ≡ x.id → new ≡ set mid i y → Pulls start decide final outcome_of x.reading y.reading t u x.id → Pulled start decide final outcome_of old new t u id
-    pulled-at old mid new i x y t u s same read kept after p = record {
+        → x ≡ get_or mid i x → y.id ≡ x.id → new ≡ set mid i y → Pulls start decide final outcome_of x.reading y.reading t u x.id
+        → is_kept (set mid i y) id ≡ true → length (set mid i y) ≡ (if is_kept old id then length old else length old + 1) → Pulled start decide final outcome_of old new t u id
+    pulled-at old mid new i x y t u s same read kept after p there-now count = record {
       pulls = subst (λ (j : ℕ). Pulls start decide final outcome_of (reading_of start old id) (reading_of start new id) t u j) there
           (subst (λ (r : Reading S O). Pulls start decide final outcome_of r (reading_of start new id) t u x.id) before
           (subst (λ (r : Reading S O). Pulls start decide final outcome_of x.reading r t u x.id) (sym here) p));
       others = λ k n. ap (λ (zs : List (Kept S O)). reading_of start zs k) after ∙ (set-other start mid id i (no_kept start) y s.here s.below matches k n ∙ same k);
+      kept = ap (λ (zs : List (Kept S O)). is_kept zs id) after ∙ there-now;
+      count = ap (λ (zs : List (Kept S O)). length zs) after ∙ count;
     }
       where
         is : x ≡ get_or mid i (no_kept start)

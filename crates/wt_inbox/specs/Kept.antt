@@ -1,5 +1,6 @@
 -- What is kept of the readers of a kind, and what reading on leads to.
-use Rattle.std.specs.Prelude.{◌≡◌, ℕ, ◌<◌, ◌≤◌, ◌==◌, List, [], ◌∷◌, ◌++◌, length, take, drop, slice_index_or, Bool, true, false, None, if◌then◌else◌}
+use Rattle.std.specs.Prelude.{◌≡◌, ℕ, ◌+◌, ◌<◌, ◌≤◌, ◌==◌, List, [], ◌∷◌, ◌++◌, length, take, drop, slice_index_or, Bool, true, false, None, if◌then◌else◌}
+use Rattle.std.specs.List.{list_any}
 use Rattle.wt_wire.specs.declared.side.StreamEnd.{StreamEnd}
 use Rattle.wt_wire.specs.declared.side.StreamEnd.TheVariants.{Running}
 use Rattle.wt_proto.specs.declared.walk.Step.{Step}
@@ -26,6 +27,15 @@ no_reading start = record { progress = at_item start; end = Running }
 abbrev pub reading_of : {S O : Type 0} → S → List (Kept S O) → ℕ → Reading S O
 reading_of start [] k = no_reading start
 reading_of start (kept ∷ later) k = if kept.id == k then kept.reading else reading_of start later k
+
+-- a reader of this stream is kept
+abbrev pub is_kept : {S O : Type 0} → List (Kept S O) → ℕ → Bool
+is_kept {S} {O} kept k = list_any (λ (one : Kept S O). one.id == k) kept
+
+-- of each stream one reader at most is kept
+abbrev pub HasOneEach : {S O : Type 0} → List (Kept S O) → Type 0
+HasOneEach [] = Unit {0}
+HasOneEach (kept ∷ later) = (is_kept later kept.id ≡ false) × HasOneEach later
 
 -- no reader, in the place of one that is kept
 abbrev pub no_kept : {S O : Type 0} → S → Kept S O
@@ -78,8 +88,10 @@ pub record Pulls {S O : Type 0} (start : S) (decide : S → List ℕ → Step S 
   pub taken : new.progress ≡ fed decide old.progress (take count (unread_now before id))
   pub running : (bytes : List ℕ) → old.progress ≡ progress_over decide start None 0 bytes → (m : ℕ) → m < count → final (outcome_of (bytes ++ take m (unread_now before id)) Running) ≡ false
 
--- the reader of one stream among those that are kept read on
+-- The reader of one stream among those that are kept read on. It is kept then, one more only where it wasn't before.
 pub record Pulled {S O : Type 0} (start : S) (decide : S → List ℕ → Step S O) (final : O → Bool) (outcome_of : List ℕ → StreamEnd → O)
     (old new : List (Kept S O)) (before after : TransportState) (id : ℕ) : Type 0 where
   pub pulls : Pulls start decide final outcome_of (reading_of start old id) (reading_of start new id) before after id
   pub others : (k : ℕ) → (id == k) ≡ false → reading_of start new k ≡ reading_of start old k
+  pub kept : is_kept new id ≡ true
+  pub count : length new ≡ (if is_kept old id then length old else length old + 1)

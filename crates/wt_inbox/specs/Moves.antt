@@ -1,5 +1,5 @@
 -- What a private step does to an inbox: the reader of one stream reads on, or is let go.
-use Rattle.std.specs.Prelude.{◌≡◌, ◌==◌, ℕ, List, None, Bool, false, is_some}
+use Rattle.std.specs.Prelude.{◌≡◌, ◌==◌, ◌-◌, ℕ, List, None, Bool, false, if◌then◌else◌, is_some, length}
 use Rattle.wt_wire.specs.declared.side.StreamEnd.{StreamEnd}
 use Rattle.wt_proto.specs.declared.walk.Step.{Step}
 use Rattle.wt_proto.specs.Uni.{is_final, uni_decides, uni_verdict_of}
@@ -7,7 +7,7 @@ use Rattle.wt_proto.specs.Bi.{bi_decides, bi_verdict_of}
 use Rattle.wt_proto.specs.ControlWalk.{control_decides, control_walk_of}
 use Rattle.wt_proto.specs.SessionWalk.{is_over, session_decides, session_walk_of}
 use Rattle.wt_proto.specs.ResponseWalk.{is_response_final, response_decides, response_walk_of}
-use Rattle.wt_inbox.specs.Kept.{Kept, Pulled, reading_of}
+use Rattle.wt_inbox.specs.Kept.{Kept, Pulled, is_kept, reading_of}
 use Rattle.wt_inbox.specs.State.{InboxState, with_transport}
 
 -- the readers of a stream are the same
@@ -27,6 +27,8 @@ pub record PulledIn {S O : Type 0} (start : S) (decide : S → List ℕ → Step
 -- the reader of a stream among those of one kind was let go, and nothing else changed
 pub record TakenIn {S O : Type 0} (start : S) (kept : InboxState → List (Kept S O)) (with_kept : InboxState → List (Kept S O) → InboxState) (x y : InboxState) (id : ℕ) : Type 0 where
   pub others : (k : ℕ) → (id == k) ≡ false → reading_of start (kept y) k ≡ reading_of start (kept x) k
+  pub gone : is_kept (kept y) id ≡ false
+  pub count : length (kept y) ≡ (if is_kept (kept x) id then length (kept x) - 1 else length (kept x))
   pub rest : y ≡ with_kept x (kept y)
 
 -- the reader of the header of a unidirectional stream read on

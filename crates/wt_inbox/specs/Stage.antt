@@ -4,7 +4,7 @@ use Rattle.wt_wire.specs.declared.side.Side.{Side}
 use Rattle.wt_wire.specs.declared.side.StreamEnd.{StreamEnd}
 use Rattle.wt_wire.specs.declared.side.StreamEnd.TheVariants.{Running}
 use Rattle.wt_turn.specs.declared.action.Action.{Action}
-use Rattle.wt_turn.specs.Log.{Log, actions_of, events_of}
+use Rattle.wt_turn.specs.Log.{Log, actions_of}
 use Rattle.wt_proto.specs.declared.walk.Step.{Step}
 use Rattle.wt_proto.specs.declared.verdict.Verdict.{Verdict}
 use Rattle.wt_proto.specs.declared.verdict.Verdict.TheVariants as verdicts
@@ -15,11 +15,9 @@ use Rattle.wt_proto.specs.ControlWalk.{control_decides, control_walk_of}
 use Rattle.wt_proto.specs.SessionWalk.{session_decides, session_walk_of, is_over}
 use Rattle.wt_proto.specs.ResponseWalk.{response_decides, response_walk_of, is_response_final}
 use Rattle.wt_seam_spec.specs.Streams.{contents, local_count, peer_bi, peer_uni}
-use Rattle.wt_seam_spec.specs.Reports.{end_of}
 use Rattle.wt_seam_spec.specs.Unread.{ReadPosition, AtOffset}
 use Rattle.wt_seam_spec.specs.Unread as positions
 use Rattle.wt_seam.specs.State as seam
-use Rattle.wt_streams.specs.HalfRules.{ReceivingHalf}
 use Rattle.wt_inbox.specs.Kept.{no_reading, reading_of}
 use Rattle.wt_inbox.specs.State.{InboxState}
 
@@ -135,7 +133,3 @@ pub record Refines (side : Side) (x : InboxState) (log : Log) (stage : ℕ → S
   pub no_uni : local_count (actions_of log) (peer_uni side) ≡ 0  -- this end opened no stream of the peer's kinds
   pub no_bi : local_count (actions_of log) (peer_bi side) ≡ 0
   pub staged : (k : ℕ) → IsAt x k (contents log k) (position k) (stage k)
-
--- the receiving half of a stream that was read up to this offset
-abbrev pub half_from : Log → ℕ → ℕ → ReceivingHalf
-half_from log k offset = record { unread = length (drop offset (contents log k)); end = end_of (events_of log) k }

@@ -7,7 +7,6 @@ ghost use Rattle.wt_inbox.specs.State.{InboxState, nothing_read, readers_now};
 ghost use Rattle.wt_inbox.specs.Stage.{Refines, Stage, all_untouched};
 
 mod calls;
-mod halves;
 mod queries;
 mod walks;
 
@@ -23,8 +22,9 @@ use wt_seam::Transport;
 use wt_wire::side::Side;
 
 /// The transport of one connection, and the readers of what the peer sends on streams. Contracts see
-/// what it keeps as a record, and tie that record to each log that it refines. After a call that
-/// answered `OutOfMemory` nothing is said of it.
+/// what it keeps as a record, and tie that record to each log that it refines. After `OutOfMemory` it is
+/// as it was before, but for the calls that read what a stream says (`has_..`, `release_..`, `response`,
+/// `control_walk`): after one of these nothing is said of it.
 #[derive(Drop)]
 pub struct Inbox {
     alloc: Global,

@@ -1,11 +1,11 @@
 //! The readers of one kind, each with its stream.
-ghost use Rattle.std.specs.Prelude.{◌≡◌, ◌==◌, ℕ, Bool, [], None, IfOk, IfSome, OnOk, length, false};
+ghost use Rattle.std.specs.Prelude.{◌≡◌, ◌==◌, ◌+◌, ◌-◌, ℕ, Bool, [], None, IfOk, IfSome, OnOk, if◌then◌else◌, length, false};
 ghost use Rattle.std.specs.List.{position};
 ghost use Rattle.wt_wire.specs.declared.side.StreamEnd.TheVariants.{Running};
 ghost use Rattle.wt_proto.specs.Reading.{outcome_in};
 ghost use Rattle.wt_proto.specs.Steady.{IsSteady};
 ghost use Rattle.wt_seam.specs.Step.{unread_now};
-ghost use Rattle.wt_inbox.specs.Kept.{Pulled, Pulls, StandsAt, no_reading, outcome_after, outcome_by, reading_of};
+ghost use Rattle.wt_inbox.specs.Kept.{Pulled, Pulls, StandsAt, is_kept, no_reading, outcome_after, outcome_by, reading_of};
 
 use crate::reading::read_all;
 use std::alloc::Global;
@@ -31,7 +31,7 @@ impl<W: Walk> Model for Entry<W> {
     ghost view = { λ e. record { id = e.id; reading = e.reader } };
 }
 
-/// The readers of one kind. Contracts see the list of them.
+/// The readers of one kind, of each stream one at most. Contracts see the list of them.
 #[derive(Drop)]
 pub(crate) struct Shelf<W: Walk> {
     entries: Vec<Entry<W>>,
@@ -39,11 +39,13 @@ pub(crate) struct Shelf<W: Walk> {
 
 impl<W: Walk> Model for Shelf<W> {
     ghost use Rattle.std.specs.Prelude.{List};
-    ghost use Rattle.wt_inbox.specs.Kept.{Kept};
+    ghost use Rattle.wt_inbox.specs.Kept.{HasOneEach, Kept};
 
     ghost Value = { List (Kept W.State W.Outcome) };
 
     ghost view = { λ s. s.entries.items };
+
+    ghost invariant = { λ s. HasOneEach s.entries.items };
 }
 
 impl<W: Walk> Entry<W> {
@@ -107,6 +109,7 @@ impl<W: Walk> Shelf<W> {
         requires { fresh ≡ no_reading W.start_state }
         ensures at { IfOk result (λ index. StandsAt W.start_state self.new id index) }
         ensures same { OnOk result ((k : ℕ) → reading_of W.start_state self.new k ≡ reading_of W.start_state self.old k) }
+        ensures count { OnOk result (length self.new ≡ (if is_kept self.old id then length self.old else length self.old + 1)) }
     {
         match self.index_of(id) {
             Some(index) => Ok(index),
@@ -154,6 +157,8 @@ impl<W: Walk> Shelf<W> {
         requires { fresh ≡ no_reading W.start_state }
         ensures outcome { result ≡ outcome_in W.unfinished_at (reading_of W.start_state self.old id) }
         ensures others { (k : ℕ) → (id == k) ≡ false → reading_of W.start_state self.new k ≡ reading_of W.start_state self.old k }
+        ensures gone { is_kept self.new id ≡ false }
+        ensures count { length self.new ≡ (if is_kept self.old id then length self.old - 1 else length self.old) }
     {
         match self.index_of(id) {
             Some(index) => self.entries.remove(index).into_outcome(),

@@ -25,15 +25,16 @@ use Rattle.wt_wire.specs.declared.side.Side.TheVariants.{Client, Server}
 use Rattle.wt_wire.specs.declared.side.StreamEnd.{StreamEnd}
 use Rattle.wt_laws.proofs.Caused.{Caused, caused-accept, caused-connect-to, caused-continue, caused-deliver, caused-receive, caused-start, covered-whole, either, head-out, leaf, not-stopped, own-if, own-send, polled, unrefused, unrefused-whole}
 use Rattle.wt_laws.proofs.Steps.{Brings, ByByte, ByEvent, ByLate, Nothing, Steps, blind-actions, blind-flush, calls-with}
-use Rattle.wt_laws.specs.Causes.{ByAcceptance, ByOpening, ByRejection, CloseCause, DatagramOf, FoundStream, OfCall, OfEndpoint, OfHeader, OfWrite, OwnCauses, accepted_kind, bytes_for, event_of, frame_of, is_accept, is_receive, opened_kind, polls_opening, reads_from}
+use Rattle.wt_laws.specs.Causes.{ByAcceptance, ByOpening, ByRejection, CloseCause, DatagramOf, FoundStream, OfCall, OfEndpoint, OfHeader, OfWrite, OwnCauses, accepted_kind, asked_size, bytes_for, frame_of, is_accept, is_receive, opened_kind, polls_opening, reads_from}
+use Rattle.wt_spec.specs.Turns.{event_of, is_call}
 use Rattle.wt_laws.specs.RecordCauses.{AtEnd, HeaderStopped}
-use Rattle.wt_laws.specs.ReplyCauses.{AtClose, AtDatagram, AtEndpointClose, AtEvent, AtFinish, AtOpening, AtPriority, AtReset, AtStop, AtWrite, DoneCause, GivenStream, HeadUnsent, NoStreamToOpen, NoWriteCredit, NotClosed, NotEnded, NothingUnread, OfTheStream, ReplyCause, StoppedCause, TooFewUnread, WrittenCause, asks_for_session, half_of, is_call, is_closed_error, needs_half, waits_for_end}
+use Rattle.wt_laws.specs.ReplyCauses.{AtClose, AtDatagram, AtEndpointClose, AtEvent, AtFinish, AtOpening, AtPriority, AtReset, AtStop, AtWrite, DoneCause, GivenStream, HeadUnsent, NoStreamToOpen, NoWriteCredit, NotClosed, NotEnded, NothingUnread, OfTheStream, ReplyCause, StoppedCause, TooFewUnread, asks_for_session, half_of, is_closed_error, needs_half, waits_for_end}
 use Rattle.wt_laws.specs.Told.{NoRecord, NonePassed, given_stream, is_quiet, read_piece}
 use Rattle.wt_spec.specs.Answers.{call_effect, in_session, is_client, is_first, is_lawful, may_call, may_respond, on_session, receive, turn_effect}
 use Rattle.wt_spec.specs.Connection.{accept_stream, close_connection, closed_reply, continue_opening, datagram_allowed, datagram_within, is_opening, open_stream, payload_limit, poll_opening, receive_datagram, send_datagram, stream_header}
 use Rattle.wt_spec.specs.Driver.{established, flush, log_and_flush}
 use Rattle.wt_spec.specs.Effect.{Effect, head_left, is_covered, log_call, poll_sending, reply_with, transport_error}
-use Rattle.wt_spec.specs.Halves.{all_written_reply, at_stream_end, exact_at_end, finishing, has_receiving_half, has_sending_half, is_done, on_half, read, read_exact, read_reply, stopped_reply, take_bytes, unread, write_by, write_error, written_reply}
+use Rattle.wt_spec.specs.Halves.{all_written_reply, at_stream_end, exact_at_end, finishing, has_receiving_half, has_sending_half, is_done, on_half, read, read_exact, read_reply, stopped_reply, take_bytes, unread_body, write_by, write_error, written_reply}
 use Rattle.wt_spec.specs.Handshake.{AwaitingRequest, HandshakeState, Requested, awaits_answer, awaits_request, handshake_state, is_refused, queued_requests, response_head, start_response}
 use Rattle.wt_turn.specs.declared.action.Action.TheVariants as actions
 use Rattle.wt_turn.specs.declared.call.Call.TheVariants as calls
@@ -59,8 +60,8 @@ module _ (side : Side) (turn : Turn) (called : is_call turn ≡ true) where
     where
       opens : may_open side log kind ≡ true → is_open log ≡ true → Caused side turn log (reply_with (log_call side log (opening side log kind) (OpeningStarted (next_id side log kind) s)) (replies.Opening (next_id side log kind)))
       opens m o =
-          leaf side turn called log (opening side log kind) (OpeningStarted (next_id side log kind) s) (replies.Opening (next_id side log kind)) (rw m ((o, kind, m, refl, z, OfCall q), tt))
-          (record { cause = record { opens = q ∙ ap Some (sym (local-kind kind (stream_count side log kind) l)); at = at; is_established = ap established (calls-with (opening side log kind) log) ∙ d }; kind = kind; own_is = refl; may = m; next = refl; small = l }) refl (o, kind, q, m, refl)
+          leaf side turn called log (opening side log kind) (OpeningStarted (next_id side log kind) s) (replies.Opening (next_id side log kind)) (rw m ((o, kind, m, refl, z, OfCall s at q d), tt))
+          (record { cause = record { opens = q ∙ ap Some (sym (local-kind kind (stream_count side log kind) l)); at = at; is_established = ap established (calls-with (opening side log kind) log) ∙ d; earlier = log; sent = rw m refl; allowed = rw (local-kind kind (stream_count side log kind) l) m; is_next = rw (local-kind kind (stream_count side log kind) l) refl }; kind = kind; own_is = refl; may = m; next = refl; small = l }) refl (o, kind, q, m, refl)
 
   still-opening : (own : List Action) (log : Log) (k : ℕ) → is_opening (with_actions own log) k ≡ is_opening log k
   still-opening own log k = blind-actions (λ g. is_opening g k) (λ a g. refl) own log
@@ -151,9 +152,6 @@ module _ (side : Side) (turn : Turn) (called : is_call turn ≡ true) where
   unstopped-write log k true false (Some code) x = absurd (cc)
   unstopped-write log k false a stop x = absurd (cc)
 
-  written-cause : (log : Log) (k : ℕ) (bytes : List ℕ) → bytes_for k turn ≡ Some bytes → write_error log k ≡ None → WrittenCause side turn log (length (covered log k bytes))
-  written-cause log k bytes h e = record { stream = k; bytes = bytes; handed_in = h; no_error = e; as_credit = refl }
-
   no-bytes : (n : ℕ) → length {A = ℕ} (take n []) ≡ 0
   no-bytes n = let l = length-take {A = ℕ} n [] in omega (arith, l)
 
@@ -161,14 +159,14 @@ module _ (side : Side) (turn : Turn) (called : is_call turn ≡ true) where
   no-length [] e = refl
   no-length (x ∷ xs) e = absurd (omega arith)
 
-  written-reply : (log : Log) (k : ℕ) (bytes : List ℕ) (n : ℕ) → turn ≡ turns.Call (calls.Write k bytes) → length (covered log k bytes) ≡ n → bytes_for k turn ≡ Some bytes → write_error log k ≡ None → is_open log ≡ true → ReplyCause side turn log (written_reply bytes n)
-  written-reply log k [] n t l h e o = (record { stream = k; bytes = []; handed_in = h; no_error = e; as_credit = sym (no-bytes (credit_left log k)) }, λ z. refl)
-  written-reply log k (b ∷ bytes) zero t l h e o = (o, NoWriteCredit k (b ∷ bytes) t e refl (no-length (covered log k (b ∷ bytes)) l))
-  written-reply log k (b ∷ bytes) (suc n) t l h e o = (record { stream = k; bytes = b ∷ bytes; handed_in = h; no_error = e; as_credit = sym l }, λ z. absurd (omega arith))
+  written-reply : (log : Log) (k : ℕ) (bytes : List ℕ) (n : ℕ) → turn ≡ turns.Call (calls.Write k bytes) → length (covered log k bytes) ≡ n → bytes_for k turn ≡ Some bytes → has_sending_half side log k ≡ true → write_error log k ≡ None → is_open log ≡ true → ReplyCause side turn log (written_reply bytes n)
+  written-reply log k [] n t l h c e o = (record { stream = k; bytes = []; handed_in = h; has_half = c; no_error = e; as_credit = sym (no-bytes (credit_left log k)) }, t, λ z. refl)
+  written-reply log k (b ∷ bytes) zero t l h c e o = (o, NoWriteCredit k (b ∷ bytes) t e refl (no-length (covered log k (b ∷ bytes)) l))
+  written-reply log k (b ∷ bytes) (suc n) t l h c e o = (record { stream = k; bytes = b ∷ bytes; handed_in = h; has_half = c; no_error = e; as_credit = sym l }, t, λ z. absurd (omega arith))
 
-  all-written-reply : (log : Log) (k : ℕ) (bytes : List ℕ) (b : Bool) → (length (covered log k bytes) == length bytes) ≡ b → bytes_for k turn ≡ Some bytes → write_error log k ≡ None → ReplyCause side turn log (if b then replies.AllWritten else replies.Count (length (covered log k bytes)))
-  all-written-reply log k bytes true q h e = (length (covered log k bytes), record { stream = k; bytes = bytes; handed_in = h; no_error = e; as_credit = refl }, eqb-true _ _ q)
-  all-written-reply log k bytes false q h e = (record { stream = k; bytes = bytes; handed_in = h; no_error = e; as_credit = refl }, fewer (length (covered log k bytes)) (length bytes) q (omega (arith, length-take (credit_left log k) bytes)))
+  all-written-reply : (log : Log) (k : ℕ) (bytes : List ℕ) (b : Bool) → turn ≡ turns.Call (calls.WriteAll k bytes) → (length (covered log k bytes) == length bytes) ≡ b → bytes_for k turn ≡ Some bytes → has_sending_half side log k ≡ true → write_error log k ≡ None → ReplyCause side turn log (if b then replies.AllWritten else replies.Count (length (covered log k bytes)))
+  all-written-reply log k bytes true t q h c e = (length (covered log k bytes), record { stream = k; bytes = bytes; handed_in = h; has_half = c; no_error = e; as_credit = refl }, t, eqb-true _ _ q)
+  all-written-reply log k bytes false t q h c e = (record { stream = k; bytes = bytes; handed_in = h; has_half = c; no_error = e; as_credit = refl }, t, fewer (length (covered log k bytes)) (length bytes) q (omega (arith, length-take (credit_left log k) bytes)))
     where
       fewer : (m n : ℕ) → (m == n) ≡ false → m ≤ n → nat_lt m n ≡ true
       fewer m n e l = grind (arith, nat_tests)
@@ -193,7 +191,7 @@ module _ (side : Side) (turn : Turn) (called : is_call turn ≡ true) where
 
   caused-write : (reply : List ℕ → ℕ → Reply) (log : Log) (k : ℕ) (bytes : List ℕ) (o : Option StreamWriteError) → bytes_for k turn ≡ Some bytes → has_sending_half side log k ≡ true → write_error log k ≡ o
       → is_quiet (reply bytes (length (covered log k bytes))) ≡ true → (write_error log k ≡ None → is_open log ≡ true → ReplyCause side turn log (reply bytes (length (covered log k bytes)))) → Caused side turn log (write_by reply side log k bytes o)
-  caused-write reply log k bytes (Some e) h c w q f = polled side turn called log (replies.WriteFailed e) refl (AtWrite k bytes h w)
+  caused-write reply log k bytes (Some e) h c w q f = polled side turn called log (replies.WriteFailed e) refl (AtWrite k bytes h c w)
   caused-write reply log k bytes None h c w q f =
       let o = open-write log k (is_open log) _ (stop_of (events_of log) k) refl w in
       leaf side turn called log (send_of k (covered log k bytes)) Polled (reply bytes (length (covered log k bytes))) (own-send side turn called log k (covered log k bytes) o (λ b rest e. unstopped-write log k (is_open log) _ (stop_of (events_of log) k) w) (OfWrite bytes h c w refl)) called q (f w o)
@@ -213,42 +211,49 @@ module _ (side : Side) (turn : Turn) (called : is_call turn ≡ true) where
   at-most : (n : ℕ) (xs : List ℕ) → length (take n xs) ≤ length xs
   at-most n xs = omega (arith, length-take n xs)
 
-  caused-take-bytes : (log : Log) (k : ℕ) (bytes : List ℕ) (reply : Reply) → reads_from k turn ≡ true → has_receiving_half side log k ≡ true → length bytes ≤ length (unread side log k) → read_piece reply ≡ Some bytes → ReplyCause side turn log reply
+  up-to : (n : ℕ) (xs : List ℕ) → length (take n xs) ≤ n
+  up-to n xs = omega (arith, length-take n xs)
+
+  -- no more than the read asks for
+  as-asked : (n size : ℕ) → asked_size turn ≡ size → n ≤ size → n ≤ asked_size turn
+  as-asked n size e l = subst (λ (m : ℕ). n ≤ m) (sym e) l
+
+  caused-take-bytes : (log : Log) (k : ℕ) (bytes : List ℕ) (reply : Reply) → reads_from k turn ≡ true → has_receiving_half side log k ≡ true → length bytes ≤ asked_size turn → length bytes ≤ length (unread_body side log k) → read_piece reply ≡ Some bytes → ReplyCause side turn log reply
       → Caused side turn log (take_bytes side log k bytes reply)
-  caused-take-bytes log k bytes reply r c l q w = leaf side turn called log [] (BytesRead k (length bytes)) reply tt (record { reads = r; has_half = c; within = l }) (bytes, q, refl, r) w
+  caused-take-bytes log k bytes reply r c a l q w = leaf side turn called log [] (BytesRead k (length bytes)) reply tt (record { reads = r; has_half = c; asked = a; within = l }) (bytes, q, refl, r) w
 
-  end-cause : (log : Log) (k size : ℕ) (e : StreamEnd) → turn ≡ turns.Call (calls.Read k size) → (size == 0) ≡ false → unread side log k ≡ [] → end_of (events_of log) k ≡ e → (o : Bool) → is_open log ≡ o → reads_from k turn ≡ true → ReplyCause side turn log (at_stream_end log e)
-  end-cause log k size ends.Running t z u e true o r = rw o (o, NothingUnread k size t z u e)
-  end-cause log k size ends.Running t z u e false o r = rw o (k, r, u, (o, e))
-  end-cause log k size ends.Fin t z u e b o r = (k, r, u, e)
-  end-cause log k size (ends.Reset code) t z u e b o r = (k, r, u, e)
+  end-cause : (log : Log) (k size : ℕ) (e : StreamEnd) → turn ≡ turns.Call (calls.Read k size) → has_receiving_half side log k ≡ true → (size == 0) ≡ false → unread_body side log k ≡ [] → end_of (events_of log) k ≡ e → (o : Bool) → is_open log ≡ o → ReplyCause side turn log (at_stream_end log e)
+  end-cause log k size ends.Running t c z u e true o = rw o (o, NothingUnread k size t z u e)
+  end-cause log k size ends.Running t c z u e false o = rw o (k, size, t, c, z, u, (o, e))
+  end-cause log k size ends.Fin t c z u e b o = (k, size, t, c, z, u, e)
+  end-cause log k size (ends.Reset code) t c z u e b o = (k, size, t, c, z, u, e)
 
-  caused-read-reply : (log : Log) (k size : ℕ) (bytes : List ℕ) → turn ≡ turns.Call (calls.Read k size) → reads_from k turn ≡ true → (size == 0) ≡ false → has_receiving_half side log k ≡ true → unread side log k ≡ bytes → Caused side turn log (read_reply side log k size bytes)
-  caused-read-reply log k size [] t r z c u = polled side turn called log _ (quiet-end log (end_of (events_of log) k)) (end-cause log k size (end_of (events_of log) k) t z u refl (is_open log) refl r)
+  caused-read-reply : (log : Log) (k size : ℕ) (bytes : List ℕ) → turn ≡ turns.Call (calls.Read k size) → reads_from k turn ≡ true → (size == 0) ≡ false → has_receiving_half side log k ≡ true → unread_body side log k ≡ bytes → Caused side turn log (read_reply side log k size bytes)
+  caused-read-reply log k size [] t r z c u = polled side turn called log _ (quiet-end log (end_of (events_of log) k)) (end-cause log k size (end_of (events_of log) k) t c z u refl (is_open log) refl)
   caused-read-reply log k size (b ∷ bytes) t r z c u =
-      caused-take-bytes log k (take size (b ∷ bytes)) (replies.Read (Some (take size (b ∷ bytes)))) r c (rw u (at-most size (b ∷ bytes))) refl (k, size, t, c, ap (take size) (sym u), or_right (size == 0) _ (rw u refl))
+      caused-take-bytes log k (take size (b ∷ bytes)) (replies.Read (Some (take size (b ∷ bytes)))) r c (as-asked _ size (ap asked_size t) (up-to size (b ∷ bytes))) (rw u (at-most size (b ∷ bytes))) refl (k, size, t, c, ap (take size) (sym u), or_right (size == 0) _ (rw u refl))
 
   caused-read : (log : Log) (k size : ℕ) → turn ≡ turns.Call (calls.Read k size) → reads_from k turn ≡ true → has_receiving_half side log k ≡ true → Caused side turn log (read side log k size)
   caused-read log k size t r c =
-      either side turn called (size == 0) _ _ (λ z. polled side turn called log (replies.Read (Some [])) refl (k, size, t, c, sym (none-taken size (unread side log k) (eqb-true size 0 z)), or_left (size == 0) _ z)) (λ z. caused-read-reply log k size (unread side log k) t r z c refl)
+      either side turn called (size == 0) _ _ (λ z. polled side turn called log (replies.Read (Some [])) refl (k, size, t, c, sym (none-taken size (unread_body side log k) (eqb-true size 0 z)), or_left (size == 0) _ z)) (λ z. caused-read-reply log k size (unread_body side log k) t r z c refl)
     where
       none-taken : (n : ℕ) (xs : List ℕ) → n ≡ 0 → take n xs ≡ []
       none-taken n xs e = rw e refl
 
-  caused-exact-end : (log : Log) (k size : ℕ) (e : StreamEnd) → turn ≡ turns.Call (calls.ReadExact k size) → reads_from k turn ≡ true → has_receiving_half side log k ≡ true → nat_lt (length (unread side log k)) size ≡ true → end_of (events_of log) k ≡ e
-      → Caused side turn log (exact_at_end side log k (unread side log k) e)
+  caused-exact-end : (log : Log) (k size : ℕ) (e : StreamEnd) → turn ≡ turns.Call (calls.ReadExact k size) → reads_from k turn ≡ true → has_receiving_half side log k ≡ true → nat_lt (length (unread_body side log k)) size ≡ true → end_of (events_of log) k ≡ e
+      → Caused side turn log (exact_at_end side log k (unread_body side log k) e)
   caused-exact-end log k size ends.Running t r c l e = polled side turn called log _ (quiet-if (is_open log) replies.Pending (replies.ExactFailed (exacts.Read reads.NotConnected) []) refl refl) (at (is_open log) refl)
     where
       at : (o : Bool) → is_open log ≡ o → ReplyCause side turn log (if o then replies.Pending else replies.ExactFailed (exacts.Read reads.NotConnected) [])
       at true o = (o, TooFewUnread k size t l e)
       at false o = (k, size, t, c, l, ((o, e), refl))
-  caused-exact-end log k size ends.Fin t r c l e = caused-take-bytes log k (unread side log k) _ r c (omega arith) refl (k, size, t, c, l, (e, refl, refl))
+  caused-exact-end log k size ends.Fin t r c l e = caused-take-bytes log k (unread_body side log k) _ r c (as-asked _ size (ap asked_size t) (let s = ltb-true (length (unread_body side log k)) size l in omega arith)) (omega arith) refl (k, size, t, c, l, (e, refl, refl))
   caused-exact-end log k size (ends.Reset code) t r c l e = polled side turn called log _ refl (k, size, t, c, l, (e, refl))
 
   caused-read-exact : (log : Log) (k size : ℕ) → turn ≡ turns.Call (calls.ReadExact k size) → reads_from k turn ≡ true → has_receiving_half side log k ≡ true → Caused side turn log (read_exact side log k size)
   caused-read-exact log k size t r c =
-      either side turn called (nat_lt (length (unread side log k)) size) _ _ (λ l. caused-exact-end log k size (end_of (events_of log) k) t r c l refl)
-      (λ l. caused-take-bytes log k (take size (unread side log k)) _ r c (at-most size (unread side log k)) refl (k, size, t, c, refl, ltb-false (length (unread side log k)) size l))
+      either side turn called (nat_lt (length (unread_body side log k)) size) _ _ (λ l. caused-exact-end log k size (end_of (events_of log) k) t r c l refl)
+      (λ l. caused-take-bytes log k (take size (unread_body side log k)) _ r c (as-asked _ size (ap asked_size t) (up-to size (unread_body side log k))) (at-most size (unread_body side log k)) refl (k, size, t, c, refl, ltb-false (length (unread_body side log k)) size l))
 
   -- ---- a call
 
@@ -323,18 +328,18 @@ module _ (side : Side) (turn : Turn) (called : is_call turn ≡ true) where
       caused-session log (send_datagram side log payload) (established (calls_of log)) (ap asks_for_session t) refl (λ s at d. caused-send-datagram log payload s at d t)
   caused-call log calls.MaxDatagramSize t l = caused-session log _ (established (calls_of log)) (ap asks_for_session t) refl (λ s at d. polled side turn called log (replies.Size (payload_limit s (datagram_fact (events_of log)))) refl (t, s, at, d, refl))
   caused-call log calls.SessionId t l = caused-session log _ (established (calls_of log)) (ap asks_for_session t) refl (λ s at d. polled side turn called log (replies.Id s) refl (t, at, d))
-  caused-call log (calls.Close code reason) t l = caused-session log _ (established (calls_of log)) (ap asks_for_session t) refl (λ s at d. caused-close log code reason (OfCall t) (AtClose code reason t (ap is_some d)))
+  caused-call log (calls.Close code reason) t l = caused-session log _ (established (calls_of log)) (ap asks_for_session t) refl (λ s at d. caused-close log code reason (OfCall s at t d) (AtClose code reason t (ap is_some d)))
   caused-call log calls.Closed t l = caused-session log _ (established (calls_of log)) (ap asks_for_session t) refl (λ s at d. polled side turn called log (closed_reply log) (quiet-if (is_open log) replies.Pending (replies.Closed (transport_error log)) refl refl) (closed-so log (is_open log) t refl))
   caused-call log (calls.Write id bytes) t l =
       let h = ap (bytes_for id) t ∙ rw (same-id id) refl in
-      caused-half log _ id (has_sending_half side log id) (ap (half_of side log) t) (λ c. caused-write written_reply log id bytes (write_error log id) h c refl (quiet-written bytes (length (covered log id bytes))) (λ w o. written-reply log id bytes (length (covered log id bytes)) t refl h w o))
+      caused-half log _ id (has_sending_half side log id) (ap (half_of side log) t) (λ c. caused-write written_reply log id bytes (write_error log id) h c refl (quiet-written bytes (length (covered log id bytes))) (λ w o. written-reply log id bytes (length (covered log id bytes)) t refl h c w o))
   caused-call log (calls.WriteAll id bytes) t l =
       let h = ap (bytes_for id) t ∙ rw (same-id id) refl in
-      caused-half log _ id (has_sending_half side log id) (ap (half_of side log) t) (λ c. caused-write all_written_reply log id bytes (write_error log id) h c refl (quiet-if (length (covered log id bytes) == length bytes) replies.AllWritten (replies.Count (length (covered log id bytes))) refl refl) (λ w o. all-written-reply log id bytes (length (covered log id bytes) == length bytes) refl h w))
+      caused-half log _ id (has_sending_half side log id) (ap (half_of side log) t) (λ c. caused-write all_written_reply log id bytes (write_error log id) h c refl (quiet-if (length (covered log id bytes) == length bytes) replies.AllWritten (replies.Count (length (covered log id bytes))) refl refl) (λ w o. all-written-reply log id bytes (length (covered log id bytes) == length bytes) t refl h c w))
   caused-call log (calls.Finish id) t l =
       caused-half log _ id (has_sending_half side log id) (ap (half_of side log) t)
       (λ c. leaf side turn called log (finishing log id) Polled _ (own-finishing log id t c) called (quiet-stopped log id (λ e. replies.WriteFailed e) replies.Finished (stop_of (events_of log) id) (λ e. refl) refl)
-      (stopped-cause log id (λ e. replies.WriteFailed e) replies.Finished (stop_of (events_of log) id) (λ e n x. AtFinish id t x n) (λ s d. (id, t, s, d)) (ap waits_for_end t) refl))
+      (stopped-cause log id (λ e. replies.WriteFailed e) replies.Finished (stop_of (events_of log) id) (λ e n x. AtFinish id t c x n) (λ s d. (id, t, c, s, d)) (ap waits_for_end t) refl))
     where
       own-finishing : (log : Log) (id : ℕ) → turn ≡ turns.Call (calls.Finish id) → has_sending_half side log id ≡ true → OwnCauses side turn log (finishing log id)
       own-finishing log id t c =
@@ -345,19 +350,19 @@ module _ (side : Side) (turn : Turn) (called : is_call turn ≡ true) where
           (d.0, OfCall t c (not-true _ d.1) (not-true _ b.1) (no-stop (stop_of (events_of log) id) (not-true _ a.1))))
   caused-call log (calls.Stopped id) t l =
       caused-half log _ id (has_sending_half side log id) (ap (half_of side log) t)
-      (λ c. polled side turn called log _ (quiet-stopped log id (λ e. replies.StoppedBy e) (replies.StoppedBy writes.Closed) (stop_of (events_of log) id) (λ e. refl) refl) (stopped-cause log id (λ e. replies.StoppedBy e) (replies.StoppedBy writes.Closed) (stop_of (events_of log) id) (λ e n x. (id, t, x)) (λ s d. (id, t, (s, d))) (ap waits_for_end t) refl))
+      (λ c. polled side turn called log _ (quiet-stopped log id (λ e. replies.StoppedBy e) (replies.StoppedBy writes.Closed) (stop_of (events_of log) id) (λ e. refl) refl) (stopped-cause log id (λ e. replies.StoppedBy e) (replies.StoppedBy writes.Closed) (stop_of (events_of log) id) (λ e n x. (id, t, c, x)) (λ s d. (id, t, c, (s, d))) (ap waits_for_end t) refl))
   caused-call log (calls.Priority id) t l =
-      caused-half log _ id (has_sending_half side log id) (ap (half_of side log) t) (λ c. polled side turn called log _ (quiet-if (is_done log id) replies.ClosedStream (replies.Priority (priority_of (calls_of log) id)) refl refl) (at (is_done log id) refl))
+      caused-half log _ id (has_sending_half side log id) (ap (half_of side log) t) (λ c. polled side turn called log _ (quiet-if (is_done log id) replies.ClosedStream (replies.Priority (priority_of (calls_of log) id)) refl refl) (at (is_done log id) refl c))
     where
-      at : (b : Bool) → is_done log id ≡ b → ReplyCause side turn log (if b then replies.ClosedStream else replies.Priority (priority_of (calls_of log) id))
-      at true d = (id, ap (needs_half id) t ∙ same-id id, d)
-      at false d = (id, t, d, refl)
+      at : (b : Bool) → is_done log id ≡ b → has_sending_half side log id ≡ true → ReplyCause side turn log (if b then replies.ClosedStream else replies.Priority (priority_of (calls_of log) id))
+      at true d c = (id, ap (needs_half id) t ∙ same-id id, c, d)
+      at false d c = (id, t, c, d, refl)
   caused-call log (calls.SetPriority id p) t l =
       caused-half log _ id (has_sending_half side log id) (ap (half_of side log) t)
       (λ c. either side turn called (is_done log id) _ _ (λ d. polled side turn called log replies.Done refl (AtPriority id p t c)) (λ d. leaf side turn called log [] (PrioritySet id p) replies.Done tt (t, c, d) refl (AtPriority id p t c)))
   caused-call log (calls.ResetSend id code) t l =
       caused-half log _ id (has_sending_half side log id) (ap (half_of side log) t)
-      (λ c. either side turn called (is_done log id) _ _ (λ d. polled side turn called log replies.ClosedStream refl (id, ap (needs_half id) t ∙ same-id id, d)) (λ d.
+      (λ c. either side turn called (is_done log id) _ _ (λ d. polled side turn called log replies.ClosedStream refl (id, ap (needs_half id) t ∙ same-id id, c, d)) (λ d.
       either side turn called (is_open log) _ _ (λ o. leaf side turn called log (actions.ResetOut id code ∷ []) Polled replies.Done ((o, t, c, d), tt) called refl (AtReset id code t c d)) (λ o. leaf side turn called log [] (ResetUnsent id code) replies.Done tt (t, c, d, o) refl (AtReset id code t c d))))
   caused-call log (calls.Read id size) t l =
       caused-half log _ id (has_receiving_half side log id) (ap (half_of side log) t) (λ c. caused-read log id size t (ap (reads_from id) t ∙ same-id id) c)

@@ -1,7 +1,7 @@
 -- Every reply has its cause, and so has every action of the driver.
 use Rattle.std.specs.Prelude.{[], ◌++◌, ◌==◌, ◌∷◌, ◌≡◌, ◌≢◌, Bool, List, None, Option, Some, drop, false, if◌then◌else◌, length, nat_lt, not, take, true, ℕ}
 use Rattle.std.proofs.Common.{◌∙◌, ap, arith, refl, subst, sym}
-use Rattle.std.proofs.lemmas.Bool.{eqb-true, ltb-true, not-false}
+use Rattle.std.proofs.lemmas.Bool.{eq-eqb, eqb-true, ltb-true, not-false}
 use Rattle.std.proofs.lemmas.List.{append-nil, append_assoc}
 use Rattle.wt_proto.specs.Bi.{bi_verdict_of}
 use Rattle.wt_message.specs.FixedBytes.{local_control_bytes}
@@ -128,29 +128,59 @@ unfolding stream_table
 moment-stops side e log m o =
     rw (m, o) (kept-moment (λ t. StopsFor side (e ∷ log) t.classified t.progress.stops) side (e ∷ log) (stops-kept side (e ∷ log)) (stream_table side log) tt)
 
--- ---- the stops of a moment are for streams that weren't classified before it
+-- ---- the stops of a moment are of streams that it classified, and no earlier one
 
-abbrev AllNew : List Classified → List Stopped → Type 0
-AllNew before [] = Unit {0}
-AllNew before (x ∷ xs) = (verdict_of x.id before ≡ None) × AllNew before xs
+-- each of these stops is of a stream of which this holds
+abbrev AllStop : (ℕ → Type 0) → List Stopped → Type 0
+AllStop P [] = Unit {0}
+AllStop P (x ∷ xs) = P x.id × AllStop P xs
 
-new-append : (before : List Classified) (xs ys : List Stopped) → AllNew before xs → AllNew before ys → AllNew before (xs ++ ys)
-new-append before [] ys p q = q
-new-append before (x ∷ xs) ys p q = (p.0, new-append before xs ys p.1 q)
+all-stop-append : (P : ℕ → Type 0) (xs ys : List Stopped) → AllStop P xs → AllStop P ys → AllStop P (xs ++ ys)
+all-stop-append P [] ys p q = q
+all-stop-append P (x ∷ xs) ys p q = (p.0, all-stop-append P xs ys p.1 q)
 
-bi-new : (before : List Classified) (d : Dispatched) (k : ℕ) (v : Verdict) → verdict_of k before ≡ None → AllNew before (listed (bi_consequence d k v).stop)
-bi-new before d k (verdicts.Fault code) n = tt
-bi-new before d k (verdicts.Refused code) n = (n, tt)
-bi-new before d k (verdicts.Request headers at) n = behind d.requests
+all-stop-so : (P Q : ℕ → Type 0) → ((k : ℕ) → P k → Q k) → (xs : List Stopped) → AllStop P xs → AllStop Q xs
+all-stop-so P Q f [] p = tt
+all-stop-so P Q f (x ∷ xs) p = (f x.id p.0, all-stop-so P Q f xs p.1)
+
+bi-stops : (P : ℕ → Type 0) (d : Dispatched) (k : ℕ) (v : Verdict) → P k → AllStop P (listed (bi_consequence d k v).stop)
+bi-stops P d k (verdicts.Fault code) n = tt
+bi-stops P d k (verdicts.Refused code) n = (n, tt)
+bi-stops P d k (verdicts.Request headers at) n = behind d.requests
   where
-    behind : (queued : List Classified) → AllNew before (listed (queued_behind queued k).stop)
+    behind : (queued : List Classified) → AllStop P (listed (queued_behind queued k).stop)
     behind [] = tt
     behind (c ∷ later) = (n, tt)
-bi-new before d k _ n = tt
+bi-stops P d k _ n = tt
 
-classified-new : (side : Side) (log : Log) (before : List Classified) (t : StreamTable) (k : ℕ) (v : Verdict) (x : Consequence) → verdict_of k before ≡ None → ClassifiedAs side log t k v x → AllNew before (listed x.stop)
-classified-new side log before t k v x n (AsUni a b c d) = subst (λ (o : Option Stopped). AllNew before (listed o)) (sym (ap (λ (y : Consequence). y.stop) d ∙ no-uni-stop (dispatched (call_view log) t.classified) k v)) tt
-classified-new side log before t k v x n (AsBi a b c d) = subst (λ (o : Option Stopped). AllNew before (listed o)) (sym (ap (λ (y : Consequence). y.stop) d)) (bi-new before (dispatched (call_view log) t.classified) k v n)
+-- what classifying a stream stops is that stream
+classified-stops : (side : Side) (log : Log) (P : ℕ → Type 0) (t : StreamTable) (k : ℕ) (v : Verdict) (x : Consequence) → P k → ClassifiedAs side log t k v x → AllStop P (listed x.stop)
+classified-stops side log P t k v x n (AsUni a b c d) = subst (λ (o : Option Stopped). AllStop P (listed o)) (sym (ap (λ (y : Consequence). y.stop) d ∙ no-uni-stop (dispatched (call_view log) t.classified) k v)) tt
+classified-stops side log P t k v x n (AsBi a b c d) = subst (λ (o : Option Stopped). AllStop P (listed o)) (sym (ap (λ (y : Consequence). y.stop) d)) (bi-stops P (dispatched (call_view log) t.classified) k v n)
+
+-- the stream isn't in the list
+abbrev IsNew : List Classified → ℕ → Type 0
+IsNew cs k = verdict_of k cs ≡ None
+
+-- the stream is in the list
+abbrev IsThere : List Classified → ℕ → Type 0
+IsThere cs k = (v : Verdict) × (verdict_of k cs ≡ Some v)
+
+there-front : (cs ds : List Classified) (k : ℕ) → IsThere cs k → IsThere (cs ++ ds) k
+there-front [] ds k t = absurd (let e = t.1 in cc)
+there-front (c ∷ cs) ds k t = at (c.id == k) t (λ n. there-front cs ds k n)
+  where
+    at : (b : Bool) → ((v : Verdict) × ((if b then Some c.verdict else verdict_of k cs) ≡ Some v)) → (IsThere cs k → IsThere (cs ++ ds) k) → (v : Verdict) × ((if b then Some c.verdict else verdict_of k (cs ++ ds)) ≡ Some v)
+    at true n f = (n.0, n.1)
+    at false n f = f (n.0, n.1)
+
+there-last : (cs : List Classified) (x : Classified) → IsThere (cs ++ x ∷ []) x.id
+there-last [] x = (x.verdict, rw (eq-eqb x.id x.id refl) refl)
+there-last (c ∷ cs) x = at (c.id == x.id) (there-last cs x)
+  where
+    at : (b : Bool) → IsThere (cs ++ x ∷ []) x.id → (v : Verdict) × ((if b then Some c.verdict else verdict_of x.id (cs ++ x ∷ [])) ≡ Some v)
+    at true n = (c.verdict, refl)
+    at false n = n
 
 -- what isn't in a list isn't in its front
 pub none-front : (k : ℕ) (cs ds : List Classified) → verdict_of k (cs ++ ds) ≡ None → verdict_of k cs ≡ None
@@ -164,26 +194,32 @@ none-front k (c ∷ cs) ds n = at (c.id == k) n (none-front k cs ds)
 record NewStops (before : List Classified) (t : StreamTable) : Type 0 where
   pub more : List Classified
   pub goes_on : t.classified ≡ before ++ more
-  pub all_new : AllNew before t.progress.stops
+  pub all_new : AllStop (IsNew before) t.progress.stops
+  pub all_there : AllStop (IsThere t.classified) t.progress.stops
 
 new-kept : (side : Side) (log : Log) (before : List Classified) → IsKept (causes side log) (NewStops before)
 new-kept side log before = record {
-  by_ending = λ t e p. record { more = p.more; goes_on = p.goes_on; all_new = p.all_new };
-  by_moment = λ t p. record { more = p.more; goes_on = p.goes_on; all_new = tt };
-  by_settings = λ t b c p. record { more = p.more; goes_on = p.goes_on; all_new = p.all_new };
-  by_datagram = λ t c p. record { more = p.more; goes_on = p.goes_on; all_new = p.all_new };
-  by_dequeued = λ t k p. record { more = p.more; goes_on = p.goes_on; all_new = p.all_new };
-  by_classified = λ t k v e x n still p. record {
-    more = p.more ++ record { id = k; verdict = v; surplus = e.surplus } ∷ [];
-    goes_on = ap (λ cs. cs ++ record { id = k; verdict = v; surplus = e.surplus } ∷ []) p.goes_on ∙ append_assoc before p.more (record { id = k; verdict = v; surplus = e.surplus } ∷ []);
-    all_new = new-append before t.progress.stops (listed e.stop) p.all_new (classified-new side log before t k v e (none-front k before p.more (ap (verdict_of k) (sym p.goes_on) ∙ n)) x);
-  };
+  by_ending = λ t e p. record { more = p.more; goes_on = p.goes_on; all_new = p.all_new; all_there = p.all_there };
+  by_moment = λ t p. record { more = p.more; goes_on = p.goes_on; all_new = tt; all_there = tt };
+  by_settings = λ t b c p. record { more = p.more; goes_on = p.goes_on; all_new = p.all_new; all_there = p.all_there };
+  by_datagram = λ t c p. record { more = p.more; goes_on = p.goes_on; all_new = p.all_new; all_there = p.all_there };
+  by_dequeued = λ t k p. record { more = p.more; goes_on = p.goes_on; all_new = p.all_new; all_there = p.all_there };
+  by_classified = λ t k v e x n still p.
+      let c : Classified = record { id = k; verdict = v; surplus = e.surplus } in
+      record {
+        more = p.more ++ c ∷ [];
+        goes_on = ap (λ cs. cs ++ c ∷ []) p.goes_on ∙ append_assoc before p.more (c ∷ []);
+        all_new = all-stop-append (IsNew before) t.progress.stops (listed e.stop) p.all_new (classified-stops side log (IsNew before) t k v e (none-front k before p.more (ap (verdict_of k) (sym p.goes_on) ∙ n)) x);
+        all_there = all-stop-append (IsThere (t.classified ++ c ∷ [])) t.progress.stops (listed e.stop)
+            (all-stop-so (IsThere t.classified) (IsThere (t.classified ++ c ∷ [])) (λ j y. there-front t.classified (c ∷ []) j y) t.progress.stops p.all_there)
+            (classified-stops side log (IsThere (t.classified ++ c ∷ [])) t k v e (there-last t.classified c) x);
+      };
 }
 
-moment-new : (side : Side) (e : Entry) (log : Log) → is_moment e ≡ true → is_open (e ∷ log) ≡ true → AllNew (stream_table side log).classified (stream_table side (e ∷ log)).progress.stops
+moment-new : (side : Side) (e : Entry) (log : Log) → is_moment e ≡ true → is_open (e ∷ log) ≡ true → NewStops (stream_table side log).classified (stream_table side (e ∷ log))
 unfolding stream_table
 moment-new side e log m o =
-    rw (m, o) (kept-moment (NewStops (stream_table side log).classified) side (e ∷ log) (new-kept side (e ∷ log) (stream_table side log).classified) (stream_table side log) (record { more = []; goes_on = sym (append-nil (stream_table side log).classified); all_new = tt })).all_new
+    rw (m, o) (kept-moment (NewStops (stream_table side log).classified) side (e ∷ log) (new-kept side (e ∷ log) (stream_table side log).classified) (stream_table side log) (record { more = []; goes_on = sym (append-nil (stream_table side log).classified); all_new = tt; all_there = tt }))
 
 module _ (side : Side) (log : Log) where
   opened-cause : (b : Bool) → not (local_count (actions_of log) (local_uni side) == 0) ≡ b → unis_allowed (events_of log) ≢ 0 → DriverCauses side log (opened_if (not b) (local_uni side))
@@ -201,9 +237,9 @@ module _ (side : Side) (log : Log) where
       all-append side log (opened_if (not s.opened) (local_uni side)) (send_of (local_uni side) (drop s.sent (take (credit (events_of log) (local_uni side)) local_control_bytes)))
       (opened-cause s.opened refl (f refl)) (send-cause (drop s.sent (take (credit (events_of log) (local_uni side)) local_control_bytes)) refl)
 
-  stop-causes : (xs : List Stopped) → AllNew (stream_table side (before_newest log)).classified xs → StopsFor side log (stream_table side log).classified xs → DriverCauses side log (stop_actions xs)
-  stop-causes [] n p = tt
-  stop-causes (x ∷ xs) n p = (StopsStream x n.0 p.0, stop-causes xs n.1 p.1)
+  stop-causes : (xs : List Stopped) → AllStop (IsNew (stream_table side (before_newest log)).classified) xs → AllStop (IsThere (stream_table side log).classified) xs → StopsFor side log (stream_table side log).classified xs → DriverCauses side log (stop_actions xs)
+  stop-causes [] n t p = tt
+  stop-causes (x ∷ xs) n t p = (StopsStream x t.0.0 n.0 t.0.1 p.0, stop-causes xs n.1 t.1 p.1)
 
   reset-cause : (b : Bool) (code : ℕ) (reason : List ℕ) → (stream_table side log).progress.ending ≡ Some (BySession code reason b) → DriverCauses side log (reset_if b (session_id (established (calls_of log))))
   reset-cause true code reason q = (ResetsSession code reason q, tt)
@@ -218,12 +254,12 @@ module _ (side : Side) (log : Log) where
   allowed : nat_lt 0 (unis_allowed (events_of log)) ≡ true → unis_allowed (events_of log) ≢ 0
   allowed e z = absurd (let l = ltb-true 0 (unis_allowed (events_of log)) e in omega arith)
 
-  pending-causes : AllNew (stream_table side (before_newest log)).classified (stream_table side log).progress.stops → StopsFor side log (stream_table side log).classified (stream_table side log).progress.stops → DriverCauses side log (pending_actions side log)
+  pending-causes : NewStops (stream_table side (before_newest log)).classified (stream_table side log) → StopsFor side log (stream_table side log).classified (stream_table side log).progress.stops → DriverCauses side log (pending_actions side log)
   pending-causes n p =
       all-append side log (control_actions (nat_lt 0 (unis_allowed (events_of log))) (local_uni side) (credit (events_of log) (local_uni side)) (control_sent side log) ++ stop_actions (stream_table side log).progress.stops)
       (close_actions (session_id (established (calls_of log))) (stream_table side log).progress.ending)
       (all-append side log (control_actions (nat_lt 0 (unis_allowed (events_of log))) (local_uni side) (credit (events_of log) (local_uni side)) (control_sent side log)) (stop_actions (stream_table side log).progress.stops)
-      (control-cause (nat_lt 0 (unis_allowed (events_of log))) allowed) (stop-causes (stream_table side log).progress.stops n p))
+      (control-cause (nat_lt 0 (unis_allowed (events_of log))) allowed) (stop-causes (stream_table side log).progress.stops n.all_new n.all_there p))
       (ending-cause (stream_table side log).progress.ending refl)
 
 -- what the driver sends at a moment, each for its cause

@@ -31,7 +31,8 @@ use Rattle.wt_laws.proofs.Looks.{at-first, events-logged, left_to_release, next-
 use Rattle.wt_laws.proofs.Steps.{ByCall, Nothing, Steps, blind-actions, calls-logged, calls-with}
 use Rattle.wt_laws.specs.Causes.{ActionCause, ByAccept, ByAnswer, ByResponse, ConnectTo, Declines, DialCause, EndsStream, EstablishedBy, FoundDatagram, FoundStream, FromBefore, HandshakeCode, OfHandshake, OfPass, OfRejection, OfRequest, OfResponse, OwnCauses, Plain, Rejects, Reserves, ResponseFrom, ResponseIs, SendCause, StoppedEarly, Stops, accepted_kind, is_accept, is_receive, is_under_way}
 use Rattle.wt_laws.specs.RecordCauses.{AcceptanceEnded, AcceptanceStopped, CallCause, ConnectEnded, NoMoreRequests, OverBy, OverCause, RejectionEnded}
-use Rattle.wt_laws.specs.ReplyCauses.{AfterSuccess, AsDriver, AtResponse, BeforeConnection, BeforeRequest, BeforeResponse, BeforeSettings, BeforeStream, ByRefusal, ByReserved, ByResponseFault, ByStatus, ByStop, ByStreamEnd, ConnectFailedCause, ConnectionEnded, Dialling, Finishing, HeadUnsent, NoAddress, NoConnection, NoDatagramLeft, NoRequest, NoResponse, NoSessionStream, NoSettings, NoStreamLeft, NoUrl, NotHttps, NotProceeding, OfTheRequest, OfTheResponse, PendingCause, RejectedCause, RejectionOver, RejectionRefused, ReplyCause, Unacknowledged, is_call, is_incoming}
+use Rattle.wt_laws.specs.ReplyCauses.{AfterSuccess, AsDriver, AtResponse, BeforeConnection, BeforeRequest, BeforeResponse, BeforeSettings, BeforeStream, ByRefusal, ByReserved, ByResponseFault, ByStatus, ByStop, ByStreamEnd, ConnectFailedCause, ConnectionEnded, Dialling, Finishing, HeadUnsent, NoAddress, NoConnection, NoDatagramLeft, NoRequest, NoResponse, NoSessionStream, NoSettings, NoStreamLeft, NoUrl, NotHttps, NotProceeding, OfTheRequest, OfTheResponse, PendingCause, RejectedCause, RejectionOver, RejectionRefused, ReplyCause, Unacknowledged, is_incoming}
+use Rattle.wt_spec.specs.Turns.{is_call}
 use Rattle.wt_laws.specs.Told.{Logged, NonePassed, OnePassed, OneRecord, Passed, Tells, ThenPolled, given_stream, is_pass, is_quiet}
 use Rattle.wt_spec.specs.Answers.{is_client}
 use Rattle.wt_spec.specs.Connect.{address_of, authority_of, connect_to, outcome_error, path_of, port_of, request_head, reserved_name, server_name, unless_stopped, with_address}
@@ -356,16 +357,15 @@ module _ (side : Side) (turn : Turn) (called : is_call turn ≡ true) where
 
   -- ---- the handshake of a client
 
-  -- a connect goes on, after SETTINGS
+  -- a connect goes on, after SETTINGS and with no reserved name
   record Onward (log : Log) : Type 0 where
-    pub reserved : Option (List ℕ)
     pub head : List ℕ
-    pub state : handshake_state (calls_of log) ≡ Connecting reserved head
+    pub state : handshake_state (calls_of log) ≡ Connecting None head
     pub settings : settings_came side log ≡ true
     pub call : turn ≡ turns.Call calls.Handshake
 
   going : (log : Log) → Onward log → is_under_way (handshake_state (calls_of log)) ≡ true
-  going log w = under-way log (Connecting w.reserved w.head) w.state refl
+  going log w = under-way log (Connecting None w.head) w.state refl
 
   -- the walk over the session's stream
   walk_of : Log → ResponseWalk
@@ -373,10 +373,10 @@ module _ (side : Side) (turn : Turn) (called : is_call turn ≡ true) where
 
   -- what the response comes to, and the same behind actions of the call
   abbrev reads : (log : Log) (w : Onward log) (r : ResponseWalk) → response_walk_of (contents log (local_bi side)) (end_of (events_of log) (local_bi side)) ≡ r → ResponseIs side turn log r
-  reads log w r e = record { goes_on = w.call; reserved = w.reserved; request = w.head; under_way = w.state; is = e }
+  reads log w r e = record { goes_on = w.call; reserved = None; request = w.head; under_way = w.state; is = e }
 
   abbrev reads-then : (log : Log) (own : List Action) (w : Onward log) (r : ResponseWalk) → response_walk_of (contents (with_actions own log) (local_bi side)) (end_of (events_of (with_actions own log)) (local_bi side)) ≡ r → ResponseIs side turn (with_actions own log) r
-  reads-then log own w r e = record { goes_on = w.call; reserved = w.reserved; request = w.head; under_way = ap handshake_state (calls-with own log) ∙ w.state; is = e }
+  reads-then log own w r e = record { goes_on = w.call; reserved = None; request = w.head; under_way = ap handshake_state (calls-with own log) ∙ w.state; is = e }
 
   caused-response : (log : Log) (own : List Action) (r : ResponseWalk) → OwnCauses side turn log own → is_open (with_actions own log) ≡ is_open log → (w : Onward log) → local_count (actions_of (with_actions own log)) (local_bi side) ≢ 0 → head_left (with_actions own log) (local_bi side) w.head ≡ [] → walk_of log ≡ r → Caused side turn log (read_response side log (local_bi side) own r)
   unfolding walk_of
@@ -387,14 +387,14 @@ module _ (side : Side) (turn : Turn) (called : is_call turn ≡ true) where
       let r = responses.Ended in
       connect-failed log own 0 _ (Plain (EndsStream (reads-then log own w r (blind-actions walk_of (λ a g. refl) own log ∙ e)) (n, h)) refl) s (going log w) o (ByStreamEnd (reads log w r e) refl)
   caused-response log own responses.Waiting o s w n h e =
-      either (is_open log) _ _ (λ b. leaf log own Polled replies.Pending o called refl (b, NoResponse w.reserved w.head w.call w.state e)) (λ b. connect-failed-so log own _ (going log w) o (BeforeResponse (reads log w responses.Waiting e) b refl))
+      either (is_open log) _ _ (λ b. leaf log own Polled replies.Pending o called refl (b, NoResponse None w.head w.call w.state e)) (λ b. connect-failed-so log own _ (going log w) o (BeforeResponse (reads log w responses.Waiting e) b refl))
   caused-response log own (responses.Response fields at) o s w n h e =
       let r = responses.Response fields at in
       either (not (has_success fields)) _ _
       (λ c. connect-failed log own 0 _ (Plain (Declines fields at (reads-then log own w r (blind-actions walk_of (λ a g. refl) own log ∙ e)) (n, h) (not-true _ c)) refl) s (going log w) o (ByStatus fields at (reads log w r e) (not-true _ c) refl)) (λ c.
       either (is_open log) _ _
       (λ b. let by : EstablishedBy side turn (with_actions own log) (local_bi side) at =
-      record { before = log; own = own; is = refl; was_open = b; under_way = going log w; how = ByResponse w.reserved w.head fields w.call w.state w.settings e (not-false _ c) refl n h } in
+      record { before = log; own = own; is = refl; was_open = b; under_way = going log w; how = ByResponse w.head fields w.call w.state w.settings e (not-false _ c) refl n h } in
       settled log own (SessionEstablished (local_bi side) at) (replies.Session (local_bi side)) o by refl (own, at, by))
       (λ b. connect-failed-so log own _ (going log w) o (AfterSuccess fields at (reads log w r e) (not-false _ c) b refl)))
 
@@ -415,7 +415,7 @@ module _ (side : Side) (turn : Turn) (called : is_call turn ≡ true) where
   sends-request log own left piece w x o n e =
       own-append log own (send_of (local_bi side) piece) x.causes
       (own-send (with_actions own log) (local_bi side) piece (x.stays ∙ o) (λ b rest q. blind-actions (λ g. stop_of (events_of g) (local_bi side)) (λ a g. refl) own log ∙ none-there (stop_of (events_of log) (local_bi side)) n)
-      (OfRequest w.reserved w.head w.call (ap handshake_state (calls-with own log) ∙ w.state) refl x.counted (e ∙ ap (λ n. take n left) (sym x.credit) ∙ ap (covered (with_actions own log) (local_bi side)) (sym x.left_is))))
+      (OfRequest w.head w.call (ap handshake_state (calls-with own log) ∙ w.state) refl x.counted (e ∙ ap (λ n. take n left) (sym x.credit) ∙ ap (covered (with_actions own log) (local_bi side)) (sym x.left_is))))
 
   with-appended : (as_ bs : List Action) (log : Log) → with_actions (as_ ++ bs) log ≡ with_actions bs (with_actions as_ log)
   with-appended [] bs log = refl
@@ -443,18 +443,18 @@ module _ (side : Side) (turn : Turn) (called : is_call turn ≡ true) where
   caused-send-request : (log : Log) (own : List Action) (left : List ℕ) (w : Onward log) → Opens log own left w.head → Caused side turn log (send_request side log (local_bi side) own left)
   caused-send-request log own left w x =
       either (is_empty left) _ _ (λ c. caused-await log own x.causes x.stays w x.counted (x.left_is ∙ when-empty left c)) (λ c.
-      either (not (is_open log)) _ _ (λ o. connect-failed-so log own _ (going log w) x.causes (BeforeRequest w.reserved w.head w.call w.state (ap is_empty x.left_at ∙ c) (not-true _ o) refl)) (λ o.
+      either (not (is_open log)) _ _ (λ o. connect-failed-so log own _ (going log w) x.causes (BeforeRequest None w.head w.call w.state (ap is_empty x.left_at ∙ c) (not-true _ o) refl)) (λ o.
       either (is_some (stop_of (events_of log) (local_bi side))) _ _ (λ b. let y : is_refused log (local_bi side) left ≡ true = rw (b, c) refl in
-      connect-failed log own 0 _ (Plain (Stops w.reserved w.head w.call (ap handshake_state (calls-with own log) ∙ w.state) (ap (is_refused (with_actions own log) (local_bi side)) x.left_is ∙ blind-actions (λ g. is_refused g (local_bi side) left) (λ a g. refl) own log ∙ y)) refl) x.stays (going log w) x.causes (ByRefusal w.reserved w.head w.call w.state (rw x.left_at y) refl)) (λ b.
+      connect-failed log own 0 _ (Plain (Stops None w.head w.call (ap handshake_state (calls-with own log) ∙ w.state) (ap (is_refused (with_actions own log) (local_bi side)) x.left_is ∙ blind-actions (λ g. is_refused g (local_bi side) left) (λ a g. refl) own log ∙ y)) refl) x.stays (going log w) x.causes (ByRefusal None w.head w.call w.state (not-false _ o) (rw x.left_at y) refl)) (λ b.
       either (is_covered log (local_bi side) left) _ _
       (λ z. caused-await log (own ++ send_of (local_bi side) left) (sends-request log own left left w x (not-false _ o) b (sym (covered-whole log (local_bi side) left z))) (stays-open log left left own x.stays) w (still-counted log own left x.counted) (all-out log own left w.head x.left_is))
-      (λ z. leaf log (own ++ send_of (local_bi side) (covered log (local_bi side) left)) Polled replies.Pending (sends-request log own left (covered log (local_bi side) left) w x (not-false _ o) b refl) called refl (not-false _ o, HeadUnsent (local_bi side) w.head (OfTheRequest w.reserved w.call w.state refl) (rw x.left_at z) (none-there _ b))))))
+      (λ z. leaf log (own ++ send_of (local_bi side) (covered log (local_bi side) left)) Polled replies.Pending (sends-request log own left (covered log (local_bi side) left) w x (not-false _ o) b refl) called refl (not-false _ o, HeadUnsent (local_bi side) w.head (OfTheRequest None w.call w.state refl) (rw x.left_at z) (none-there _ b))))))
 
   -- the request's stream is opened
   opens-first : (log : Log) (w : Onward log) (b : Bool) → local_count (actions_of log) (local_bi side) ≡ 0 → may_open side log (local_bi side) ≡ b → is_open log ≡ true → b ≡ true → Opens log (opening side log (local_bi side)) (head_left log (local_bi side) w.head) w.head
   opens-first log w true n m o e =
       rw m (record {
-        causes = ((o, local_bi side, m, refl, or_right (local_bi side == local_uni side) _ (eq-eqb (local_bi side) (local_bi side) refl), OfRequest w.reserved w.head w.call w.state w.settings refl n), tt);
+        causes = ((o, local_bi side, m, refl, or_right (local_bi side == local_uni side) _ (eq-eqb (local_bi side) (local_bi side) refl), OfRequest w.head w.call w.state w.settings refl n), tt);
         stays = refl;
         counted = λ z. one-opened z;
         credit = refl;
@@ -476,14 +476,14 @@ module _ (side : Side) (turn : Turn) (called : is_call turn ≡ true) where
   caused-open-request log w =
       either (not (local_count (actions_of log) (local_bi side) == 0)) _ _
       (λ c. caused-send-request log [] (head_left log (local_bi side) w.head) w (record { causes = tt; stays = refl; counted = eqb-false (local_count (actions_of log) (local_bi side)) 0 (not-true _ c); credit = refl; left_at = refl; left_is = refl })) (λ c.
-      either (not (is_open log)) _ _ (λ o. connect-failed-so log [] _ (going log w) tt (BeforeStream w.reserved w.head w.call w.state (eqb-true (local_count (actions_of log) (local_bi side)) 0 (not-false _ c)) (not-true _ o) refl)) (λ o.
+      either (not (is_open log)) _ _ (λ o. connect-failed-so log [] _ (going log w) tt (BeforeStream None w.head w.call w.state (eqb-true (local_count (actions_of log) (local_bi side)) 0 (not-false _ c)) (not-true _ o) refl)) (λ o.
       either (may_open side log (local_bi side)) _ _
       (λ m. caused-send-request log (opening side log (local_bi side)) (head_left log (local_bi side) w.head) w (opens-first log w true (eqb-true (local_count (actions_of log) (local_bi side)) 0 (not-false _ c)) m (not-false _ o) refl))
-      (λ m. polled log replies.Pending refl (not-false _ o, NoSessionStream w.reserved w.head w.call w.state (eqb-true (local_count (actions_of log) (local_bi side)) 0 (not-false _ c)) m))))
+      (λ m. polled log replies.Pending refl (not-false _ o, NoSessionStream None w.head w.call w.state (eqb-true (local_count (actions_of log) (local_bi side)) 0 (not-false _ c)) m))))
 
-  caused-reserved : (log : Log) (w : Onward log) (o : Option (List ℕ)) → w.reserved ≡ o → Caused side turn log (unless_reserved side log o w.head)
-  caused-reserved log w (Some name) e = let y = w.state ∙ ap (λ r. Connecting r w.head) e in connect-failed log [] 0 _ (Plain (Reserves name w.head w.call y w.settings) refl) refl (going log w) tt (ByReserved name w.head w.call y w.settings refl)
-  caused-reserved log w None e = caused-open-request log w
+  caused-reserved : (log : Log) (o : Option (List ℕ)) (head : List ℕ) → turn ≡ turns.Call calls.Handshake → handshake_state (calls_of log) ≡ Connecting o head → settings_came side log ≡ true → Caused side turn log (unless_reserved side log o head)
+  caused-reserved log (Some name) head h s t = connect-failed log [] 0 _ (Plain (Reserves name head h s t) refl) refl (under-way log (Connecting (Some name) head) s refl) tt (ByReserved name head h s t refl)
+  caused-reserved log None head h s t = caused-open-request log (record { head = head; state = s; settings = t; call = h })
 
   caused-await-or-fail : (log : Log) (reserved : Option (List ℕ)) (head : List ℕ) (e : ConnectionError) → handshake_state (calls_of log) ≡ Connecting reserved head → PendingCause side turn log
       → (is_open log ≡ false → ConnectFailedCause side turn log (connects.ConnectionError e)) → Caused side turn log (await_or_fail side log e)
@@ -492,7 +492,7 @@ module _ (side : Side) (turn : Turn) (called : is_call turn ≡ true) where
   caused-connect : (log : Log) (reserved : Option (List ℕ)) (head : List ℕ) → turn ≡ turns.Call calls.Handshake → handshake_state (calls_of log) ≡ Connecting reserved head → Caused side turn log (continue_connect side log reserved head)
   caused-connect log reserved head h s =
       either (not (is_connected (events_of log))) _ _ (λ c. caused-await-or-fail log reserved head (transport_error log) s (NoConnection reserved head h s (not-true _ c)) (λ o. BeforeConnection reserved head h s (not-true _ c) o refl)) (λ c.
-      either (settings_came side log) _ _ (λ t. caused-reserved log (record { reserved = reserved; head = head; state = s; settings = t; call = h }) reserved refl)
+      either (settings_came side log) _ _ (λ t. caused-reserved log reserved head h s t)
       (λ t. caused-await-or-fail log reserved head (driver_error side log) s (NoSettings reserved head h s t) (λ o. BeforeSettings reserved head h s t o refl)))
 
   -- the handshake that is under way goes on
@@ -520,7 +520,7 @@ module _ (side : Side) (turn : Turn) (called : is_call turn ≡ true) where
   caused-outcome log to address None l c a q =
       let dialling : DialCause turn address (server_name (host_or_empty to.url)) = record { to = to; found = a; named = refl; proceeds = q } in
       leaf log (actions.Dial address (server_name (host_or_empty to.url)) ∷ []) (ConnectStarted (reserved_name to.headers) (request_head (authority_of to.url) (path_of to.url) to.headers)) replies.Pending
-      ((l, c, dialling), tt) (record { first = ap calls_of l; by_client = c; address = address; name = server_name (host_or_empty to.url); dials = dialling; request = refl; reserves = refl }) refl (ap is_open l, Dialling to.text to.headers to.lookup to.outcome to.connects_to)
+      ((l, c, dialling), tt) (record { first = ap calls_of l; by_client = c; address = address; name = server_name (host_or_empty to.url); dials = dialling; request = refl; reserves = refl; sent = ap (λ (g : Log). Sent (actions.Dial address (server_name (host_or_empty to.url))) ∷ g) l }) refl (ap is_open l, Dialling to.text to.headers to.lookup to.outcome to.connects_to)
 
   caused-address : (log : Log) (to : ConnectTo turn) (a : Result Addr ConnectingError) → log ≡ [] → is_client side ≡ true → address_of (host_or_empty to.url) (port_of to.url) to.lookup ≡ a
       → Caused side turn log (with_address side log to.url to.headers to.outcome a)

@@ -72,7 +72,7 @@ since-moment side (AfterAction {log} a s) = same-table side a log ∙ since-mome
 found-ending : (side : Side) (log : Log) (a : Action) → closes a ≡ true → DriverCause side log a → (x : Ending) × ((stream_table side log).progress.ending ≡ Some x)
 found-ending side log _ c (OpensControl n z) = absurd (cc)
 found-ending side log _ c (SendsControl piece e) = absurd (cc)
-found-ending side log _ c (StopsStream stop n f) = absurd (cc)
+found-ending side log _ c (StopsStream stop v n w f) = absurd (cc)
 found-ending side log _ c (ResetsSession code reason e) = absurd (cc)
 found-ending side log _ c (ClosesFault code e) = (ByFault code, e)
 found-ending side log _ c (ClosesSession code reason b e) = (BySession code reason b, e)

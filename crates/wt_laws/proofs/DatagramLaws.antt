@@ -15,7 +15,8 @@ use Rattle.wt_laws.proofs.Moments.{Causes, IsKept, kept}
 use Rattle.wt_laws.proofs.Reached.{Law, holds, keeps-turn}
 use Rattle.wt_laws.proofs.SessionLaws.{Handshakes, handshakes-before, handshakes-first, handshakes-record, handshakes-same}
 use Rattle.wt_laws.proofs.Steps.{Keeps, by-entries, calls-with, keeps-steps}
-use Rattle.wt_laws.specs.Causes.{EstablishedBy, FoundDatagram, event_of, is_receive}
+use Rattle.wt_laws.specs.Causes.{EstablishedBy, FoundDatagram, is_receive}
+use Rattle.wt_spec.specs.Turns.{event_of}
 use Rattle.wt_laws.specs.Datagrams.{receives}
 use Rattle.wt_laws.specs.Laws.{DatagramsInOrder, more_received, payload_for, payloads_for, received_by}
 use Rattle.wt_laws.specs.Reachable.{AllLawful, Exchange, exchanges}

@@ -26,15 +26,15 @@ use Rattle.wt_wire.specs.declared.lookup.ConnectOutcome.{ConnectOutcome}
 use Rattle.wt_wire.specs.declared.lookup.Lookup.{Lookup}
 use Rattle.wt_wire.specs.declared.side.Side.{Side}
 use Rattle.wt_wire.specs.declared.side.StreamEnd.{StreamEnd}
-use Rattle.wt_laws.specs.Exactly.{AsksFirst, ConnectGoesOn, ConnectsAnswer, GoesOut, IsOut, MaySend, ReceivingCallsAnswer, RequestGoesOn, RequestOut, RequestsAnswer, ResponsesAnswer, SendingCallsAnswer, SessionCallsAnswer, reply_to, response_by, response_rest, walk_at}
-use Rattle.wt_laws.specs.Left.{is_settled}
+use Rattle.wt_laws.specs.Exactly.{AsksFirst, ConnectGoesOn, ConnectsAnswer, GoesOutNow, IsOut, MaySend, ReceivingCallsAnswer, RequestGoesOn, RequestOut, RequestsAnswer, ResponsesAnswer, SendingCallsAnswer, SessionCallsAnswer, reply_to, response_by, response_rest, walk_at}
+use Rattle.wt_laws.specs.Left.{is_response_over}
 use Rattle.wt_laws.specs.ReplyCauses.{asks_for_session, half_of}
 use Rattle.wt_spec.specs.Answers.{call_effect, in_session}
 use Rattle.wt_spec.specs.Connect.{address_of, connect, connect_to, outcome_error, port_of, unless_stopped, with_address}
 use Rattle.wt_spec.specs.Connection.{close_connection, closed_reply, continue_opening, datagram_allowed, is_opening, open_stream, poll_opening, send_datagram, stream_header}
 use Rattle.wt_spec.specs.Driver.{established, settings_came}
 use Rattle.wt_spec.specs.Effect.{Effect, head_left, is_covered, is_empty, poll_only, transport_error}
-use Rattle.wt_spec.specs.Halves.{all_written_reply, at_stream_end, exact_at_end, finish, has_receiving_half, has_sending_half, is_done, on_half, priority, read, read_exact, read_reply, reset, set_priority, stop_receiving, stopped, stopped_reply, unread, write, write_all, write_by, write_error, written_reply}
+use Rattle.wt_spec.specs.Halves.{all_written_reply, at_stream_end, exact_at_end, finish, has_receiving_half, has_sending_half, is_done, on_half, priority, read, read_exact, read_reply, reset, set_priority, stop_receiving, stopped, stopped_reply, unread_body, write, write_all, write_by, write_error, written_reply}
 use Rattle.wt_spec.specs.Handshake.{Connecting, HandshakeState, Responding, accept_response, continue_by, continue_connect, deliver, finish_rejection, handshake_state, has_success, incoming, is_refused, open_request, queued_requests, read_response, reject_response, requested, respond, response_head, send_request, unless_reserved}
 use Rattle.wt_spec.specs.StreamTable.{Classified}
 use Rattle.wt_turn.specs.declared.call.Call.TheVariants as calls
@@ -160,14 +160,14 @@ module _ (side : Side) (log : Log) where
   -- ---- the calls on a receiving half
 
   module _ (k : ℕ) (h : has_receiving_half side log k ≡ true) where
-    reads-by : (size : ℕ) (bytes : List ℕ) (r : Reply) → (size == 0) ≡ false → unread side log k ≡ bytes → Gives r (read_reply side log k size bytes) → Gives r (read side log k size)
+    reads-by : (size : ℕ) (bytes : List ℕ) (r : Reply) → (size == 0) ≡ false → unread_body side log k ≡ bytes → Gives r (read_reply side log k size bytes) → Gives r (read side log k size)
     reads-by size bytes r z u p = no (size == 0) _ _ z (subst (λ ys. Gives r (read_reply side log k size ys)) (sym u) p)
 
     at-end : (e : StreamEnd) → end_of (events_of log) k ≡ e → at_stream_end log (end_of (events_of log) k) ≡ at_stream_end log e
     at-end e q = ap (at_stream_end log) q
 
-    exacts-by : (size : ℕ) (e : StreamEnd) (r : Reply) → nat_lt (length (unread side log k)) size ≡ true → end_of (events_of log) k ≡ e → Gives r (exact_at_end side log k (unread side log k) e) → Gives r (read_exact side log k size)
-    exacts-by size e r l q p = yes (nat_lt (length (unread side log k)) size) _ _ l (subst (λ x. Gives r (exact_at_end side log k (unread side log k) x)) (sym q) p)
+    exacts-by : (size : ℕ) (e : StreamEnd) (r : Reply) → nat_lt (length (unread_body side log k)) size ≡ true → end_of (events_of log) k ≡ e → Gives r (exact_at_end side log k (unread_body side log k) e) → Gives r (read_exact side log k size)
+    exacts-by size e r l q p = yes (nat_lt (length (unread_body side log k)) size) _ _ l (subst (λ x. Gives r (exact_at_end side log k (unread_body side log k) x)) (sym q) p)
 
     pub receiving-calls : ReceivingCallsAnswer side log k
     unfolding call_effect
@@ -177,7 +177,7 @@ module _ (side : Side) (log : Log) where
       read_end = λ size z u e. on-it _ (λ j. read side log j size) k h (reads-by size [] _ z u (at-end ends.Fin e));
       read_reset = λ size code z u e. on-it _ (λ j. read side log j size) k h (reads-by size [] _ z u (at-end (ends.Reset code) e));
       read_ended = λ size z u e o. on-it _ (λ j. read side log j size) k h (reads-by size [] _ z u (at-end ends.Running e ∙ no-reply (is_open log) _ _ o));
-      exact = λ size l. on-it _ (λ j. read_exact side log j size) k h (no (nat_lt (length (unread side log k)) size) _ _ l refl);
+      exact = λ size l. on-it _ (λ j. read_exact side log j size) k h (no (nat_lt (length (unread_body side log k)) size) _ _ l refl);
       exact_early = λ size l e. on-it _ (λ j. read_exact side log j size) k h (exacts-by size ends.Fin _ l e refl);
       exact_reset = λ size code l e. on-it _ (λ j. read_exact side log j size) k h (exacts-by size (ends.Reset code) _ l e refl);
       exact_ended = λ size l e o. on-it _ (λ j. read_exact side log j size) k h (exacts-by size ends.Running _ l e (no-reply (is_open log) _ _ o));
@@ -247,7 +247,7 @@ module _ (side : Side) (log : Log) where
       rejected = λ head e o r c f. rejecting head _ e (λ w. no (not (is_open log)) _ _ (ap not o) (no (is_refused log (requested (calls_of log)) (response_rest log head)) _ _ r (yes (is_covered log (requested (calls_of log)) (response_rest log head)) _ _ c (over w f (response_rest log head)))));
     }
       where
-        over : (waiting : CallRecord) → is_settled log (requested (calls_of log)) ≡ true → (left : List ℕ) → Gives replies.Rejected (finish_rejection side log (requested (calls_of log)) left waiting)
+        over : (waiting : CallRecord) → is_response_over log (requested (calls_of log)) ≡ true → (left : List ℕ) → Gives replies.Rejected (finish_rejection side log (requested (calls_of log)) left waiting)
         over w f left =
             let a = and_parts (is_finished (actions_of log) (requested (calls_of log))) _ f in
             no (not (is_finished (actions_of log) (requested (calls_of log)))) _ _ (ap not a.0) (yes (is_some (stop_of (events_of log) (requested (calls_of log))) || is_acknowledged (events_of log) (requested (calls_of log))) _ _ a.1 refl)
@@ -289,7 +289,7 @@ module _ (side : Side) (log : Log) where
     asked : (r : Reply) → RequestOut side log head → ((own : List Action) → Gives r (read_response side log (local_bi side) own (walk_at side log))) → reply_to side log calls.Handshake ≡ r
     unfolding left
     asked r (IsOut n e) f = sends r (yes (not (local_count (actions_of log) (local_bi side) == 0)) _ _ (not-none n) (yes (is_empty left) _ _ e (f [])))
-    asked r (GoesOut o may s c e) f = sends r (at (local_count (actions_of log) (local_bi side) == 0) refl)
+    asked r (GoesOutNow o may s c e) f = sends r (at (local_count (actions_of log) (local_bi side) == 0) refl)
       where
         sent : (own : List Action) → Gives r (send_request side log (local_bi side) own (head_left log (local_bi side) head))
         sent own = no (is_empty (head_left log (local_bi side) head)) _ _ e (no (not (is_open log)) _ _ (ap not o) (no (is_some (stop_of (events_of log) (local_bi side))) _ _ (none-told (stop_of (events_of log) (local_bi side)) s)

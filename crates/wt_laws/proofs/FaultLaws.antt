@@ -21,9 +21,9 @@ use Rattle.wt_laws.proofs.Looks.{from-or}
 use Rattle.wt_laws.proofs.Moments.{IsKept, causes, kept, of-ids, small-bi, small-uni, with_progress}
 use Rattle.wt_laws.specs.Faults.{ClassifiedRightly, ComesOnce, ControlFault, ControlOnce, ControlStopped, DecoderEnded, DecoderOnce, EncoderEnded, EncoderOnce, EndingCause, EndsForCause, FaultyBi, FaultyUni, NoDatagram, OfBi, OfUni, SecondUni, SessionClosed, SessionFault, SettingsComeRead, SettingsRead, TakenLast, VerdictOver}
 use Rattle.wt_laws.specs.Reachable.{IsReachable, is_among}
-use Rattle.wt_spec.specs.Driver.{call_view, established, is_moment, is_ready, settled_datagrams, stream_table, transport_view}
+use Rattle.wt_spec.specs.Driver.{call_view, established, is_moment, is_ready, settings_came, settled_datagrams, stream_table, transport_view}
 use Rattle.wt_spec.specs.Scan.{Scan, bi_ids, bi_rule, check_control, check_datagram, check_qpack, check_session, checks, critical_if, dequeued_datagram, ended_by, fault_ending, in_order, parsed_datagram, scan_bis, scan_order, scan_unis, session_ends, uni_ids, uni_rule, with_fault, without_stops}
-use Rattle.wt_spec.specs.StreamTable.{ByFault, Classified, Dispatched, Ending, Progress, StreamTable, TransportView, bi_consequence, control_offset, decoder_offset, dispatched, encoder_offset, first_at, only_once, or_later, paired, queued_behind, uni_consequence, verdict_of}
+use Rattle.wt_spec.specs.StreamTable.{ByFault, Classified, Dispatched, Ending, Progress, StreamTable, TransportView, bi_consequence, control_start, decoder_start, dispatched, encoder_start, first_at, only_once, or_later, paired, queued_behind, uni_consequence, verdict_of}
 use Rattle.wt_wire.specs.declared.side.StreamEnd.TheVariants as ends
 use Rattle.wt_wire.specs.declared.error.ErrorCode.TheVariants as h3
 use Rattle.wt_proto.specs.declared.verdict.Verdict.TheVariants as verdicts
@@ -82,9 +82,9 @@ module _ (side : Side) (log : Log) (before after : StreamTable) where
 
     uni-ends : (v : Verdict) → IsUni k v → TakenLast before after k v → Ends (uni_consequence (dispatched (call_view log) cs) k v).fault
     uni-ends (verdicts.Fault code) a t = by-fault code (FaultyUni k code a.0 a.1 t)
-    uni-ends (verdicts.Control m) a t = second control_offset ControlOnce m (verdicts.Control m) a t refl (first_at control_offset cs) refl
-    uni-ends (verdicts.Encoder m) a t = second encoder_offset EncoderOnce m (verdicts.Encoder m) a t refl (first_at encoder_offset cs) refl
-    uni-ends (verdicts.Decoder m) a t = second decoder_offset DecoderOnce m (verdicts.Decoder m) a t refl (first_at decoder_offset cs) refl
+    uni-ends (verdicts.Control m) a t = second control_start ControlOnce m (verdicts.Control m) a t refl (first_at control_start cs) refl
+    uni-ends (verdicts.Encoder m) a t = second encoder_start EncoderOnce m (verdicts.Encoder m) a t refl (first_at encoder_start cs) refl
+    uni-ends (verdicts.Decoder m) a t = second decoder_start DecoderOnce m (verdicts.Decoder m) a t refl (first_at decoder_start cs) refl
     uni-ends _ a t = λ x f. absurd (cc)
 
     no-fault : (queued : List Classified) → Ends (queued_behind queued k).fault
@@ -157,7 +157,7 @@ module _ (side : Side) (log : Log) (before after : StreamTable) where
   fault-cause None p x c n f = absurd (cc)
   fault-cause (Some code) p x c n f = ending-is (ByFault code) p x (c code refl) f
 
-  control-cause : (o : Option (ℕ × ℕ)) (p : Progress) (x : Ending) → first_at control_offset after.classified ≡ o → p.ending ≡ None → (check_control (transport_view side log) o p).ending ≡ Some x → EndingCause side log before after x
+  control-cause : (o : Option (ℕ × ℕ)) (p : Progress) (x : Ending) → first_at control_start after.classified ≡ o → p.ending ≡ None → (check_control (transport_view side log) o p).ending ≡ Some x → EndingCause side log before after x
   control-cause None p x e n f = absurd (cc)
   control-cause (Some c) p x e n f = fault-cause (control_walk_of (drop c.1 (contents log c.0)) (end_of (events_of log) c.0)).fault _ x (λ code. ControlFault c code e) n f
 
@@ -270,8 +270,33 @@ read-kept side log = record {
   by_settings = λ t b c p q. from-or t.progress.settings b p c q;
   by_datagram = λ t c p. p;
   by_dequeued = λ t k p. p;
-  by_classified = λ t k v e c n still p q. let s = p q in record { control = s.control; first = first-append control_offset t.classified (record { id = k; verdict = v; surplus = e.surplus } ∷ []) s.control s.first; read = s.read };
+  by_classified = λ t k v e c n still p q. let s = p q in record { control = s.control; first = first-append control_start t.classified (record { id = k; verdict = v; surplus = e.surplus } ∷ []) s.control s.first; read = s.read };
 }
 
+-- where the driver ended the connection before, no moment takes SETTINGS
+ended-settings : (side : Side) (log : Log) (before : StreamTable) (y : Ending) → before.progress.ending ≡ Some y → (scan_order (transport_view side log) (call_view log) before).progress.settings ≡ before.progress.settings
+ended-settings side log before y e =
+    let t = transport_view side log in
+    let c = call_view log in
+    let table = scan_bis t c (scan_unis t c (without_stops before)) in
+    let u : scan_unis t c (without_stops before) ≡ without_stops before = ap (λ (s : Scan). s.table) (scan-stays (is_ready side log) c (uni_rule t) (uni_ids t) (record { occupied = 0; table = without_stops before }) y e) in
+    let b : table ≡ scan_unis t c (without_stops before) = ap (λ (s : Scan). s.table) (scan-stays (is_ready side log) c (bi_rule t) (bi_ids t) (record { occupied = 0; table = scan_unis t c (without_stops before) }) y (ap (λ (w : StreamTable). w.progress.ending) u ∙ e)) in
+    ap (λ (p : Progress). p.settings) (checks-stay (checks t c (dispatched c table.classified)) table.progress y (ap (λ (w : StreamTable). w.progress.ending) (b ∙ u) ∙ e))
+    ∙ ap (λ (w : StreamTable). w.progress.settings) (b ∙ u)
+
+came-at : (side : Side) (e : Entry) (log : Log) → settings_came side log ≡ false → settings_came side (e ∷ log) ≡ true → SettingsRead side (e ∷ log) (stream_table side (e ∷ log)).classified
+    → (is_moment e ≡ true) × (is_open (e ∷ log) ≡ true) × ((stream_table side log).progress.ending ≡ None) × SettingsRead side (e ∷ log) (stream_table side (e ∷ log)).classified
+unfolding stream_table
+came-at side e log n q r = at (is_moment e && is_open (e ∷ log)) refl q
+  where
+    still : (o : Option Ending) → (stream_table side log).progress.ending ≡ o → (after-entry side e log true).progress.settings ≡ true → o ≡ None
+    still None f q = refl
+    still (Some y) f q = absurd (let s = ended-settings side (e ∷ log) (stream_table side log) y f in cc)
+
+    at : (b : Bool) → (is_moment e && is_open (e ∷ log)) ≡ b → (after-entry side e log b).progress.settings ≡ true
+        → (is_moment e ≡ true) × (is_open (e ∷ log) ≡ true) × ((stream_table side log).progress.ending ≡ None) × SettingsRead side (e ∷ log) (stream_table side (e ∷ log)).classified
+    at false b q = absurd (cc)
+    at true b q = let m = and_parts (is_moment e) (is_open (e ∷ log)) b in (m.0, m.1, still (stream_table side log).progress.ending refl q, r)
+
 pub settings-come-read : (side : Side) (e : Entry) (log : Log) → SettingsComeRead side e log
-settings-come-read side e log n q = kept (λ t. t.progress.settings ≡ true → SettingsRead side (e ∷ log) t.classified) side e log (read-kept side (e ∷ log)) (λ z. absurd (cc)) q
+settings-come-read side e log n q = came-at side e log n q (kept (λ t. t.progress.settings ≡ true → SettingsRead side (e ∷ log) t.classified) side e log (read-kept side (e ∷ log)) (λ z. absurd (cc)) q)

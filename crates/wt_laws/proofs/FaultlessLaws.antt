@@ -45,7 +45,7 @@ session-runs walks.Running b p n = refl
 session-runs (walks.Closed code reason) b p n = absurd (cc)
 session-runs (walks.Fault code) b p n = absurd (cc)
 
-not-critical : (b : Bool) (p : Progress) → (critical_if b p).ending ≡ None → b ≡ false
+pub not-critical : (b : Bool) (p : Progress) → (critical_if b p).ending ≡ None → b ≡ false
 not-critical true p n = absurd (cc)
 not-critical false p n = refl
 
@@ -57,11 +57,11 @@ same-settings : (o : Option ErrorCode) (p : Progress) → (with_fault o p).setti
 same-settings None p = refl
 same-settings (Some code) p = refl
 
-critical-settings : (b : Bool) (p : Progress) → (critical_if b p).settings ≡ p.settings
+pub critical-settings : (b : Bool) (p : Progress) → (critical_if b p).settings ≡ p.settings
 critical-settings true p = refl
 critical-settings false p = refl
 
-qpack-settings : (t : TransportView) (o : Option (ℕ × ℕ)) (p : Progress) → (check_qpack t o p).settings ≡ p.settings
+pub qpack-settings : (t : TransportView) (o : Option (ℕ × ℕ)) (p : Progress) → (check_qpack t o p).settings ≡ p.settings
 qpack-settings t None p = refl
 qpack-settings t (Some x) p = critical-settings (not (is_running (t.end x.0))) p
 
@@ -81,7 +81,7 @@ module _ (t : TransportView) (calls : CallView) (d : Dispatched) where
   runs None p n c e = absurd (cc)
   runs (Some x) p n c e = let y : x ≡ c = cc in ap (λ (z : ℕ × ℕ). is_running (t.end z.0)) (sym y) ∙ not-false _ (not-critical (not (is_running (t.end x.0))) p n)
 
-  walks-on : (o : Option (ℕ × ℕ)) (p : Progress) → (check_session t o p).ending ≡ None → (s : ℕ × ℕ) → o ≡ Some s → session_walk_of (drop s.1 (t.contents s.0)) (t.end s.0) ≡ walks.Running
+  pub walks-on : (o : Option (ℕ × ℕ)) (p : Progress) → (check_session t o p).ending ≡ None → (s : ℕ × ℕ) → o ≡ Some s → session_walk_of (drop s.1 (t.contents s.0)) (t.end s.0) ≡ walks.Running
   walks-on None p n s e = absurd (cc)
   walks-on (Some x) p n s e = let y : x ≡ s = cc in ap (λ (z : ℕ × ℕ). session_walk_of (drop z.1 (t.contents z.0)) (t.end z.0)) (sym y) ∙ session-runs (session_walk_of (drop x.1 (t.contents x.0)) (t.end x.0)) _ p n
 
@@ -89,7 +89,7 @@ module _ (t : TransportView) (calls : CallView) (d : Dispatched) where
   control-runs None p n c e = absurd (cc)
   control-runs (Some x) p n c e = let y : x ≡ c = cc in ap (λ (z : ℕ × ℕ). (control_walk_of (drop z.1 (t.contents z.0)) (t.end z.0)).fault) (sym y) ∙ no-fault _ _ n
 
-  settings-read : (o : Option (ℕ × ℕ)) (p : Progress) (c : ℕ × ℕ) → o ≡ Some c → is_some (control_walk_of (drop c.1 (t.contents c.0)) (t.end c.0)).settings ≡ true → (check_control t o p).settings ≡ true
+  pub settings-read : (o : Option (ℕ × ℕ)) (p : Progress) (c : ℕ × ℕ) → o ≡ Some c → is_some (control_walk_of (drop c.1 (t.contents c.0)) (t.end c.0)).settings ≡ true → (check_control t o p).settings ≡ true
   settings-read None p c e r = absurd (cc)
   settings-read (Some x) p c e r =
       let y : x ≡ c = cc in

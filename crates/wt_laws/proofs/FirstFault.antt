@@ -1,5 +1,5 @@
 -- Of several faults of one moment the first in the driver's order ends the connection.
-use Rattle.std.specs.Prelude.{[], ◌&&◌, ◌++◌, ◌==◌, ◌∷◌, ◌≡◌, Bool, Err, List, None, Ok, Option, Result, Some, drop, false, is_ok, is_some, not, slice_get, suc, true, ℕ}
+use Rattle.std.specs.Prelude.{[], ◌&&◌, ◌++◌, ◌==◌, ◌||◌, ◌∷◌, ◌≡◌, Bool, Err, List, None, Ok, Option, Result, Some, drop, false, is_ok, is_some, not, slice_get, suc, true, ℕ}
 use Rattle.std.proofs.Common.{◌∙◌, ap, arith, refl, subst, sym}
 use Rattle.std.proofs.lemmas.Bool.{and_from, and_parts, eqb-true}
 use Rattle.wt_message.specs.Datagram.{datagram_of}
@@ -16,15 +16,16 @@ use Rattle.wt_wire.specs.declared.error.ErrorCode.{ErrorCode}
 use Rattle.wt_wire.specs.declared.side.Side.{Side}
 use Rattle.wt_laws.proofs.DatagramOrEnds.{after-entry, as-first, dequeued-one, first_check, scan-datagrams}
 use Rattle.wt_laws.proofs.Endings.{checks-stay}
+use Rattle.wt_laws.proofs.FaultlessLaws.{critical-settings, not-critical, qpack-settings, settings-read, walks-on}
 use Rattle.wt_laws.proofs.FaultLaws.{bis-end, bis-stay, last-stays, unis-end}
-use Rattle.wt_laws.proofs.Moments.{kept-streams}
+use Rattle.wt_laws.proofs.Moments.{AllCaused, Causes, IsKept, kept-scan, kept-streams}
 use Rattle.wt_laws.proofs.NoFault.{Faultless, faultless, faultless-kept}
 use Rattle.wt_laws.proofs.OnceLaws.{bi-not-once, no-offset, once-each, once-kept}
 use Rattle.wt_laws.specs.Faults.{AtMostOne, ComesOnce, ControlOnce, DecoderOnce, EncoderOnce, NoneFaulty, TakesDatagram, is_fault}
 use Rattle.wt_laws.specs.FirstFault.{ControlPasses, DatagramPasses, FirstIsTold, PassesUpToControl, SessionPasses, StreamsPass, TellsFirst}
 use Rattle.wt_spec.specs.Driver.{call_view, established, is_moment, settled_datagrams, stream_table, transport_view}
-use Rattle.wt_spec.specs.Scan.{check_control, check_datagram, check_qpack, check_session, checks, critical_if, dequeued_datagram, fault_ending, in_order, parsed_datagram, scan_bis, scan_order, scan_unis, session_ends, unless_ended, with_fault, without_stops}
-use Rattle.wt_spec.specs.StreamTable.{ByFault, CallView, Classified, Dispatched, Ending, Progress, StreamTable, TransportView, bi_consequence, control_offset, decoder_offset, dispatched, encoder_offset, first_at, only_once, or_later, paired, queued_behind, uni_consequence}
+use Rattle.wt_spec.specs.Scan.{SlotRule, bi_ids, bi_rule, check_control, check_datagram, check_qpack, check_session, checks, critical_if, dequeued_datagram, fault_ending, in_order, parsed_datagram, scan_bis, scan_order, scan_unis, session_ends, uni_ids, uni_rule, unless_ended, with_fault, without_stops}
+use Rattle.wt_spec.specs.StreamTable.{ByFault, CallView, Classified, Dispatched, Ending, Progress, StreamTable, TransportView, bi_consequence, control_start, decoder_start, dispatched, encoder_start, first_at, only_once, or_later, paired, queued_behind, uni_consequence}
 use Rattle.wt_wire.specs.declared.side.StreamEnd.TheVariants as ends
 use Rattle.wt_wire.specs.declared.error.ErrorCode.TheVariants as h3
 use Rattle.wt_proto.specs.declared.verdict.Verdict.TheVariants as verdicts
@@ -63,9 +64,9 @@ module _ (calls : CallView) (cs : List Classified) (x : Classified) (p : Streams
 
   uni-passes : (v : Verdict) → x.verdict ≡ v → (uni_consequence (dispatched calls cs) x.id v).fault ≡ None
   uni-passes (verdicts.Fault code) e = absurd (let y = last-faultless cs x p.faultless in let z = ap is_fault e in cc)
-  uni-passes (verdicts.Control m) e = once-passes control_offset ControlOnce (ap (λ v. is_some (control_offset v)) e) (first_at control_offset cs) refl
-  uni-passes (verdicts.Encoder m) e = once-passes encoder_offset EncoderOnce (ap (λ v. is_some (encoder_offset v)) e) (first_at encoder_offset cs) refl
-  uni-passes (verdicts.Decoder m) e = once-passes decoder_offset DecoderOnce (ap (λ v. is_some (decoder_offset v)) e) (first_at decoder_offset cs) refl
+  uni-passes (verdicts.Control m) e = once-passes control_start ControlOnce (ap (λ v. is_some (control_start v)) e) (first_at control_start cs) refl
+  uni-passes (verdicts.Encoder m) e = once-passes encoder_start EncoderOnce (ap (λ v. is_some (encoder_start v)) e) (first_at encoder_start cs) refl
+  uni-passes (verdicts.Decoder m) e = once-passes decoder_start DecoderOnce (ap (λ v. is_some (decoder_start v)) e) (first_at decoder_start cs) refl
   uni-passes _ e = refl
 
   bi-passes : (v : Verdict) → x.verdict ≡ v → (bi_consequence (dispatched calls cs) x.id v).fault ≡ None
@@ -105,6 +106,66 @@ module _ (side : Side) (log : Log) (before : StreamTable) (n : before.progress.e
           let x : Classified = record { id = r.stream; verdict = v; surplus = (uni_consequence (dispatched (call_view log) r.table.classified) r.stream v).surplus } in
           let q : StreamsPass (r.table.classified ++ x ∷ []) = subst StreamsPass (ap (λ (t : StreamTable). t.classified) (bis-stay side log before n y e ∙ r.is)) p in
           absurd (let f = ap fault_ending (uni-passes (call_view log) r.table.classified x q v refl) in let g = r.fault in cc)
+
+-- ---- what the scan and the first checks leave of SETTINGS
+
+-- streams may be classified for any reason, and no SETTINGS come
+abbrev of_scan : Causes
+of_scan = record { classified = λ t k v e. Unit {0}; datagram = λ n. Unit {0}; settings = λ cs. ⊥ }
+
+none-more : (a b : Bool) → (b ≡ true → ⊥) → (a || b) ≡ a
+none-more true b f = refl
+none-more false true f = absurd (f refl)
+none-more false false f = refl
+
+scan-keeps : (b : Bool) → IsKept of_scan (λ t. t.progress.settings ≡ b)
+scan-keeps b = record {
+  by_ending = λ t e p. p;
+  by_moment = λ t p. p;
+  by_settings = λ t x c p. none-more t.progress.settings x c ∙ p;
+  by_datagram = λ t c p. p;
+  by_dequeued = λ t k p. p;
+  by_classified = λ t k v e c x still p. p;
+}
+
+any-scan : (calls : CallView) (rule : SlotRule) (ks : List ℕ) → AllCaused of_scan calls rule ks
+any-scan calls rule [] = tt
+any-scan calls rule (k ∷ ks) = (λ f t. tt, any-scan calls rule ks)
+
+scan-settings : (t : TransportView) (calls : CallView) (u : StreamTable) → (scan_bis t calls (scan_unis t calls u)).progress.settings ≡ u.progress.settings
+scan-settings t calls u =
+    let b = u.progress.settings in
+    kept-scan (λ (w : StreamTable). w.progress.settings ≡ b) (scan-keeps b) calls (bi_rule t) t.ready (bi_ids t) (record { occupied = 0; table = scan_unis t calls u }) (any-scan calls (bi_rule t) (bi_ids t))
+    (kept-scan (λ (w : StreamTable). w.progress.settings ≡ b) (scan-keeps b) calls (uni_rule t) t.ready (uni_ids t) (record { occupied = 0; table = u }) (any-scan calls (uni_rule t) (uni_ids t)) refl)
+
+parsed-settings : (r : Result (ℕ × List ℕ) ErrorCode) (u : Progress) → (parsed_datagram r u).settings ≡ u.settings
+parsed-settings (Ok d) u = refl
+parsed-settings (Err code) u = refl
+
+dequeued-settings : (o : Option (List ℕ)) (u : Progress) → (dequeued_datagram o u).settings ≡ u.settings
+dequeued-settings None u = refl
+dequeued-settings (Some piece) u = parsed-settings (datagram_of piece) (record u { datagrams = suc u.datagrams })
+
+datagram-settings : (b : Bool) (t : TransportView) (u : Progress) → (check_datagram b t u).settings ≡ u.settings
+datagram-settings false t u = refl
+datagram-settings true t u = dequeued-settings (t.datagram u.datagrams) u
+
+ends-settings : (w : SessionWalk) (b : Bool) (u : Progress) → (session_ends w b u).settings ≡ u.settings
+ends-settings walks.Running b u = refl
+ends-settings (walks.Closed code reason) b u = refl
+ends-settings (walks.Fault code) b u = refl
+
+session-settings : (t : TransportView) (o : Option (ℕ × ℕ)) (u : Progress) → (check_session t o u).settings ≡ u.settings
+session-settings t None u = refl
+session-settings t (Some s) u = ends-settings (session_walk_of (drop s.1 (t.contents s.0)) (t.end s.0)) _ u
+
+-- where SETTINGS come by the checks that are left, nothing was found before them
+not-yet : (fs : List (Progress → Progress)) (q : Progress) → q.settings ≡ false → (in_order fs q).settings ≡ true → q.ending ≡ None
+not-yet fs q n c = at q.ending refl
+  where
+    at : (o : Option Ending) → q.ending ≡ o → o ≡ None
+    at None e = refl
+    at (Some x) e = absurd (let y = ap (λ (z : Progress). z.settings) (checks-stay fs q x e) in cc)
 
 -- ---- the checks, as far as they pass
 
@@ -161,6 +222,12 @@ module _ (side : Side) (log : Log) (before after : StreamTable) where
 
   tells : (f : Progress → Progress) (fs : List (Progress → Progress)) (q : Progress) (x : Ending) → Left (f ∷ fs) q → (f q).ending ≡ Some x → after.progress.ending ≡ Some x
   tells f fs q x a e = ap (λ (z : Progress). z.ending) (a.is ∙ ap (λ (o : Option Ending). in_order fs (unless_ended o f q)) a.still ∙ checks-stay fs (f q) x e) ∙ e
+
+  -- a check that leaves them as they were, where they come, found nothing
+  came-on : (f : Progress → Progress) (fs : List (Progress → Progress)) (q : Progress) → Left (f ∷ fs) q → (f q).settings ≡ false → after.progress.settings ≡ true → Left fs (f q)
+  came-on f fs q a n m =
+      let e = a.is ∙ ap (λ (o : Option Ending). in_order fs (unless_ended o f q)) a.still in
+      record { is = e; still = not-yet fs (f q) n (sym (ap (λ (z : Progress). z.settings) e) ∙ m) }
 
   module _ (p : Progress) (s : p.datagrams ≡ before.progress.datagrams) (l : Left (checks view (call_view log) sorted) p) where
     abbrev behind_datagram : Progress
@@ -265,6 +332,42 @@ module _ (side : Side) (log : Log) (before after : StreamTable) where
     control-ends : (x : ℕ × ℕ) (code : ErrorCode) → PassesUpToControl side log before after → sorted.control ≡ Some x → (control_walk_of (drop x.1 (contents log x.0)) (end_of (events_of log) x.0)).fault ≡ Some code → after.progress.ending ≡ Some (ByFault code)
     control-ends x code c e f = tells (check_control view sorted.control) from_encoder behind_stop (ByFault code) (left-control c) (control-told x code behind_stop sorted.control e f)
 
+    -- the checks of the QPACK streams leave what is known of SETTINGS
+    kept-settings : (o : Option Ending) (f : Progress → Progress) (q : Progress) → (f q).settings ≡ q.settings → (unless_ended o f q).settings ≡ q.settings
+    kept-settings None f q s = s
+    kept-settings (Some e) f q s = refl
+
+    encoder-settings : (q : Progress) → (in_order from_encoder q).settings ≡ q.settings
+    encoder-settings q =
+        let r = unless_ended q.ending (check_qpack view sorted.encoder) q in
+        kept-settings r.ending (check_qpack view sorted.decoder) r (qpack-settings view sorted.decoder r) ∙ kept-settings q.ending (check_qpack view sorted.encoder) q (qpack-settings view sorted.encoder q)
+
+    settings-come : (x : ℕ × ℕ) → PassesUpToControl side log before after → sorted.control ≡ Some x → is_some (control_walk_of (drop x.1 (contents log x.0)) (end_of (events_of log) x.0)).settings ≡ true → after.progress.settings ≡ true
+    settings-come x c e r =
+        let a = left-control c in
+        ap (λ (z : Progress). z.settings) (a.is ∙ ap (λ (o : Option Ending). in_order from_encoder (unless_ended o (check_control view sorted.control) behind_stop)) a.still)
+        ∙ encoder-settings behind_control ∙ settings-read view (call_view log) sorted sorted.control behind_stop x e r
+
+    -- where SETTINGS come, what is looked at before the control stream passes
+    came-past : StreamsPass after.classified → p.settings ≡ false → after.progress.settings ≡ true → PassesUpToControl side log before after
+    came-past c n m =
+        let n1 = datagram-settings (view.ready && settled_datagrams (calls_of log) == p.datagrams) view p ∙ n in
+        let n2 = session-settings view (established (calls_of log)) behind_datagram ∙ n1 in
+        let n3 = critical-settings view.control_stopped behind_session ∙ n2 in
+        let a = came-on (first_check view (call_view log)) from_session p l n1 m in
+        let b = came-on (check_session view (established (calls_of log))) from_stop behind_datagram a n2 m in
+        let d = came-on (critical_if view.control_stopped) from_control behind_session b n3 m in
+        record {
+          streams = c;
+          datagram = λ piece t. well piece t a.still (datagram_of piece) refl;
+          session = λ x e. walks-on view (call_view log) sorted (established (calls_of log)) behind_datagram b.still x e;
+          unstopped = not-critical view.control_stopped behind_session d.still;
+        }
+      where
+        well : (piece : List ℕ) → TakesDatagram log before after piece → behind_datagram.ending ≡ None → (r : Result (ℕ × List ℕ) ErrorCode) → datagram_of piece ≡ r → is_ok (datagram_of piece) ≡ true
+        well piece t w (Ok d) e = ap is_ok e
+        well piece t w (Err code) e = absurd (let f = datagram-told piece code t e (view.ready && settled_datagrams (calls_of log) == p.datagrams) counted in cc)
+
     encoder-ends : (x : ℕ × ℕ) → PassesUpToControl side log before after → ControlPasses log after.classified → sorted.encoder ≡ Some x → is_running (end_of (events_of log) x.0) ≡ false → after.progress.ending ≡ Some (ByFault h3.ClosedCriticalStream)
     encoder-ends x c d e r =
         tells (check_qpack view sorted.encoder) (check_qpack view sorted.decoder ∷ []) behind_control (ByFault h3.ClosedCriticalStream) (left-encoder c d) (qpack-told x behind_control sorted.encoder e r)
@@ -329,6 +432,16 @@ module _ (side : Side) (log : Log) (before : StreamTable) (n : before.progress.e
   all-left : StreamsPass last.classified → Left side log before last (checks (transport_view side log) (call_view log) (dispatched (call_view log) last.classified)) start
   all-left c = record { is = refl; still = streams-go-on side log before n c }
 
+  came-so : before.progress.settings ≡ false → last.progress.settings ≡ true → PassesUpToControl side log before last
+  came-so f m =
+      let n0 = scan-settings (transport_view side log) (call_view log) (without_stops before) ∙ f in
+      let e = not-yet (checks (transport_view side log) (call_view log) (dispatched (call_view log) last.classified)) start n0 m in
+      let c : StreamsPass last.classified = record {
+        faultless = (kept-streams Faultless side log (faultless-kept side log) before g).0 e;
+        once = λ offset w. kept-streams (λ (t : StreamTable). t.progress.ending ≡ None → AtMostOne offset t.classified) side log (once-kept side log offset w) before (λ z. o offset w) e;
+      } in
+      came-past side log before last start none-scanned (record { is = refl; still = e }) c n0 m
+
   -- a stream that was classified with a fault ended the connection
   stream-told : (earlier : List Classified) (c : Classified) (code : ErrorCode) → last.classified ≡ earlier ++ c ∷ [] → c.verdict ≡ verdicts.Fault code → last.progress.ending ≡ Some (ByFault code)
   stream-told earlier c code q f = at-unis (scanned side log before n).progress.ending refl
@@ -391,6 +504,8 @@ module _ (side : Side) (log : Log) (before : StreamTable) (n : before.progress.e
     session_closed = λ x code reason c d e w. session-told side log before last start none-scanned (all-left c) x (walks.Closed code reason) _ d e w refl;
     stopped = λ c d r e. stop-ends side log before last start none-scanned (all-left c) d r e;
     control = λ x code c e f. control-ends side log before last start none-scanned (all-left c.streams) x code c e f;
+    settings = λ x c e r. settings-come side log before last start none-scanned (all-left c.streams) x c e r;
+    came = came-so;
     encoder = λ x c d e r. encoder-ends side log before last start none-scanned (all-left c.streams) x c d e r;
     decoder = λ x c d e r. decoder-ends side log before last start none-scanned (all-left c.streams) x c d e r;
   }

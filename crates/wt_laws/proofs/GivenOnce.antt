@@ -13,7 +13,7 @@ use Rattle.wt_laws.proofs.Reached as reached
 use Rattle.wt_laws.proofs.RunLaws.{stays-behind}
 use Rattle.wt_laws.proofs.StreamLaws.{streams-accepted-rightly}
 use Rattle.wt_laws.proofs.TurnCauses.{reply-is-recorded}
-use Rattle.wt_laws.specs.GivenOnce.{GivenOnce, gives_stream, was_given}
+use Rattle.wt_laws.specs.GivenOnce.{GivenOnce, gives_stream, gave_stream}
 use Rattle.wt_laws.specs.Laws.{AcceptedRightly, GoesOnFrom, IsDuring}
 use Rattle.wt_laws.specs.Reachable.{AfterTurn, AllLawful, AtStart, Exchange, IsReachable, exchanges}
 use Rattle.wt_laws.specs.Told.{Logged, NoRecord, OneRecord, Tells, ThenPolled}
@@ -68,7 +68,7 @@ not-released side log turn kind k (middle, d, a) p = sym a.fresh ∙ stays side 
 record Given (side : Side) (before : List Exchange) (log : Log) : Type 0 where
   pub reachable : IsReachable side log
   pub once : GivenOnce before
-  pub released : (k : ℕ) → was_given k before ≡ true → list_any (releases k) (calls_of log) ≡ true
+  pub released : (k : ℕ) → gave_stream k before ≡ true → list_any (releases k) (calls_of log) ≡ true
 
 module _ (side : Side) (before : List Exchange) (log : Log) (turn : Turn) (l : is_lawful side log turn ≡ true) (p : Given side before log) where
   abbrev reply : Reply
@@ -79,14 +79,14 @@ module _ (side : Side) (before : List Exchange) (log : Log) (turn : Turn) (l : i
   new-not (replies.Bi j) e k g q = not-released side log turn _ j ((streams-accepted-rightly side log turn p.reachable l).bi j e) (subst (λ z. list_any (releases z) (calls_of log) ≡ true) (sym (eqb-true j k g)) q)
   new-not _ e k g q = absurd (cc)
 
-  new-once : (k : ℕ) → gives_stream k reply ≡ true → was_given k before ≡ false
-  new-once k g = at (was_given k before) refl
+  new-once : (k : ℕ) → gives_stream k reply ≡ true → gave_stream k before ≡ false
+  new-once k g = at (gave_stream k before) refl
     where
-      at : (b : Bool) → was_given k before ≡ b → was_given k before ≡ false
+      at : (b : Bool) → gave_stream k before ≡ b → gave_stream k before ≡ false
       at false e = e
       at true e = absurd (let z = new-not reply refl k g (p.released k e) in cc)
 
-  new-released : (k : ℕ) (b : Bool) → gives_stream k reply ≡ b → (b || was_given k before) ≡ true → list_any (releases k) (calls_of (log_after side log turn)) ≡ true
+  new-released : (k : ℕ) (b : Bool) → gives_stream k reply ≡ b → (b || gave_stream k before) ≡ true → list_any (releases k) (calls_of (log_after side log turn)) ≡ true
   new-released k true g q = let x = reply-is-recorded side log turn l in logged-releases turn k _ _ reply g x.logged
   new-released k false g q = let x = reply-is-recorded side log turn l in stays side k log (log_after side log turn) (after x.during.from_start x.during.to_end) (p.released k q)
     where

@@ -16,7 +16,7 @@ use Rattle.wt_turn.specs.declared.call.Call.{Call}
 use Rattle.wt_wire.specs.Codes.{code_of}
 use Rattle.wt_wire.specs.declared.side.Side.{Side}
 use Rattle.wt_laws.proofs.Caused.{covered-whole}
-use Rattle.wt_laws.proofs.CreditLaws.{within-credit}
+use Rattle.wt_laws.proofs.CreditLaws.{within-all}
 use Rattle.wt_laws.proofs.ExactLaws.{by-response}
 use Rattle.wt_laws.proofs.HeaderLaws.{further, heads-hold, not-local-uni}
 use Rattle.wt_laws.proofs.SendLaws.{flush-other, not-same}
@@ -128,7 +128,7 @@ module _ (side : Side) (log : Log) (r : IsReachable side log) where
       (whether side log k c (covered log k left) (is_covered log k left) _ _
       (λ z. leaf side log k c (covered log k left) (send_of k left) (StreamAccepted k) (send-on k left ∙ sym (covered-whole log k left z)))
       (λ z. leaf side log k c (covered log k left) (send_of k (covered log k left)) Polled (send-on k (covered log k left)))))))
-      ∙ as-far log k b.0 (stream_header k s) b.1 (within-credit side log r k)
+      ∙ as-far log k b.0 (stream_header k s) b.1 (within-all side log r o k)
 
   -- ---- responses
 
@@ -201,7 +201,7 @@ module _ (side : Side) (log : Log) (r : IsReachable side log) where
         let q = on-request accepts head e in
         let w = by-response side log call accepts head e in
         ap (λ (x : Effect). sent_on (actions_of x.log) (requested (calls_of log))) w.1
-        ∙ response-sends accepts head w.0 q o f ∙ as-far log (requested (calls_of log)) q.count head q.prefix (within-credit side log r (requested (calls_of log)))
+        ∙ response-sends accepts head w.0 q o f ∙ as-far log (requested (calls_of log)) q.count head q.prefix (within-all side log r o (requested (calls_of log)))
 
   -- ---- the request of a connect
 
@@ -253,7 +253,7 @@ module _ (side : Side) (log : Log) (r : IsReachable side log) where
       (no side log k c (covered log k left) (not (is_connected (events_of log))) _ _ (ap not m.connected)
       (yes side log k c (covered log k left) (settings_came side log) _ _ m.settings
       (request-opened head c o may f)))
-      ∙ as-far log k b.0 head (b.1 ∙ ap (λ (o : Option (List ℕ)). take b.0 (unwrap_or o [])) g.0) (within-credit side log r k)
+      ∙ as-far log k b.0 head (b.1 ∙ ap (λ (o : Option (List ℕ)). take b.0 (unwrap_or o [])) g.0) (within-all side log r o k)
 
 pub heads-go-out : (side : Side) (log : Log) (call : Call) → IsReachable side log → is_lawful side log (turns.Call call) ≡ true → HeadsGoOut side log call
 heads-go-out side log call r l = record {

@@ -68,7 +68,7 @@ fresh-piece side turn log k (actions.Send id piece) h l u c = at (id == k) refl 
     at true e (OfWrite bytes b w m p) = absurd (none (h.local_accepted k l (subst (λ (j : ℕ). is_accepted log j ≡ true) (eqb-true id k e) (and_parts (is_accepted log id) _ w).0)))
     at true e (OfHeader session t z d o p) = absurd (none (subst (λ (j : ℕ). list_any (starts_opening j) (calls_of log) ≡ true) (eqb-true id k e) (and_parts (list_any (starts_opening id) (calls_of log)) _ o).0))
     at true e (OfResponse accepts head f i p) = absurd (no-request side log k h l (from-request turn (calls_of log) accepts head f) (sym i ∙ eqb-true id k e))
-    at true e (OfRequest reserved head c s i z p) = absurd (by-side side (subst (λ (j : ℕ). local_count (actions_of log) (j % 4) ≤ j / 4) (sym (eqb-true id k e) ∙ i) u) z)
+    at true e (OfRequest head c s i z p) = absurd (by-side side (subst (λ (j : ℕ). local_count (actions_of log) (j % 4) ≤ j / 4) (sym (eqb-true id k e) ∙ i) u) z)
 fresh-piece side turn log k _ h l u c = refl
 
 take-more : (m c : ℕ) (xs : List ℕ) → m ≤ length xs → take m xs ++ take c (drop m xs) ≡ take (m + c) xs
@@ -116,7 +116,7 @@ begun-piece side turn log k s t (actions.Send id piece) h o d c = at (id == k) r
         let x = subst (λ (m : ℕ). piece ≡ covered log m (head_left log m (stream_header m session))) (eqb-true id k e) q in
         let y = subst (λ (m : ℕ). piece ≡ covered log k (head_left log k (stream_header k m))) same x in header-more log k s piece y p
     at true e (OfResponse accepts head f i q) = absurd (no-request side log k h (local-opening side log k h o) (from-request turn (calls_of log) accepts head f) (sym i ∙ eqb-true id k e))
-    at true e (OfRequest reserved head c i j z q) = absurd (let x = h.given.handshakes.none_yet (ap is_under_way i) in cc)
+    at true e (OfRequest head c i j z q) = absurd (let x = h.given.handshakes.none_yet (ap is_under_way i) in cc)
 begun-piece side turn log k s t _ h o d c = ((h.begun k s t o d).0, append-nil (sent_on (actions_of log) k) ∙ (h.begun k s t o d).1)
 
 -- the same of a stream that isn't given yet, or never is
@@ -135,7 +135,7 @@ ungiven-piece side turn log k s t (actions.Send id piece) h o g d c = at (id == 
         let x = subst (λ (m : ℕ). piece ≡ covered log m (head_left log m (stream_header m session))) (eqb-true id k e) q in
         let y = subst (λ (m : ℕ). piece ≡ covered log k (head_left log k (stream_header k m))) same x in header-more log k s piece y p
     at true e (OfResponse accepts head f i q) = absurd (no-request side log k h (h.given.facts_hold.openings k o) (from-request turn (calls_of log) accepts head f) (sym i ∙ eqb-true id k e))
-    at true e (OfRequest reserved head c i j z q) = absurd (let x = h.given.handshakes.none_yet (ap is_under_way i) in cc)
+    at true e (OfRequest head c i j z q) = absurd (let x = h.given.handshakes.none_yet (ap is_under_way i) in cc)
 ungiven-piece side turn log k s t _ h o g d c = ((h.ungiven k s t o g d).0, append-nil (sent_on (actions_of log) k) ∙ (h.ungiven k s t o g d).1)
 
 pub heads-action : (side : Side) (turn : Turn) (log : Log) (a : Action) → ActionCause side turn log a → Heads side log → Heads side (Sent a ∷ log)
@@ -216,7 +216,7 @@ no-peers-bi Server (PeerUni ∷ es) = no-peers-bi Server es
 no-peers-bi Server (PeerBi ∷ es) = no-peers-bi Server es
 no-peers-bi side (_ ∷ es) = no-peers-bi side es
 
-no-peers : (side : Side) (es : List Event) (kind : ℕ) → (kind == local_uni side || kind == local_bi side) ≡ true → peer_count side es kind ≡ 0
+pub no-peers : (side : Side) (es : List Event) (kind : ℕ) → (kind == local_uni side || kind == local_bi side) ≡ true → peer_count side es kind ≡ 0
 no-peers side es kind l = at (kind == local_uni side) refl (kind == local_bi side) refl l
   where
     at : (b : Bool) → (kind == local_uni side) ≡ b → (c : Bool) → (kind == local_bi side) ≡ c → (b || c) ≡ true → peer_count side es kind ≡ 0

@@ -33,7 +33,7 @@ use Rattle.wt_spec.specs.Connection.{accept_due, accept_first, accept_stream, ac
 use Rattle.wt_spec.specs.Driver.{apply_if, call_view, delivers, established, flush, log_and_flush, releases, settings_came, settled_datagrams, stream_table, transport_view}
 use Rattle.wt_spec.specs.Scan.{scan_order}
 use Rattle.wt_spec.specs.Effect.{Effect, closing, driver_error, error_of_ending, head_left, is_empty, log_call, loss_or_local, pending_or_failed, poll_only, reply_with, transport_error}
-use Rattle.wt_spec.specs.Halves.{all_written_reply, at_stream_end, body_offset, exact_at_end, finish, finishing, gives_up, has_receiving_half, has_sending_half, is_done, on_half, priority, read, read_exact, read_reply, reset, set_priority, stop_receiving, stopped, stopped_reply, total_read, unread, write, write_all, write_by, write_error, written_reply}
+use Rattle.wt_spec.specs.Halves.{all_written_reply, at_stream_end, body_start, exact_at_end, finish, finishing, gives_up, has_receiving_half, has_sending_half, is_done, on_half, priority, read, read_exact, read_reply, reset, set_priority, stop_receiving, stopped, stopped_reply, total_read, unread_body, write, write_all, write_by, write_error, written_reply}
 use Rattle.wt_spec.specs.Handshake.{Connecting, HandshakeState, Responding, await_or_fail, await_response, continue_by, continue_connect, continue_handshake, deliver, fail_connect, handshake_state, has_success, incoming, lost, open_request, queued_requests, read_response, respond, send_request, unless_reserved}
 use Rattle.wt_spec.specs.StreamTable.{ByFault, BySession, Classified, Ending, StreamTable, awaits_accept, awaits_delivery, only, verdict_of}
 use Rattle.wt_turn.specs.declared.action.Action.TheVariants as actions
@@ -173,11 +173,11 @@ module _ (side : Side) (a b : Log) (p : EndedAlike side a b) where
       ap (λ (c : Bool). c || (is_finished (actions_of a) k && is_acknowledged (events_of a) k)) (p.resets k) ∙ ap (λ as_. is_reset b k || (is_finished as_ k && is_acknowledged (events_of a) k)) p.actions
       ∙ ap (λ es. is_reset b k || (is_finished (actions_of b) k && is_acknowledged es k)) p.events
 
-  same-unread : (k : ℕ) → unread side a k ≡ unread side b k
+  same-unread : (k : ℕ) → unread_body side a k ≡ unread_body side b k
   same-unread k =
-      ap (λ (t : StreamTable). drop (body_offset (verdict_of k t.classified) + total_read k (calls_of a)) (contents a k)) p.table
-      ∙ ap (λ cs. drop (body_offset (verdict_of k (stream_table side b).classified) + total_read k cs) (contents a k)) p.calls
-      ∙ ap (λ xs. drop (body_offset (verdict_of k (stream_table side b).classified) + total_read k (calls_of b)) xs) (p.contents k)
+      ap (λ (t : StreamTable). drop (body_start (verdict_of k t.classified) + total_read k (calls_of a)) (contents a k)) p.table
+      ∙ ap (λ cs. drop (body_start (verdict_of k (stream_table side b).classified) + total_read k cs) (contents a k)) p.calls
+      ∙ ap (λ xs. drop (body_start (verdict_of k (stream_table side b).classified) + total_read k (calls_of b)) xs) (p.contents k)
 
   same-left : (k : ℕ) (head : List ℕ) → head_left a k head ≡ head_left b k head
   same-left k head = ap (λ as_. drop (length (sent_on as_ k)) head) p.actions
@@ -275,7 +275,7 @@ module _ (side : Side) (a b : Log) (p : EndedAlike side a b) where
   alike-read : (k size : ℕ) → Alike side a b (read side a k size) (read side b k size)
   alike-read k size =
       same-if side a b p (size == 0) (size == 0) _ _ _ _ refl (λ z. polled _ _ refl)
-      (λ z. subst (λ xs. Alike side a b (read_reply side a k size (unread side a k)) (read_reply side b k size xs)) (same-unread k) (at (unread side a k)))
+      (λ z. subst (λ xs. Alike side a b (read_reply side a k size (unread_body side a k)) (read_reply side b k size xs)) (same-unread k) (at (unread_body side a k)))
     where
       at : (bytes : List ℕ) → Alike side a b (read_reply side a k size bytes) (read_reply side b k size bytes)
       at [] = polled _ _ (same-end (end_of (events_of a) k) ∙ ap (λ es. at_stream_end b (end_of es k)) p.events)
@@ -283,9 +283,9 @@ module _ (side : Side) (a b : Log) (p : EndedAlike side a b) where
 
   alike-exact : (k size : ℕ) → Alike side a b (read_exact side a k size) (read_exact side b k size)
   alike-exact k size =
-      same-if side a b p (nat_lt (length (unread side a k)) size) (nat_lt (length (unread side b k)) size) _ _ _ _ (ap (λ xs. nat_lt (length xs) size) (same-unread k))
-      (λ l. subst (λ xs. Alike side a b (exact_at_end side a k (unread side a k) (end_of (events_of a) k)) (exact_at_end side b k xs (end_of (events_of b) k))) (same-unread k)
-      (subst (λ es. Alike side a b (exact_at_end side a k (unread side a k) (end_of (events_of a) k)) (exact_at_end side b k (unread side a k) (end_of es k))) p.events (at (unread side a k) (end_of (events_of a) k))))
+      same-if side a b p (nat_lt (length (unread_body side a k)) size) (nat_lt (length (unread_body side b k)) size) _ _ _ _ (ap (λ xs. nat_lt (length xs) size) (same-unread k))
+      (λ l. subst (λ xs. Alike side a b (exact_at_end side a k (unread_body side a k) (end_of (events_of a) k)) (exact_at_end side b k xs (end_of (events_of b) k))) (same-unread k)
+      (subst (λ es. Alike side a b (exact_at_end side a k (unread_body side a k) (end_of (events_of a) k)) (exact_at_end side b k (unread_body side a k) (end_of es k))) p.events (at (unread_body side a k) (end_of (events_of a) k))))
       (λ l. leaf side a b p [] [] _ _ _ _ refl refl (ap (λ xs. BytesRead k (length (take size xs))) (same-unread k)) (ap (λ xs. replies.Exact (take size xs)) (same-unread k)))
     where
       at : (bytes : List ℕ) (e : StreamEnd) → Alike side a b (exact_at_end side a k bytes e) (exact_at_end side b k bytes e)

@@ -47,3 +47,6 @@ pub mod DatagramOrEnds
 pub mod FirstFault
 pub mod EndingOut
 pub mod PendingOut
+pub mod Telling
+pub mod LeavesRecord
+pub mod OpenedInOrder

@@ -26,7 +26,7 @@ use Rattle.wt_laws.proofs.NoFault.{same-fault}
 use Rattle.wt_laws.specs.Faults.{AtMostOne, ComesOnce, ControlOnce, DecoderOnce, EncoderOnce, OnceEach}
 use Rattle.wt_spec.specs.Driver.{call_view, stream_table}
 use Rattle.wt_spec.specs.Scan.{fault_ending}
-use Rattle.wt_spec.specs.StreamTable.{CallView, Classified, Consequence, StreamTable, control_offset, decoder_offset, dispatched, encoder_offset, first_at, only_once, or_later, paired, uni_consequence}
+use Rattle.wt_spec.specs.StreamTable.{CallView, Classified, Consequence, StreamTable, control_start, decoder_start, dispatched, encoder_start, first_at, only_once, or_later, paired, uni_consequence}
 use Rattle.wt_proto.specs.declared.verdict.Verdict.TheVariants as verdicts
 use Rattle.wt_wire.specs.declared.side.StreamEnd.TheVariants as ends
 
@@ -148,12 +148,12 @@ none-before None e = refl
 none-before (Some x) e = absurd (cc)
 
 uni-once : (offset : Verdict → Option ℕ) → ComesOnce offset → (calls : CallView) (cs : List Classified) (x : Classified) (v : Verdict) → x.verdict ≡ v → (uni_consequence (dispatched calls cs) x.id v).fault ≡ None → AtMostOne offset cs → AtMostOne offset (cs ++ x ∷ [])
-uni-once _ ControlOnce calls cs x (verdicts.Control m) e f a = one-first control_offset cs x (none-before (first_at control_offset cs) f)
-uni-once _ ControlOnce calls cs x _ e f a = one-other control_offset cs x (ap control_offset e) a
-uni-once _ EncoderOnce calls cs x (verdicts.Encoder m) e f a = one-first encoder_offset cs x (none-before (first_at encoder_offset cs) f)
-uni-once _ EncoderOnce calls cs x _ e f a = one-other encoder_offset cs x (ap encoder_offset e) a
-uni-once _ DecoderOnce calls cs x (verdicts.Decoder m) e f a = one-first decoder_offset cs x (none-before (first_at decoder_offset cs) f)
-uni-once _ DecoderOnce calls cs x _ e f a = one-other decoder_offset cs x (ap decoder_offset e) a
+uni-once _ ControlOnce calls cs x (verdicts.Control m) e f a = one-first control_start cs x (none-before (first_at control_start cs) f)
+uni-once _ ControlOnce calls cs x _ e f a = one-other control_start cs x (ap control_start e) a
+uni-once _ EncoderOnce calls cs x (verdicts.Encoder m) e f a = one-first encoder_start cs x (none-before (first_at encoder_start cs) f)
+uni-once _ EncoderOnce calls cs x _ e f a = one-other encoder_start cs x (ap encoder_start e) a
+uni-once _ DecoderOnce calls cs x (verdicts.Decoder m) e f a = one-first decoder_start cs x (none-before (first_at decoder_start cs) f)
+uni-once _ DecoderOnce calls cs x _ e f a = one-other decoder_start cs x (ap decoder_start e) a
 
 classified-once : (side : Side) (log : Log) (offset : Verdict → Option ℕ) → ComesOnce offset → (t : StreamTable) (k : ℕ) (v : Verdict) (e : Consequence) → ClassifiedAs side log t k v e → fault_ending e.fault ≡ None → AtMostOne offset t.classified
     → AtMostOne offset (t.classified ++ record { id = k; verdict = v; surplus = e.surplus } ∷ [])

@@ -15,7 +15,7 @@ use Rattle.wt_seam_spec.specs.Outgoing.{covered, credit_left, may_open, opening}
 use Rattle.wt_seam_spec.specs.Reports.{datagram_fact, datagrams_of, end_of, is_acknowledged, is_connected, is_running, stop_of}
 use Rattle.wt_seam_spec.specs.Sent.{is_finished}
 use Rattle.wt_seam_spec.specs.Streams.{contents, local_bi, local_count, local_uni, peer_bi, peer_count, peer_uni}
-use Rattle.wt_turn.specs.Log.{CallRecord, Called, DatagramPassed, Log, StreamPassed, actions_of, calls_of, ends_by, events_of, is_open}
+use Rattle.wt_turn.specs.Log.{CallRecord, Called, DatagramPassed, DatagramReceived, Log, Polled, StreamAccepted, StreamPassed, actions_of, calls_of, ends_by, events_of, is_open}
 use Rattle.wt_turn.specs.declared.action.Action.{Action}
 use Rattle.wt_turn.specs.declared.call.Call.{Call}
 use Rattle.wt_error.specs.declared.connecting_error.ConnectingError.{ConnectingError}
@@ -31,12 +31,13 @@ use Rattle.wt_wire.specs.declared.lookup.ConnectOutcome.{ConnectOutcome}
 use Rattle.wt_wire.specs.declared.lookup.Lookup.{Lookup}
 use Rattle.wt_wire.specs.declared.side.Side.{Side}
 use Rattle.wt_wire.specs.declared.side.StreamEnd.{StreamEnd}
-use Rattle.wt_laws.proofs.During.{actions-extend, extend, flush-extends}
+use Rattle.wt_laws.proofs.Calls.{caused}
+use Rattle.wt_laws.proofs.During.{actions-extend, extend, flush-extends, steps-extend}
 use Rattle.wt_laws.proofs.Looks.{at-first, events-logged, left_to_release, next-within, pass-drops}
 use Rattle.wt_laws.proofs.Steps.{calls-logged}
 use Rattle.wt_laws.proofs.StreamLaws.{none-left}
 use Rattle.wt_laws.specs.Causes.{FoundDatagram, FoundStream, accepted_kind, is_accept, is_receive}
-use Rattle.wt_laws.specs.Left.{PassesDatagram, PassesNone, PassesStream, PassesTo, PendingExactly, awaits_response, connect_waits, datagram_reply, handshake_waits, has_no_stream, has_nothing_left, is_none_queued, is_pending, is_waiting, lacks_credit, may_dial, of_session, passing_reply, rejection_waits, request_waits, response_waits, session_reply, stream_reply}
+use Rattle.wt_laws.specs.Left.{PassesDatagram, PassesNone, PassesStream, PassesTo, PendingExactly, lacks_response, connect_waits, datagram_reply, handshake_waits, has_no_stream, has_nothing_left, is_none_queued, is_pending, is_waiting, lacks_credit, may_dial, of_session, passing_reply, rejection_waits, request_waits, response_waits, session_reply, stream_reply}
 use Rattle.wt_laws.specs.Laws.{GoesOnFrom, is_left_for}
 use Rattle.wt_laws.specs.Told.{given_stream}
 use Rattle.wt_spec.specs.Answers.{answer_to, call_effect, in_session, is_client, is_first, is_lawful, may_call, on_session, turn_effect}
@@ -44,7 +45,7 @@ use Rattle.wt_spec.specs.Connect.{address_of, connect_to, outcome_error, port_of
 use Rattle.wt_spec.specs.Connection.{accept_due, accept_first, accept_stream, datagram_allowed, datagram_within, give_or_pass, is_for_session, is_opening, next_datagram, next_due, open_stream, pass_stream, poll_opening, receive_datagram, receive_first, receive_next, receive_or_pass, send_datagram, stream_header}
 use Rattle.wt_spec.specs.Driver.{established, session_id, settings_came, settled_datagrams, stream_table}
 use Rattle.wt_spec.specs.Effect.{Effect, head_left, is_covered, is_empty, log_call, pending_or_failed, poll_only}
-use Rattle.wt_spec.specs.Halves.{all_written_reply, at_stream_end, exact_at_end, has_receiving_half, has_sending_half, is_done, on_half, read, read_exact, read_reply, reset, stopped_reply, unread, write_by, write_error, written_reply}
+use Rattle.wt_spec.specs.Halves.{all_written_reply, at_stream_end, exact_at_end, has_receiving_half, has_sending_half, is_done, on_half, read, read_exact, read_reply, reset, stopped_reply, unread_body, write_by, write_error, written_reply}
 use Rattle.wt_spec.specs.Handshake.{Connecting, HandshakeState, Responding, accept_response, continue_by, continue_connect, deliver, handshake_state, has_success, is_continuable, is_refused, open_request, queued_requests, read_response, reject_response, requested, respond, response_head, send_request, unless_reserved}
 use Rattle.wt_spec.specs.StreamTable.{Classified}
 use Rattle.wt_turn.specs.declared.action.Action.TheVariants as actions
@@ -141,7 +142,7 @@ module _ (side : Side) (log : Log) where
   walk_of : ResponseWalk
   walk_of = response_walk_of (contents log (local_bi side)) (end_of (events_of log) (local_bi side))
 
-  waits-sent : (own : List Action) (left : List ℕ) → Waits (is_open log && (lacks_credit log (local_bi side) left || awaits_response side log left)) (send_request side log (local_bi side) own left)
+  waits-sent : (own : List Action) (left : List ℕ) → Waits (is_open log && (lacks_credit log (local_bi side) left || lacks_response side log left)) (send_request side log (local_bi side) own left)
   unfolding walk_of
   waits-sent own left =
       sent-in-order (is_empty left) (is_open log) (is_some (stop_of (events_of log) (local_bi side))) (is_covered log (local_bi side) left) (is_waiting walk_of) _ _ _ _ _ (none-covered (local_bi side) left)
@@ -157,7 +158,7 @@ module _ (side : Side) (log : Log) where
   waits-opened : (head : List ℕ) → Waits (is_open log && request_waits side log (head_left log (local_bi side) head)) (open_request side log head)
   waits-opened head =
       let left = head_left log (local_bi side) head in
-      opened-in-order (local_count (actions_of log) (local_bi side) == 0) (is_open log) (may_open side log (local_bi side)) (lacks_credit log (local_bi side) left || awaits_response side log left) _ _ _ _
+      opened-in-order (local_count (actions_of log) (local_bi side) == 0) (is_open log) (may_open side log (local_bi side)) (lacks_credit log (local_bi side) left || lacks_response side log left) _ _ _ _
       (waits-sent [] left) refl (waits-sent (opening side log (local_bi side)) left) refl
 
   waits-reserved : (reserved : Option (List ℕ)) (head : List ℕ) → Waits (is_open log && (not (is_some reserved) && request_waits side log (head_left log (local_bi side) head))) (unless_reserved side log reserved head)
@@ -307,16 +308,16 @@ module _ (side : Side) (log : Log) where
   unless-none true r x y p q = p ∙ and-false (is_open log)
   unless-none false r x y p q = q
 
-  waits-read-call : (k size : ℕ) → Waits (is_open log && (not (size == 0) && (is_empty (unread side log k) && is_running (end_of (events_of log) k)))) (read side log k size)
-  waits-read-call k size = unless-none (size == 0) _ _ _ refl (waits-read-reply k size (unread side log k))
+  waits-read-call : (k size : ℕ) → Waits (is_open log && (not (size == 0) && (is_empty (unread_body side log k) && is_running (end_of (events_of log) k)))) (read side log k size)
+  waits-read-call k size = unless-none (size == 0) _ _ _ refl (waits-read-reply k size (unread_body side log k))
 
   exact-so : (k : ℕ) (bytes : List ℕ) (e : StreamEnd) → Waits (is_open log && is_running e) (exact_at_end side log k bytes e)
   exact-so k bytes ends.Running = reply-if (is_open log) _ _ refl refl ∙ and-true (is_open log)
   exact-so k bytes ends.Fin = and-false (is_open log)
   exact-so k bytes (ends.Reset code) = and-false (is_open log)
 
-  waits-read-exact : (k size : ℕ) → Waits (is_open log && (nat_lt (length (unread side log k)) size && is_running (end_of (events_of log) k))) (read_exact side log k size)
-  waits-read-exact k size = and-after (is_open log) (nat_lt (length (unread side log k)) size) _ _ _ (exact-so k (unread side log k) (end_of (events_of log) k)) refl
+  waits-read-exact : (k size : ℕ) → Waits (is_open log && (nat_lt (length (unread_body side log k)) size && is_running (end_of (events_of log) k))) (read_exact side log k size)
+  waits-read-exact k size = and-after (is_open log) (nat_lt (length (unread_body side log k)) size) _ _ _ (exact-so k (unread_body side log k) (end_of (events_of log) k)) refl
 
   quiet-reset : (k code : ℕ) → Waits false (reset side log k code)
   quiet-reset k code = neither-effect (is_done log k) _ _ refl (neither-effect (is_open log) _ _ refl refl)
@@ -370,6 +371,7 @@ module _ (side : Side) (log : Log) where
 record Decides (side : Side) (turn : Turn) (start : Log) (x : Effect) : Type 0 where
   pub decided : Log
   pub passes : PassesTo side turn decided start
+  pub reaches : GoesOnFrom decided x.log
   pub no_stream : (k : ℕ) → FoundStream side turn decided k false → ⊥
   pub no_datagram : FoundDatagram side turn decided false → ⊥
   pub exactly : Waits (is_open decided && has_nothing_left side turn decided) x
@@ -415,6 +417,7 @@ module _ (side : Side) (turn : Turn) where
     decides-given again log c true r d e t = record {
       decided = log;
       passes = PassesNone;
+      reaches = extend (flush-extends side (Called (StreamAccepted c.id)) log) (flush-extends side (Called Polled) _);
       no_stream = λ k f. no-other log k c d e t f;
       no_datagram = λ f. not-receiving log false n f;
       exactly = q c.id ∙ and-false (is_open log) ∙ ap (λ b. is_open log && b) (sym (nothing-so log (Some c) d e));
@@ -423,6 +426,7 @@ module _ (side : Side) (turn : Turn) where
     decides-given again log c false r d e t = record {
       decided = r.decided;
       passes = PassesStream c.id (record { accepts = a; session = s; at = at; is_established = d; found = c; next = ap (λ m. next_due side log m s) i ∙ e; same = refl; named = t }) r.passes;
+      reaches = r.reaches;
       no_stream = r.no_stream;
       no_datagram = r.no_datagram;
       exactly = r.exactly;
@@ -434,6 +438,7 @@ module _ (side : Side) (turn : Turn) where
     decides-due again log None f d e = record {
       decided = log;
       passes = PassesNone;
+      reaches = flush-extends side (Called Polled) log;
       no_stream = λ k g. none-found log k d e g;
       no_datagram = λ g. not-receiving log false n g;
       exactly = reply-if side log (is_open log) _ _ refl refl ∙ and-true (is_open log) ∙ ap (λ b. is_open log && b) (sym (nothing-so log None d e));
@@ -453,6 +458,7 @@ module _ (side : Side) (turn : Turn) where
   no-session log call d w g = record {
     decided = log;
     passes = PassesNone;
+    reaches = flush-extends side (Called Polled) log;
     no_stream = λ k f. absurd (let x = f.is_established in cc);
     no_datagram = λ f. absurd (let x = f.is_established in cc);
     exactly = and-false (is_open log) ∙ ap (λ b. is_open log && b) (sym w);
@@ -494,6 +500,7 @@ module _ (side : Side) (turn : Turn) where
     decides-taken again log x true r d e t = record {
       decided = log;
       passes = PassesNone;
+      reaches = extend (flush-extends side (Called DatagramReceived) log) (flush-extends side (Called Polled) _);
       no_stream = λ k f. not-accepting log k false n f;
       no_datagram = λ f. no-other-datagram log x d e t f;
       exactly = and-false (is_open log) ∙ ap (λ b. is_open log && b) (sym (none-so log (Some x) d e));
@@ -502,6 +509,7 @@ module _ (side : Side) (turn : Turn) where
     decides-taken again log x false r d e t = record {
       decided = r.decided;
       passes = PassesDatagram (record { receives = a; session = s; at = at; is_established = d; datagram = x; next = e; named = t }) r.passes;
+      reaches = r.reaches;
       no_stream = r.no_stream;
       no_datagram = r.no_datagram;
       exactly = r.exactly;
@@ -512,6 +520,7 @@ module _ (side : Side) (turn : Turn) where
     none-waits log d e = record {
       decided = log;
       passes = PassesNone;
+      reaches = flush-extends side (Called Polled) log;
       no_stream = λ k f. not-accepting log k false n f;
       no_datagram = λ f. absurd (let x = f.next in cc);
       exactly = reply-if side log (is_open log) _ _ refl refl ∙ and-true (is_open log) ∙ ap (λ b. is_open log && b) (sym (none-so log None d e));
@@ -543,10 +552,10 @@ module _ (side : Side) (turn : Turn) where
   none-passing (turns.Call _) log n = refl
   none-passing _ log n = refl
 
-  at-once : (log : Log) (x : Effect) → (is_accept turn || is_receive turn) ≡ false → Waits (is_open log && has_nothing_left side turn log) x → Decides side turn log x
-  at-once log x n p =
+  at-once : (log : Log) (x : Effect) → (is_accept turn || is_receive turn) ≡ false → GoesOnFrom log x.log → Waits (is_open log && has_nothing_left side turn log) x → Decides side turn log x
+  at-once log x n g p =
       let q = or_parts (is_accept turn) (is_receive turn) n in
-      record { decided = log; passes = PassesNone; no_stream = λ k f. not-accepting log k false q.0 f; no_datagram = λ f. not-receiving log false q.1 f; exactly = p; gives = λ r y. absurd (let z = none-passing turn log n in cc) }
+      record { decided = log; passes = PassesNone; reaches = g; no_stream = λ k f. not-accepting log k false q.0 f; no_datagram = λ f. not-receiving log false q.1 f; exactly = p; gives = λ r y. absurd (let z = none-passing turn log n in cc) }
 
 decides-passing : (side : Side) (log : Log) (t : Turn) → (is_accept t || is_receive t) ≡ true → Decides side t log (turn_effect side log t)
 unfolding call_effect
@@ -580,12 +589,17 @@ left-so : (side : Side) (turn : Turn) (log : Log) (reply : Reply) → ((r : Repl
     → list_any (is_left_for log (accepted_kind side turn) s) (stream_table side log).classified ≡ false
 left-so side turn log reply g s at_ a n d = none-left side log (accepted_kind side turn) s (accept-none side log reply s at_ d n turn a g)
 
+passes-extend : {side : Side} {turn : Turn} {middle log : Log} → PassesTo side turn middle log → GoesOnFrom log middle
+passes-extend PassesNone = ([], refl)
+passes-extend (PassesStream k f p) = extend (extend (actions-extend (actions.StopOut k (code_of h3.BufferedStreamRejected) ∷ []) _) (flush-extends _ (Called (StreamPassed k)) _)) (passes-extend p)
+passes-extend (PassesDatagram f p) = extend (flush-extends _ (Called DatagramPassed) _) (passes-extend p)
+
 pub pending-exactly : (side : Side) (log : Log) (turn : Turn) → is_lawful side log turn ≡ true → PendingExactly side log turn
 pending-exactly side log turn l = at (is_accept turn || is_receive turn) refl
   where
     at : (b : Bool) → (is_accept turn || is_receive turn) ≡ b → PendingExactly side log turn
-    at true p = let d = decides-passing side log turn p in record { decided = d.decided; passes = d.passes; no_stream = d.no_stream; no_datagram = d.no_datagram; exactly = d.exactly; gives = d.gives; none_left = left-so side turn d.decided _ d.gives }
-    at false p = let d = at-once side turn log (turn_effect side log turn) p (waits-turn side log turn l p) in record { decided = d.decided; passes = d.passes; no_stream = d.no_stream; no_datagram = d.no_datagram; exactly = d.exactly; gives = d.gives; none_left = left-so side turn d.decided _ d.gives }
+    at true p = let d = decides-passing side log turn p in record { decided = d.decided; during = record { from_start = passes-extend d.passes; to_end = d.reaches }; passes = d.passes; no_stream = d.no_stream; no_datagram = d.no_datagram; exactly = d.exactly; gives = d.gives; none_left = left-so side turn d.decided _ d.gives }
+    at false p = let d = at-once side turn log (turn_effect side log turn) p (let c = caused side turn log l in extend (steps-extend c.before) (steps-extend c.after)) (waits-turn side log turn l p) in record { decided = d.decided; during = record { from_start = passes-extend d.passes; to_end = d.reaches }; passes = d.passes; no_stream = d.no_stream; no_datagram = d.no_datagram; exactly = d.exactly; gives = d.gives; none_left = left-so side turn d.decided _ d.gives }
 
 -- ---- a connection that has ended
 
@@ -596,11 +610,6 @@ open-front (e ∷ more) log o = open-front more log (at (ends_by e) (list_any en
     at : (b c : Bool) → not (b || c) ≡ true → not c ≡ true
     at true c o = absurd (cc)
     at false c o = o
-
-passes-extend : {side : Side} {turn : Turn} {middle log : Log} → PassesTo side turn middle log → GoesOnFrom log middle
-passes-extend PassesNone = ([], refl)
-passes-extend (PassesStream k f p) = extend (extend (actions-extend (actions.StopOut k (code_of h3.BufferedStreamRejected) ∷ []) _) (flush-extends _ (Called (StreamPassed k)) _)) (passes-extend p)
-passes-extend (PassesDatagram f p) = extend (flush-extends _ (Called DatagramPassed) _) (passes-extend p)
 
 pub none-waits-ended : (side : Side) (log : Log) (turn : Turn) → is_lawful side log turn ≡ true → is_open log ≡ false → is_pending (answer_to side log turn).reply ≡ false
 none-waits-ended side log turn l o = p.exactly ∙ ap (λ b. b && has_nothing_left side turn p.decided) (at (is_open p.decided) refl)

@@ -24,7 +24,7 @@ use Rattle.wt_laws.specs.ReplyCauses.{ReplyCause}
 use Rattle.wt_laws.specs.Told.{Logged, NoRecord, OneRecord, Tells, ThenPolled, datagram_told, given_stream, is_quiet, read_piece, request_told, session_told}
 use Rattle.wt_spec.specs.Answers.{answer_to, is_lawful, log_after, log_from}
 use Rattle.wt_spec.specs.Driver.{stream_table}
-use Rattle.wt_spec.specs.Halves.{body_offset, bytes_read, has_receiving_half, is_accepted, total_read, unread}
+use Rattle.wt_spec.specs.Halves.{body_start, bytes_read, has_receiving_half, is_accepted, total_read, unread_body}
 use Rattle.wt_spec.specs.StreamTable.{verdict_of}
 use Rattle.wt_turn.specs.declared.call.Call.TheVariants as calls
 use Rattle.wt_error.specs.declared.stream_error.StreamReadExactError.TheVariants as exacts
@@ -103,9 +103,9 @@ local-unclassified side log k l = at (verdict_of k (stream_table side log).class
     at None e = refl
     at (Some v) e = absurd (not-both side k _ _ (are-peers side log k v e) l)
 
-anchor-offset : (side : Side) (log : Log) (k offset : ℕ) → Anchored side log k offset → body_offset (verdict_of k (stream_table side log).classified) ≡ offset
-anchor-offset side log k offset (OfLocal l e) = ap body_offset (local-unclassified side log k l) ∙ sym e
-anchor-offset side log k offset (OfSession s v) = ap body_offset v
+anchor-offset : (side : Side) (log : Log) (k offset : ℕ) → Anchored side log k offset → body_start (verdict_of k (stream_table side log).classified) ≡ offset
+anchor-offset side log k offset (OfLocal l e) = ap body_start (local-unclassified side log k l) ∙ sym e
+anchor-offset side log k offset (OfSession s v) = ap body_start v
 
 anchored-entry : (side : Side) (k offset : ℕ) (e : Entry) (log : Log) → Anchored side log k offset → Anchored side (e ∷ log) k offset
 anchored-entry side k offset e log (OfLocal l q) = OfLocal l q
@@ -191,11 +191,11 @@ same-read k j _ e f = absurd (cc)
 record PieceOf (side : Side) (log : Log) (k : ℕ) (piece : List ℕ) : Type 0 where
   pub count : ℕ
   pub half : has_receiving_half side log k ≡ true
-  pub is : piece ≡ take count (unread side log k)
+  pub is : piece ≡ take count (unread_body side log k)
 
-piece-at : (side : Side) (log : Log) (j k count : ℕ) (piece : List ℕ) → j ≡ k → has_receiving_half side log j ≡ true → piece ≡ take count (unread side log j) → PieceOf side log k piece
+piece-at : (side : Side) (log : Log) (j k count : ℕ) (piece : List ℕ) → j ≡ k → has_receiving_half side log j ≡ true → piece ≡ take count (unread_body side log j) → PieceOf side log k piece
 piece-at side log j k count piece e h p =
-    record { count = count; half = subst (λ (n : ℕ). has_receiving_half side log n ≡ true) e h; is = subst (λ (n : ℕ). piece ≡ take count (unread side log n)) e p }
+    record { count = count; half = subst (λ (n : ℕ). has_receiving_half side log n ≡ true) e h; is = subst (λ (n : ℕ). piece ≡ take count (unread_body side log n)) e p }
 
 this-read : (k j size : ℕ) (t : Turn) → t ≡ turns.Call (calls.Read j size) → reads_from k t ≡ true → j ≡ k
 this-read k j size t e f = eqb-true j k (ap (reads_from k) (sym e) ∙ f)
@@ -208,7 +208,7 @@ piece-of side turn log k (replies.Read (Some p)) piece r w e = let x : p ≡ pie
 piece-of side turn log k (replies.Exact p) piece r w e = let x : p ≡ piece = cc in subst (PieceOf side log k) x (piece-at side log w.0 k w.1 p (this-exact k w.0 w.1 turn w.2 r) w.3 w.4)
 piece-of side turn log k (replies.ExactFailed (exacts.FinishedEarly n) p) piece r w e =
     let x : p ≡ piece = cc in
-    subst (PieceOf side log k) x (piece-at side log w.0 k (length (unread side log w.0)) p (this-exact k w.0 w.1 turn w.2 r) w.3 (w.5.1 ∙ sym (take_all (length (unread side log w.0)) (unread side log w.0) (omega arith))))
+    subst (PieceOf side log k) x (piece-at side log w.0 k (length (unread_body side log w.0)) p (this-exact k w.0 w.1 turn w.2 r) w.3 (w.5.1 ∙ sym (take_all (length (unread_body side log w.0)) (unread_body side log w.0) (omega arith))))
 piece-of side turn log k _ piece r w e = absurd (cc)
 
 quiet-read : (reply : Reply) (bytes : List ℕ) → is_quiet reply ≡ true → more_read (read_piece reply) bytes ≡ bytes
@@ -245,7 +245,7 @@ gave side k bytes piece log later f p x t grow keep =
     let n = total_read k (calls_of log) in
     let body = drop a.0 (contents log k) in
     let q : IsPrefix k a.0 n bytes log = re-anchored p.anchor a.1 in
-    let u : unread side log k ≡ drop n body = ap (λ z. drop (z + n) (contents log k)) o ∙ split a.0 n (contents log k) in
+    let u : unread_body side log k ≡ drop n body = ap (λ z. drop (z + n) (contents log k)) o ∙ split a.0 n (contents log k) in
     let i : piece ≡ take x.count (drop n body) = x.is ∙ ap (take x.count) u in
     let w = longer bytes body n x.count q.is q.within in
     record {
@@ -350,14 +350,14 @@ reads-law side = record {
   turn = λ before log t l p. record { facts_hold = keeps-turn (keeps-facts side t) log l p.facts_hold; each = λ k. one-exchange side before log t k (reads_from k t) refl l p };
 }
 
-in-order : (side : Side) (k : ℕ) (bytes : List ℕ) (log : Log) → ReadSoFar side k bytes log → (rest : List ℕ) × (bytes ++ rest ≡ drop (body_offset (verdict_of k (stream_table side log).classified)) (contents log k))
+in-order : (side : Side) (k : ℕ) (bytes : List ℕ) (log : Log) → ReadSoFar side k bytes log → (rest : List ℕ) × (bytes ++ rest ≡ drop (body_start (verdict_of k (stream_table side log).classified)) (contents log k))
 in-order side k bytes log p = at p.anchor
   where
     none : (n : ℕ) (xs ys : List ℕ) → ys ≡ take n xs → n ≡ 0 → ys ≡ []
     none n xs ys e z = e ∙ rw z refl
 
-    at : (total_read k (calls_of log) ≡ 0) ⊎ Anchored side log k p.offset → (rest : List ℕ) × (bytes ++ rest ≡ drop (body_offset (verdict_of k (stream_table side log).classified)) (contents log k))
-    at (inl z) = (drop (body_offset (verdict_of k (stream_table side log).classified)) (contents log k), ap (λ xs. xs ++ drop (body_offset (verdict_of k (stream_table side log).classified)) (contents log k)) (none _ _ bytes p.prefix.is z))
+    at : (total_read k (calls_of log) ≡ 0) ⊎ Anchored side log k p.offset → (rest : List ℕ) × (bytes ++ rest ≡ drop (body_start (verdict_of k (stream_table side log).classified)) (contents log k))
+    at (inl z) = (drop (body_start (verdict_of k (stream_table side log).classified)) (contents log k), ap (λ xs. xs ++ drop (body_start (verdict_of k (stream_table side log).classified)) (contents log k)) (none _ _ bytes p.prefix.is z))
     at (inr a) =
         let n = total_read k (calls_of log) in
         let body = drop p.offset (contents log k) in
@@ -367,4 +367,4 @@ pub reads-in-order : (side : Side) (all : List Turn) → AllLawful side [] all �
 reads-in-order side all a k = in-order side k (read_from k (exchanges side all)) (log_from side [] all) ((holds side (ReadsHold side) (reads-law side) all a).each k)
 
 pub reads-from-start : (side : Side) (log : Log) → ReadsFromStart side log
-reads-from-start side log = λ k l. ap body_offset (local-unclassified side log k l)
+reads-from-start side log = λ k l. ap body_start (local-unclassified side log k l)

@@ -15,7 +15,7 @@ use Rattle.wt_laws.proofs.DatagramTold.{datagrams-same, datagrams-stay}
 use Rattle.wt_laws.proofs.Moments.{kept}
 use Rattle.wt_laws.proofs.SessionLaws.{settings-stay}
 use Rattle.wt_laws.specs.Reachable.{AllLawful}
-use Rattle.wt_laws.specs.ReplyCauses.{is_call}
+use Rattle.wt_spec.specs.Turns.{is_call}
 use Rattle.wt_laws.specs.Runs.{DoneAtOnce, DoneLate, RunsLawful, RunsLongest, StaysSo}
 use Rattle.wt_spec.specs.Answers.{AtUnlawful, Finished, Run, actions_since, answer_to, answers_from, call_effect, is_lawful, log_after, log_from, receive, run_from, with_answer}
 use Rattle.wt_spec.specs.Driver.{delivers, flush, log_and_flush, releases, stream_table}

@@ -138,7 +138,7 @@ other-piece side turn k (actions.Send id piece) log n s c = at (id == k) refl c.
     at true e (OfWrite bytes h w m p) = absurd (let y = ap (λ j. bytes_for j turn) (eqb-true id k e) in cc)
     at true e (OfHeader session t z d o p) = absurd (let y = s.no_opening in let q = ap (λ j. list_any (starts_opening j) (calls_of log) && not (list_any (ends_opening j) (calls_of log))) (eqb-true id k e) in cc)
     at true e (OfResponse accepts head f i p) = absurd (s.no_request (from-request turn (calls_of log) accepts head f) (sym i ∙ eqb-true id k e))
-    at true e (OfRequest reserved head c h i z p) = absurd (s.no_connect reserved head h)
+    at true e (OfRequest head c h i z p) = absurd (s.no_connect None head h)
 other-piece side turn k _ log n s c = refl
 
 pub other-own : (side : Side) (turn : Turn) (k : ℕ) (own : List Action) (log : Log) → bytes_for k turn ≡ None → Alone side k (calls_of log) → OwnCauses side turn log own → sends_of k own ≡ []

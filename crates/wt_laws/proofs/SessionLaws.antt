@@ -245,11 +245,11 @@ established-how side turn log own s at f g (ByAnswer head x i c o a) =
     AfterRequest h.0 d (f.by_server (from-request turn (calls_of log) true head x)) (a ∙ ap request_end d.verdict)
     (subst (λ z. is_covered log s (head_left log s z) ≡ true) h.1 c) (subst (λ z. own ≡ send_of s (head_left log s z)) h.1 o)
     (subst (λ z. head_left (with_actions own log) s z ≡ []) h.1 (subst (λ as_. head_left (with_actions as_ log) s head ≡ []) (sym o) (head-out log s head)))
-established-how side turn log own s at f g (ByResponse reserved head fields t z w r c i n l) = AfterResponse reserved head fields (f.by_client reserved head z) i n z l w r c
+established-how side turn log own s at f g (ByResponse head fields t z w r c i n l) = AfterResponse head fields (f.by_client None head z) i n z l w r c
 
 settings-of : (side : Side) (log : Log) (own : List Action) (s at : ℕ) → EstablishedHow side log own s at → settings_came side log ≡ true
 settings-of side log own s at (AfterRequest headers w b e c o h) = w.settings
-settings-of side log own s at (AfterResponse reserved head fields b i n z l w r c) = w
+settings-of side log own s at (AfterResponse head fields b i n z l w r c) = w
 
 pub established-rightly : (side : Side) (turn : Turn) (log later : Log) (s at : ℕ) → GoesOnFrom (Called (SessionEstablished s at) ∷ log) later → Handshakes side log → Facts side log → EstablishedBy side turn log s at → EstablishedRightly side later s at
 established-rightly side turn log later s at g f v c =

@@ -219,7 +219,7 @@ module _ (side : Side) (frame : Option (List ℕ)) where
         at true e (OfWrite bytes b w m q) = absurd (not-given log k h i (sends-written log id k e w))
         at true e (OfHeader session u z d o q) = absurd (not-started log k h i (subst (λ (j : ℕ). list_any (starts_opening j) (calls_of log) ≡ true) (eqb-true id k e) (and_parts (list_any (starts_opening id) (calls_of log)) _ o).0))
         at true e (OfResponse accepts head f r q) = goes-on log k head piece (response-frame log accepts head h f) (h.begun k i) (moved log id k head piece e q)
-        at true e (OfRequest reserved head c s r z q) = goes-on log k head piece (h.connecting reserved head s).0 (h.begun k i) (moved log id k head piece e q)
+        at true e (OfRequest head c s r z q) = goes-on log k head piece (h.connecting None head s).0 (h.begun k i) (moved log id k head piece e q)
     action-begun log k _ h i c = ((h.begun k i).0, append-nil (sent_on (actions_of log) k) ∙ (h.begun k i).1)
 
     -- nothing more goes out on it once the session is established
@@ -237,7 +237,7 @@ module _ (side : Side) (frame : Option (List ℕ)) where
         at true e (OfWrite bytes b w m q) = absurd (not-given log k h i (sends-written log id k e w))
         at true e (OfHeader session u z d o q) = absurd (not-started log k h i (subst (λ (j : ℕ). list_any (starts_opening j) (calls_of log) ≡ true) (eqb-true id k e) (and_parts (list_any (starts_opening id) (calls_of log)) _ o).0))
         at true e (OfResponse accepts head f r q) = absurd (over (under-way-request (handshake_state (calls_of log)) (from-request turn (calls_of log) accepts head f)))
-        at true e (OfRequest reserved head c s r z q) = absurd (over (ap is_under_way s))
+        at true e (OfRequest head c s r z q) = absurd (over (ap is_under_way s))
     action-whole log k at_ _ h d c = refl
 
     -- nor once the response is finished
@@ -255,7 +255,7 @@ module _ (side : Side) (frame : Option (List ℕ)) where
         at true e (OfWrite bytes b w m q) = absurd (not-given log k h i (sends-written log id k e w))
         at true e (OfHeader session u z d o q) = absurd (not-started log k h i (subst (λ (j : ℕ). list_any (starts_opening j) (calls_of log) ≡ true) (eqb-true id k e) (and_parts (list_any (starts_opening id) (calls_of log)) _ o).0))
         at true e (OfResponse accepts head f r q) = none head (response-frame log accepts head h f) (moved log id k head piece e q)
-        at true e (OfRequest reserved head c s r z q) = none head (h.connecting reserved head s).0 (moved log id k head piece e q)
+        at true e (OfRequest head c s r z q) = none head (h.connecting None head s).0 (moved log id k head piece e q)
     action-finished log k _ h i d c = refl
 
     -- the response is finished once all of it is out
@@ -279,7 +279,7 @@ module _ (side : Side) (frame : Option (List ℕ)) where
         at true e (OfWrite bytes b w m q) = absurd (let x = sends-written log id k e w in cc)
         at true e (OfHeader session u z s o q) = absurd (let x = h.heads.given.facts_hold.openings k (subst (λ (j : ℕ). list_any (starts_opening j) (calls_of log) ≡ true) (eqb-true id k e) (and_parts (list_any (starts_opening id) (calls_of log)) _ o).0) in cc)
         at true e (OfResponse accepts head f r q) = absurd (let x = subst (λ (j : ℕ). list_any (delivers j) (calls_of log) ≡ true) (sym r ∙ eqb-true id k e) (h.heads.given.handshakes.has_one (from-request turn (calls_of log) accepts head f)) in cc)
-        at true e (OfRequest reserved head c s r z q) = absurd (let x = is-local-bi side in let y = ap (is_local side) (sym r ∙ eqb-true id k e) in cc)
+        at true e (OfRequest head c s r z q) = absurd (let x = is-local-bi side in let y = ap (is_local side) (sym r ∙ eqb-true id k e) in cc)
     untouched-send log k _ h l n d c = refl
 
     untouched-finish : (log : Log) (k : ℕ) (a : Action) → Out side frame log → is_accepted log k ≡ false → list_any (delivers k) (calls_of log) ≡ false → ActionCause side turn log a → finishes k a ≡ false
@@ -445,8 +445,8 @@ module _ (side : Side) (frame : Option (List ℕ)) where
             let s = for-server side (calls_of then_) k n d in
             let l : head_left then_ k head ≡ [] = ap (λ g. head_left g k head) (c.is ∙ ap (λ xs. with_actions xs c.before) o) ∙ head-out c.before k head in
             record { of_session = s; is_out = all-out k head h s (response-frame turn t then_ true head h g) l; opened = λ b. absurd (cc) }
-        by (ByResponse reserved head fields v z w r y i n l) =
-            let m = h.connecting reserved head (ap handshake_state (sym same-calls) ∙ z) in
+        by (ByResponse head fields v z w r y i n l) =
+            let m = h.connecting None head (ap handshake_state (sym same-calls) ∙ z) in
             let s = for-client side (calls_of then_) k m.1 i in
             record {
               of_session = s;

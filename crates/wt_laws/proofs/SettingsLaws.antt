@@ -24,7 +24,8 @@ use Rattle.wt_laws.proofs.ReadLaws.{local-unclassified, not-both}
 use Rattle.wt_laws.proofs.Sends.{counts-with, piece_on, send-on, sends-append, sends_of, sent-with}
 use Rattle.wt_laws.proofs.SessionLaws.{Handshakes, from-request, handshakes-entries, handshakes-first, handshakes-same, has_request}
 use Rattle.wt_laws.proofs.Steps.{Brings, Keeps, blind-actions, kept-actions, of-record}
-use Rattle.wt_laws.specs.Causes.{ActionCause, ByAccept, ByOpening, OfHeader, OfRequest, OfResponse, OfWrite, OwnCauses, SendCause, event_of}
+use Rattle.wt_laws.specs.Causes.{ActionCause, ByAccept, ByOpening, OfHeader, OfRequest, OfResponse, OfWrite, OwnCauses, SendCause}
+use Rattle.wt_spec.specs.Turns.{event_of}
 use Rattle.wt_laws.specs.Laws.{SettingsOut}
 use Rattle.wt_laws.specs.Reachable.{IsReachable}
 use Rattle.wt_laws.specs.RecordCauses.{CallCause, NewOpening, RecordCause}
@@ -76,7 +77,7 @@ own-piece side turn (actions.Send id piece) log s c = at (id == local_uni side) 
     at true e (OfWrite bytes h w n p) = absurd (let y = (and_parts (is_accepted log id) _ w).0 in let z = s.accepted in let q = ap (λ k. list_any (accepts_stream k) (calls_of log)) (eqb-true id (local_uni side) e) in cc)
     at true e (OfHeader session t x d o p) = absurd (let y = (and_parts (list_any (starts_opening id) (calls_of log)) _ o).0 in let z = s.opening in let q = ap (λ k. list_any (starts_opening k) (calls_of log)) (eqb-true id (local_uni side) e) in cc)
     at true e (OfResponse accepts head f k p) = absurd (s.requests (from-request turn (calls_of log) accepts head f) (sym k ∙ eqb-true id (local_uni side) e))
-    at true e (OfRequest reserved head x h k z p) = absurd (not-same-kind side (sym k ∙ eqb-true id (local_uni side) e))
+    at true e (OfRequest head x h k z p) = absurd (not-same-kind side (sym k ∙ eqb-true id (local_uni side) e))
 own-piece side turn _ log s c = refl
 
 own-silent : (side : Side) (turn : Turn) (own : List Action) (log : Log) → Silent side (calls_of log) → OwnCauses side turn log own → sends_of (local_uni side) own ≡ []

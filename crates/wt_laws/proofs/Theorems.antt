@@ -35,7 +35,7 @@ use Rattle.wt_laws.specs.Exactly.{AsksFirst, ConnectGoesOn, ConnectsAnswer, Head
 use Rattle.wt_laws.specs.Laws.{CutsWell, DatagramsInOrder, FaultCloses, HeadersOut, NothingAfterEnd, OneSession, OpenExactly, ReadsFromStart, ReadsInOrder, ReplyHasCause, ResultStays, SendsAll, SendsEnd, SendsInOrder, SessionStreamOut, SessionTold, SessionsRightly, SettingsOut, StreamsAcceptedRightly, TakenGoesOut, WithinCredit}
 use Rattle.wt_laws.specs.Left.{PendingExactly, is_pending}
 use Rattle.wt_laws.specs.Reachable.{AllLawful, IsReachable, exchanges}
-use Rattle.wt_laws.specs.ReplyCauses.{is_call}
+use Rattle.wt_spec.specs.Turns.{is_call}
 use Rattle.wt_laws.specs.Runs.{DoneLate, InOrderOfOpening, LateChangesNothing, RunsLawful, RunsLongest, StaysSo}
 use Rattle.wt_spec.specs.Answers.{answer_to, is_lawful, log_from}
 use Rattle.wt_spec.specs.Driver.{established, stream_table}

@@ -16,10 +16,10 @@ use Rattle.wt_laws.proofs.During.{decided-during, extend}
 use Rattle.wt_laws.proofs.RunLaws.{late-bytes}
 use Rattle.wt_laws.proofs.Steps as steps
 use Rattle.wt_laws.proofs.Steps.{ByByte, ByEvent, ByLate, Nothing, Steps, blind-flush, of-record}
-use Rattle.wt_laws.specs.Causes.{OwnCauses, event_of}
+use Rattle.wt_laws.specs.Causes.{OwnCauses}
+use Rattle.wt_spec.specs.Turns.{event_of, is_call}
 use Rattle.wt_laws.specs.Laws.{DriverCauses, GoesOnFrom}
 use Rattle.wt_laws.specs.Reachable.{AfterTurn, AtStart, IsReachable}
-use Rattle.wt_laws.specs.ReplyCauses.{is_call}
 use Rattle.wt_laws.specs.TurnCauses.{ActionsWentOut, AfterAction, AtOnce, AtTurn, ByCall, ByDriver, CausedIn, EntriesHaveCauses, EntryCause, ReplyIsRecorded, SentIn, SinceMoment, WentOut, WithEntry}
 use Rattle.wt_spec.specs.Answers.{is_lawful, log_after, receive}
 use Rattle.wt_spec.specs.Driver.{apply_if, flush, is_moment, log_and_flush, pending_actions}

@@ -12,7 +12,7 @@ use Rattle.wt_seam_spec.specs.Outgoing.{covered, may_open, next_id}
 use Rattle.wt_seam_spec.specs.Reports.{datagram_fact, end_of, is_acknowledged, stop_of}
 use Rattle.wt_seam_spec.specs.Sent.{is_finished, is_reset}
 use Rattle.wt_seam_spec.specs.Streams.{contents, local_bi, local_count, local_uni, peer_bi, peer_uni}
-use Rattle.wt_turn.specs.Log.{Acked, CallRecord, Connected, Datagram, DatagramLimit, End, Event, Log, Loss, MaxBi, MaxData, MaxUni, PeerBi, PeerUni, Reset, Sent, Stop, actions_of, calls_of, events_of, is_open, with_actions}
+use Rattle.wt_turn.specs.Log.{CallRecord, Log, Sent, actions_of, calls_of, events_of, is_open, with_actions}
 use Rattle.wt_turn.specs.declared.action.Action.{Action}
 use Rattle.wt_turn.specs.declared.turn.Turn.{Turn}
 use Rattle.wt_wire.specs.Codes.{code_of}
@@ -39,24 +39,6 @@ use Rattle.wt_turn.specs.declared.turn.Turn.TheVariants as turns
 
 -- ---- which turn it is
 
--- the event that a turn of the transport tells, where it brings no bytes
-abbrev pub event_of : Turn → Option Event
-event_of (turns.Connected uni bi credit fact) = Some (Connected uni bi credit fact)
-event_of turns.PeerUni = Some PeerUni
-event_of turns.PeerBi = Some PeerBi
-event_of (turns.Bytes id piece) = None
-event_of (turns.End id) = Some (End id)
-event_of (turns.Reset id code) = Some (Reset id code)
-event_of (turns.Stop id code) = Some (Stop id code)
-event_of (turns.Acked id) = Some (Acked id)
-event_of (turns.Datagram piece) = Some (Datagram piece)
-event_of (turns.MaxUni total) = Some (MaxUni total)
-event_of (turns.MaxBi total) = Some (MaxBi total)
-event_of (turns.MaxData id total) = Some (MaxData id total)
-event_of (turns.DatagramLimit fact) = Some (DatagramLimit fact)
-event_of (turns.Loss reason) = Some (Loss reason)
-event_of (turns.Call call) = None
-
 -- the turn accepts a stream
 abbrev pub is_accept : Turn → Bool
 is_accept (turns.Call calls.AcceptUni) = true
@@ -78,6 +60,12 @@ abbrev pub reads_from : ℕ → Turn → Bool
 reads_from k (turns.Call (calls.Read id size)) = id == k
 reads_from k (turns.Call (calls.ReadExact id size)) = id == k
 reads_from k _ = false
+
+-- how many bytes a read asks for
+abbrev pub asked_size : Turn → ℕ
+asked_size (turns.Call (calls.Read id size)) = size
+asked_size (turns.Call (calls.ReadExact id size)) = size
+asked_size _ = 0
 
 -- the bytes that a write hands in for the stream
 abbrev pub bytes_for : ℕ → Turn → Option (List ℕ)
@@ -123,7 +111,7 @@ pub record FoundStream (side : Side) (turn : Turn) (log : Log) (k : ℕ) (for_se
   pub same : found.id ≡ k
   pub named : is_for_session session found.verdict ≡ for_session
 
--- the header of a stream that this end opens is out
+-- the header of a stream that this end opens is out: as many bytes as it has (that they are the header: `HeadersOut`)
 pub record OpenedStream (side : Side) (turn : Turn) (log : Log) (k : ℕ) : Type 0 where
   pub polls : polls_opening k turn ≡ true
   pub opening : is_opening log k ≡ true
@@ -154,15 +142,15 @@ pub data ResponseFrom (turn : Turn) (before : List CallRecord) (accepts : Bool) 
   ByRejection : (id : ℕ) → accepts ≡ false → frame_of turn ≡ Some head → handshake_state before ≡ Requested id → ResponseFrom turn before accepts head
   FromBefore : turn ≡ turns.Call calls.Handshake → handshake_state before ≡ Responding accepts head → ResponseFrom turn before accepts head
 
--- the rest of an acceptance goes out; or the call goes on with a connect whose whole request is out, and reads a response with a status code
--- from 200 to 299
+-- the rest of an acceptance goes out; or the call goes on with a connect that has no reserved name among its headers and whose whole
+-- request is out, and reads a response with a status code from 200 to 299
 pub data EstablishCause (side : Side) (turn : Turn) (log : Log) (own : List Action) (id at : ℕ) : Type 0 where
   ByAnswer : (head : List ℕ) → ResponseFrom turn (calls_of log) true head → id ≡ requested (calls_of log) → is_covered log id (head_left log id head) ≡ true
       → own ≡ send_of id (head_left log id head) → at ≡ request_end (verdict_of id (stream_table side log).classified) → EstablishCause side turn log own id at
-  ByResponse : (reserved : Option (List ℕ)) (head : List ℕ) (fields : Fields) → turn ≡ turns.Call calls.Handshake → handshake_state (calls_of log) ≡ Connecting reserved head → settings_came side log ≡ true
+  ByResponse : (head : List ℕ) (fields : Fields) → turn ≡ turns.Call calls.Handshake → handshake_state (calls_of log) ≡ Connecting None head → settings_came side log ≡ true
       → response_walk_of (contents log id) (end_of (events_of log) id) ≡ responses.Response fields at → has_success fields ≡ true → id ≡ local_bi side → local_count (actions_of (with_actions own log)) id ≢ 0 → head_left (with_actions own log) id head ≡ [] → EstablishCause side turn log own id at
 
--- what establishes a session
+-- what establishes a session, with these actions right before its record
 pub record EstablishedBy (side : Side) (turn : Turn) (log : Log) (id at : ℕ) : Type 0 where
   pub before : Log
   pub own : List Action
@@ -179,17 +167,19 @@ opened_kind side (turns.Call calls.OpenUni) = Some (local_uni side)
 opened_kind side (turns.Call calls.OpenBi) = Some (local_bi side)
 opened_kind side _ = None
 
--- why a stream of this kind is opened: the call opens one, or a connect under way opens that of its request, which has none yet
+-- why a stream of this kind is opened: the call opens one on the established session; or a connect under way, with no reserved name
+-- among its headers, opens that of its request, which has none yet
 pub data OpenCause (side : Side) (turn : Turn) (log : Log) (kind : ℕ) : Type 0 where
-  OfCall : opened_kind side turn ≡ Some kind → OpenCause side turn log kind
-  OfRequest : (reserved : Option (List ℕ)) (head : List ℕ) → turn ≡ turns.Call calls.Handshake → handshake_state (calls_of log) ≡ Connecting reserved head → settings_came side log ≡ true → kind ≡ local_bi side → local_count (actions_of log) (local_bi side) ≡ 0 → OpenCause side turn log kind
+  OfCall : (session at : ℕ) → opened_kind side turn ≡ Some kind → established (calls_of log) ≡ Some (session, at) → OpenCause side turn log kind
+  OfRequest : (head : List ℕ) → turn ≡ turns.Call calls.Handshake → handshake_state (calls_of log) ≡ Connecting None head → settings_came side log ≡ true → kind ≡ local_bi side → local_count (actions_of log) (local_bi side) ≡ 0 → OpenCause side turn log kind
 
--- what a call sends on a stream, which the peer didn't stop (see ActionCause)
+-- what a call sends on a stream, which the peer didn't stop (see ActionCause); of a connect's request, where no reserved name is among
+-- its headers
 pub data SendCause (side : Side) (turn : Turn) (log : Log) (k : ℕ) (piece : List ℕ) : Type 0 where
   OfWrite : (bytes : List ℕ) → bytes_for k turn ≡ Some bytes → has_sending_half side log k ≡ true → write_error log k ≡ None → piece ≡ covered log k bytes → SendCause side turn log k piece
   OfHeader : (session at : ℕ) → polls_opening k turn ≡ true → established (calls_of log) ≡ Some (session, at) → is_opening log k ≡ true → piece ≡ covered log k (head_left log k (stream_header k session)) → SendCause side turn log k piece
   OfResponse : (accepts : Bool) (head : List ℕ) → ResponseFrom turn (calls_of log) accepts head → k ≡ requested (calls_of log) → piece ≡ covered log k (head_left log k head) → SendCause side turn log k piece
-  OfRequest : (reserved : Option (List ℕ)) (head : List ℕ) → turn ≡ turns.Call calls.Handshake → handshake_state (calls_of log) ≡ Connecting reserved head → k ≡ local_bi side → local_count (actions_of log) (local_bi side) ≢ 0 → piece ≡ covered log k (head_left log k head) → SendCause side turn log k piece
+  OfRequest : (head : List ℕ) → turn ≡ turns.Call calls.Handshake → handshake_state (calls_of log) ≡ Connecting None head → k ≡ local_bi side → local_count (actions_of log) (local_bi side) ≢ 0 → piece ≡ covered log k (head_left log k head) → SendCause side turn log k piece
 
 -- why a sending half is finished
 pub data FinishCause (side : Side) (turn : Turn) (log : Log) (k : ℕ) : Type 0 where
@@ -209,7 +199,8 @@ pub record ResponseIs (side : Side) (turn : Turn) (log : Log) (walk : ResponseWa
   pub under_way : handshake_state (calls_of log) ≡ Connecting reserved request
   pub is : response_walk_of (contents log (local_bi side)) (end_of (events_of log) (local_bi side)) ≡ walk
 
--- all of this request is out, on the client's first bidirectional stream
+-- all of this request is out, on the client's first bidirectional stream: as many bytes as it has (that they are the request:
+-- `SessionStreamOut`)
 abbrev pub IsRequestOut : Side → Log → List ℕ → Type 0
 IsRequestOut side log request = (local_count (actions_of log) (local_bi side) ≢ 0) × (head_left log (local_bi side) request ≡ [])
 
@@ -231,9 +222,9 @@ pub data HandshakeCode (side : Side) (turn : Turn) (log : Log) (code : ℕ) : Ty
       → code ≡ code_of h3.ClosedCriticalStream → HandshakeCode side turn log code
   OfResponse : (fault : ErrorCode) (response : ResponseIs side turn log (responses.Fault fault)) → IsRequestOut side log response.request → code ≡ code_of fault → HandshakeCode side turn log code
 
--- the application or the endpoint closes, or a handshake that fails does
+-- the application closes the established session, or the endpoint the connection, or a handshake that fails does
 pub data CloseCause (side : Side) (turn : Turn) (log : Log) (code : ℕ) (reason : List ℕ) : Type 0 where
-  OfCall : turn ≡ turns.Call (calls.Close code reason) → CloseCause side turn log code reason
+  OfCall : (session at : ℕ) → turn ≡ turns.Call (calls.Close code reason) → established (calls_of log) ≡ Some (session, at) → CloseCause side turn log code reason
   OfEndpoint : turn ≡ turns.Call (calls.EndpointClose code reason) → CloseCause side turn log code reason
   OfHandshake : is_under_way (handshake_state (calls_of log)) ≡ true → HandshakeCode side turn log code → reason ≡ [] → CloseCause side turn log code reason
 

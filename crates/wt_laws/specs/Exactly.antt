@@ -22,14 +22,14 @@ use Rattle.wt_wire.specs.declared.error.ErrorCode.{ErrorCode}
 use Rattle.wt_wire.specs.declared.lookup.ConnectOutcome.{ConnectOutcome}
 use Rattle.wt_wire.specs.declared.lookup.Lookup.{Lookup}
 use Rattle.wt_wire.specs.declared.side.Side.{Side}
-use Rattle.wt_laws.specs.Left.{is_settled}
+use Rattle.wt_laws.specs.Left.{is_response_over}
 use Rattle.wt_laws.specs.ReplyCauses.{asks_for_session, half_of}
 use Rattle.wt_spec.specs.Answers.{answer_to, log_after}
 use Rattle.wt_spec.specs.Connect.{address_of, outcome_error, port_of}
 use Rattle.wt_spec.specs.Connection.{is_opening, opened_reply, payload_limit, stream_header}
 use Rattle.wt_spec.specs.Driver.{established, settings_came}
 use Rattle.wt_spec.specs.Effect.{driver_error, head_left, is_covered, is_empty, transport_error}
-use Rattle.wt_spec.specs.Halves.{is_done, unread, write_error}
+use Rattle.wt_spec.specs.Halves.{is_done, unread_body, write_error}
 use Rattle.wt_spec.specs.Handshake.{Connecting, HandshakeState, Responding, handshake_state, has_success, is_refused, lost, queued_requests, request_fields_of, requested, response_head}
 use Rattle.wt_spec.specs.StreamTable.{Classified}
 use Rattle.wt_turn.specs.declared.call.Call.TheVariants as calls
@@ -109,14 +109,14 @@ pub record SendingCallsAnswer (side : Side) (log : Log) (k : ℕ) : Type 0 where
 -- what reads answer, by the bytes that are unread and then by the end of the stream
 pub record ReceivingCallsAnswer (side : Side) (log : Log) (k : ℕ) : Type 0 where
   pub read_none : reply_to side log (calls.Read k 0) ≡ replies.Read (Some [])
-  pub read : (size b : ℕ) (more : List ℕ) → (size == 0) ≡ false → unread side log k ≡ b ∷ more → reply_to side log (calls.Read k size) ≡ replies.Read (Some (take size (b ∷ more)))
-  pub read_end : (size : ℕ) → (size == 0) ≡ false → unread side log k ≡ [] → end_of (events_of log) k ≡ ends.Fin → reply_to side log (calls.Read k size) ≡ replies.Read None
-  pub read_reset : (size code : ℕ) → (size == 0) ≡ false → unread side log k ≡ [] → end_of (events_of log) k ≡ ends.Reset code → reply_to side log (calls.Read k size) ≡ replies.ReadFailed (reads.Reset code)
-  pub read_ended : (size : ℕ) → (size == 0) ≡ false → unread side log k ≡ [] → end_of (events_of log) k ≡ ends.Running → is_open log ≡ false → reply_to side log (calls.Read k size) ≡ replies.ReadFailed reads.NotConnected
-  pub exact : (size : ℕ) → nat_lt (length (unread side log k)) size ≡ false → reply_to side log (calls.ReadExact k size) ≡ replies.Exact (take size (unread side log k))
-  pub exact_early : (size : ℕ) → nat_lt (length (unread side log k)) size ≡ true → end_of (events_of log) k ≡ ends.Fin → reply_to side log (calls.ReadExact k size) ≡ replies.ExactFailed (exacts.FinishedEarly (length (unread side log k))) (unread side log k)
-  pub exact_reset : (size code : ℕ) → nat_lt (length (unread side log k)) size ≡ true → end_of (events_of log) k ≡ ends.Reset code → reply_to side log (calls.ReadExact k size) ≡ replies.ExactFailed (exacts.Read (reads.Reset code)) []
-  pub exact_ended : (size : ℕ) → nat_lt (length (unread side log k)) size ≡ true → end_of (events_of log) k ≡ ends.Running → is_open log ≡ false → reply_to side log (calls.ReadExact k size) ≡ replies.ExactFailed (exacts.Read reads.NotConnected) []
+  pub read : (size b : ℕ) (more : List ℕ) → (size == 0) ≡ false → unread_body side log k ≡ b ∷ more → reply_to side log (calls.Read k size) ≡ replies.Read (Some (take size (b ∷ more)))
+  pub read_end : (size : ℕ) → (size == 0) ≡ false → unread_body side log k ≡ [] → end_of (events_of log) k ≡ ends.Fin → reply_to side log (calls.Read k size) ≡ replies.Read None
+  pub read_reset : (size code : ℕ) → (size == 0) ≡ false → unread_body side log k ≡ [] → end_of (events_of log) k ≡ ends.Reset code → reply_to side log (calls.Read k size) ≡ replies.ReadFailed (reads.Reset code)
+  pub read_ended : (size : ℕ) → (size == 0) ≡ false → unread_body side log k ≡ [] → end_of (events_of log) k ≡ ends.Running → is_open log ≡ false → reply_to side log (calls.Read k size) ≡ replies.ReadFailed reads.NotConnected
+  pub exact : (size : ℕ) → nat_lt (length (unread_body side log k)) size ≡ false → reply_to side log (calls.ReadExact k size) ≡ replies.Exact (take size (unread_body side log k))
+  pub exact_early : (size : ℕ) → nat_lt (length (unread_body side log k)) size ≡ true → end_of (events_of log) k ≡ ends.Fin → reply_to side log (calls.ReadExact k size) ≡ replies.ExactFailed (exacts.FinishedEarly (length (unread_body side log k))) (unread_body side log k)
+  pub exact_reset : (size code : ℕ) → nat_lt (length (unread_body side log k)) size ≡ true → end_of (events_of log) k ≡ ends.Reset code → reply_to side log (calls.ReadExact k size) ≡ replies.ExactFailed (exacts.Read (reads.Reset code)) []
+  pub exact_ended : (size : ℕ) → nat_lt (length (unread_body side log k)) size ≡ true → end_of (events_of log) k ≡ ends.Running → is_open log ≡ false → reply_to side log (calls.ReadExact k size) ≡ replies.ExactFailed (exacts.Read reads.NotConnected) []
   pub stop : (code : ℕ) → reply_to side log (calls.StopRecv k code) ≡ replies.Done
 
 -- ---- a server's handshake
@@ -144,7 +144,7 @@ pub record ResponsesAnswer (side : Side) (log : Log) (call : Call) : Type 0 wher
   pub reject_ended : (head : List ℕ) → response_by (handshake_state (calls_of log)) call ≡ Some (false, head) → is_open log ≡ false → reply_to side log call ≡ replies.Rejected
   pub reject_refused : (head : List ℕ) → response_by (handshake_state (calls_of log)) call ≡ Some (false, head) → is_open log ≡ true → is_refused log (requested (calls_of log)) (response_rest log head) ≡ true → reply_to side log call ≡ replies.Rejected
   pub rejected : (head : List ℕ) → response_by (handshake_state (calls_of log)) call ≡ Some (false, head) → is_open log ≡ true → is_refused log (requested (calls_of log)) (response_rest log head) ≡ false → is_covered log (requested (calls_of log)) (response_rest log head) ≡ true
-      → is_settled log (requested (calls_of log)) ≡ true → reply_to side log call ≡ replies.Rejected
+      → is_response_over log (requested (calls_of log)) ≡ true → reply_to side log call ≡ replies.Rejected
 
 -- a call for a request gives the first that is queued, and without one fails once the connection has ended
 pub record RequestsAnswer (side : Side) (log : Log) : Type 0 where
@@ -169,7 +169,7 @@ walk_at side log = response_walk_of (contents log (local_bi side)) (end_of (even
 -- the request is out, or goes out now, on a stream that is open or opens now
 pub data RequestOut (side : Side) (log : Log) (head : List ℕ) : Type 0 where
   IsOut : local_count (actions_of log) (local_bi side) ≢ 0 → is_empty (head_left log (local_bi side) head) ≡ true → RequestOut side log head
-  GoesOut : is_open log ≡ true → (local_count (actions_of log) (local_bi side) ≡ 0 → may_open side log (local_bi side) ≡ true) → stop_of (events_of log) (local_bi side) ≡ None
+  GoesOutNow : is_open log ≡ true → (local_count (actions_of log) (local_bi side) ≡ 0 → may_open side log (local_bi side) ≡ true) → stop_of (events_of log) (local_bi side) ≡ None
       → is_covered log (local_bi side) (head_left log (local_bi side) head) ≡ true → is_empty (head_left log (local_bi side) head) ≡ false → RequestOut side log head
 
 -- A connect that is under way, with this reserved name among its headers and this request, step by step.

@@ -14,7 +14,7 @@ use Rattle.wt_wire.specs.declared.side.Side.{Side}
 use Rattle.wt_laws.specs.Reachable.{is_among}
 use Rattle.wt_spec.specs.Driver.{established, is_moment, is_ready, settings_came, settled_datagrams, stream_table}
 use Rattle.wt_spec.specs.Scan.{has}
-use Rattle.wt_spec.specs.StreamTable.{ByFault, BySession, Classified, Ending, StreamTable, control_offset, decoder_offset, encoder_offset, first_at, verdict_of}
+use Rattle.wt_spec.specs.StreamTable.{ByFault, BySession, Classified, Ending, StreamTable, control_start, decoder_start, encoder_start, first_at, verdict_of}
 use Rattle.wt_wire.specs.declared.side.StreamEnd.TheVariants as ends
 use Rattle.wt_wire.specs.declared.error.ErrorCode.TheVariants as h3
 use Rattle.wt_proto.specs.declared.verdict.Verdict.TheVariants as verdicts
@@ -31,9 +31,9 @@ ClassifiedRightly side log = (k : ℕ) (v : Verdict) → verdict_of k (stream_ta
 
 -- the streams of which a peer has one (RFC 9114, section 6.2.1; RFC 9204, section 4.2), by where their part begins
 pub data ComesOnce : (Verdict → Option ℕ) → Type 0 where
-  ControlOnce : ComesOnce control_offset
-  EncoderOnce : ComesOnce encoder_offset
-  DecoderOnce : ComesOnce decoder_offset
+  ControlOnce : ComesOnce control_start
+  EncoderOnce : ComesOnce encoder_start
+  DecoderOnce : ComesOnce decoder_start
 
 -- Stream k is taken by a moment that leads from one table to the other: by then it was dequeued; no earlier moment classified it;
 -- this one does, with this verdict, and as the last stream, since behind an ending nothing is done.
@@ -56,7 +56,8 @@ pub record TakesDatagram (log : Log) (before after : StreamTable) (piece : List 
 -- Why the driver ends a connection at the moment that ends the log, which leads from one table to the other: a unidirectional
 -- stream that it takes has a fault, or is a second one of a kind that comes once; a bidirectional one that it takes has a fault; a
 -- datagram that it takes is none; the session's stream has a fault, or closes the session; the peer stopped this end's control
--- stream; its own, the first that was classified, has a fault; or the first of a kind of its QPACK streams ended.
+-- stream; the peer's control stream, the first that was classified, has a fault; or the first of a kind of the peer's QPACK streams
+-- ended.
 pub data EndingCause (side : Side) (log : Log) (before after : StreamTable) : Ending → Type 0 where
   FaultyUni : (k : ℕ) (code : ErrorCode) → is_among (peer_uni side) (peer_count side (events_of log) (peer_uni side)) k ≡ true → uni_verdict_of (contents log k) (end_of (events_of log) k) ≡ verdicts.Fault code
       → TakenLast before after k (verdicts.Fault code) → EndingCause side log before after (ByFault code)
@@ -69,14 +70,14 @@ pub data EndingCause (side : Side) (log : Log) (before after : StreamTable) : En
   SessionClosed : (s : ℕ × ℕ) (code : ℕ) (reason : List ℕ) → established (calls_of log) ≡ Some s → session_walk_of (drop s.1 (contents log s.0)) (end_of (events_of log) s.0) ≡ walks.Closed code reason
       → EndingCause side log before after (BySession code reason (is_over (session_walk_of (drop s.1 (contents log s.0)) ends.Running)))
   ControlStopped : is_some (stop_of (events_of log) (local_uni side)) ≡ true → EndingCause side log before after (ByFault h3.ClosedCriticalStream)
-  ControlFault : (c : ℕ × ℕ) (code : ErrorCode) → first_at control_offset after.classified ≡ Some c → (control_walk_of (drop c.1 (contents log c.0)) (end_of (events_of log) c.0)).fault ≡ Some code → EndingCause side log before after (ByFault code)
-  EncoderEnded : (c : ℕ × ℕ) → first_at encoder_offset after.classified ≡ Some c → is_running (end_of (events_of log) c.0) ≡ false → EndingCause side log before after (ByFault h3.ClosedCriticalStream)
-  DecoderEnded : (c : ℕ × ℕ) → first_at decoder_offset after.classified ≡ Some c → is_running (end_of (events_of log) c.0) ≡ false → EndingCause side log before after (ByFault h3.ClosedCriticalStream)
+  ControlFault : (c : ℕ × ℕ) (code : ErrorCode) → first_at control_start after.classified ≡ Some c → (control_walk_of (drop c.1 (contents log c.0)) (end_of (events_of log) c.0)).fault ≡ Some code → EndingCause side log before after (ByFault code)
+  EncoderEnded : (c : ℕ × ℕ) → first_at encoder_start after.classified ≡ Some c → is_running (end_of (events_of log) c.0) ≡ false → EndingCause side log before after (ByFault h3.ClosedCriticalStream)
+  DecoderEnded : (c : ℕ × ℕ) → first_at decoder_start after.classified ≡ Some c → is_running (end_of (events_of log) c.0) ≡ false → EndingCause side log before after (ByFault h3.ClosedCriticalStream)
 
 -- the walk over the first control stream that was classified has read the peer's SETTINGS
 pub record SettingsRead (side : Side) (log : Log) (cs : List Classified) : Type 0 where
   pub control : ℕ × ℕ
-  pub first : first_at control_offset cs ≡ Some control
+  pub first : first_at control_start cs ≡ Some control
   pub read : is_some (control_walk_of (drop control.1 (contents log control.0)) (end_of (events_of log) control.0)).settings ≡ true
 
 -- an entry after which the driver ends the connection ends it for a cause in what that very entry takes or shows
@@ -84,19 +85,22 @@ abbrev pub EndsForCause : Side → Entry → Log → Type 0
 EndsForCause side e log =
     (x : Ending) → (stream_table side log).progress.ending ≡ None → (stream_table side (e ∷ log)).progress.ending ≡ Some x → EndingCause side (e ∷ log) (stream_table side log) (stream_table side (e ∷ log)) x
 
--- an entry after which the peer's SETTINGS came is one at which they were read
+-- an entry after which the peer's SETTINGS came is a moment that finds the connection open, which the driver hadn't ended, and at
+-- which they were read
 abbrev pub SettingsComeRead : Side → Entry → Log → Type 0
-SettingsComeRead side e log = settings_came side log ≡ false → settings_came side (e ∷ log) ≡ true → SettingsRead side (e ∷ log) (stream_table side (e ∷ log)).classified
+SettingsComeRead side e log =
+    settings_came side log ≡ false → settings_came side (e ∷ log) ≡ true
+    → (is_moment e ≡ true) × (is_open (e ∷ log) ≡ true) × ((stream_table side log).progress.ending ≡ None) × SettingsRead side (e ∷ log) (stream_table side (e ∷ log)).classified
 
 -- With these streams classified the log shows no fault behind them, and the session goes on; and SETTINGS that the walk over the
 -- first control stream has read did come.
 pub record Faultless (side : Side) (log : Log) (cs : List Classified) (came : Bool) : Type 0 where
   pub session : (s : ℕ × ℕ) → established (calls_of log) ≡ Some s → session_walk_of (drop s.1 (contents log s.0)) (end_of (events_of log) s.0) ≡ walks.Running
   pub unstopped : is_some (stop_of (events_of log) (local_uni side)) ≡ false
-  pub control : (c : ℕ × ℕ) → first_at control_offset cs ≡ Some c → (control_walk_of (drop c.1 (contents log c.0)) (end_of (events_of log) c.0)).fault ≡ None
-  pub settings : (c : ℕ × ℕ) → first_at control_offset cs ≡ Some c → is_some (control_walk_of (drop c.1 (contents log c.0)) (end_of (events_of log) c.0)).settings ≡ true → came ≡ true
-  pub encoder : (c : ℕ × ℕ) → first_at encoder_offset cs ≡ Some c → is_running (end_of (events_of log) c.0) ≡ true
-  pub decoder : (c : ℕ × ℕ) → first_at decoder_offset cs ≡ Some c → is_running (end_of (events_of log) c.0) ≡ true
+  pub control : (c : ℕ × ℕ) → first_at control_start cs ≡ Some c → (control_walk_of (drop c.1 (contents log c.0)) (end_of (events_of log) c.0)).fault ≡ None
+  pub settings : (c : ℕ × ℕ) → first_at control_start cs ≡ Some c → is_some (control_walk_of (drop c.1 (contents log c.0)) (end_of (events_of log) c.0)).settings ≡ true → came ≡ true
+  pub encoder : (c : ℕ × ℕ) → first_at encoder_start cs ≡ Some c → is_running (end_of (events_of log) c.0) ≡ true
+  pub decoder : (c : ℕ × ℕ) → first_at decoder_start cs ≡ Some c → is_running (end_of (events_of log) c.0) ≡ true
 
 -- a moment that finds the connection open, and at which the driver doesn't end it, shows no such fault
 abbrev pub FaultlessOrEnds : Side → Entry → Log → Type 0

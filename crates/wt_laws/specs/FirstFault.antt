@@ -1,5 +1,5 @@
--- Which of several faults of one moment ends the connection: the first in the order in which the driver looks (the order is this
--- repository's rule; RFC 9114, section 8, leaves it open).
+-- Which of several faults of one moment ends the connection: that of a stream before all others, then the first in the order in which
+-- the driver looks (the order is this repository's rule; RFC 9114, section 8, leaves it open).
 use Rattle.std.specs.Prelude.{[], ◌++◌, ◌∷◌, ◌≡◌, Err, List, None, Option, Some, drop, false, is_ok, is_some, true, ℕ}
 use Rattle.wt_message.specs.Datagram.{datagram_of}
 use Rattle.wt_proto.specs.ControlWalk.{control_walk_of}
@@ -12,7 +12,7 @@ use Rattle.wt_wire.specs.declared.error.ErrorCode.{ErrorCode}
 use Rattle.wt_wire.specs.declared.side.Side.{Side}
 use Rattle.wt_laws.specs.Faults.{AtMostOne, ComesOnce, NoneFaulty, TakesDatagram}
 use Rattle.wt_spec.specs.Driver.{established, is_moment, stream_table}
-use Rattle.wt_spec.specs.StreamTable.{ByFault, BySession, Classified, StreamTable, control_offset, decoder_offset, encoder_offset, first_at}
+use Rattle.wt_spec.specs.StreamTable.{ByFault, BySession, Classified, StreamTable, control_start, decoder_start, encoder_start, first_at}
 use Rattle.wt_wire.specs.declared.side.StreamEnd.TheVariants as ends
 use Rattle.wt_wire.specs.declared.error.ErrorCode.TheVariants as h3
 use Rattle.wt_proto.specs.declared.verdict.Verdict.TheVariants as verdicts
@@ -35,7 +35,7 @@ SessionPasses log = (s : ℕ × ℕ) → established (calls_of log) ≡ Some s �
 
 -- the peer's control stream, the first that was classified, has no fault
 abbrev pub ControlPasses : Log → List Classified → Type 0
-ControlPasses log cs = (c : ℕ × ℕ) → first_at control_offset cs ≡ Some c → (control_walk_of (drop c.1 (contents log c.0)) (end_of (events_of log) c.0)).fault ≡ None
+ControlPasses log cs = (c : ℕ × ℕ) → first_at control_start cs ≡ Some c → (control_walk_of (drop c.1 (contents log c.0)) (end_of (events_of log) c.0)).fault ≡ None
 
 -- what stands before the peer's control stream passes
 pub record PassesUpToControl (side : Side) (log : Log) (before after : StreamTable) : Type 0 where
@@ -46,9 +46,12 @@ pub record PassesUpToControl (side : Side) (log : Log) (before after : StreamTab
 
 -- ---- which is told
 
--- Where what comes before it in this order passes, each of these ends the connection: the fault of a stream, which is classified last
--- (`FaultIsLast`), or that it is a second one of a kind that comes once; the datagram that the moment takes, where it is none; the session's fault or its end; that the peer stopped this
--- end's control stream; the fault of its own; the end of a QPACK stream.
+-- Where what comes before it in this order passes, each of these ends the connection: the fault of a stream, which is classified
+-- last (`FaultIsLast`), or that it is a second one of a kind that comes once; the datagram that the moment takes, where it is none;
+-- the session's fault or its end; that the peer stopped this end's control stream; the fault of the peer's control stream, the
+-- first that was classified; the end of a QPACK stream of the peer's.
+-- Which of several streams the moment looks at first isn't said here. And exactly where what comes before the peer's control stream
+-- passes, SETTINGS that the walk over it has read come, whatever ends the connection then (`SettingsComeRead`: at no other entry).
 pub record TellsFirst (side : Side) (log : Log) (before after : StreamTable) : Type 0 where
   pub stream : (earlier : List Classified) (c : Classified) (code : ErrorCode) → after.classified ≡ earlier ++ c ∷ [] → c.verdict ≡ verdicts.Fault code → after.progress.ending ≡ Some (ByFault code)
   pub second : (earlier : List Classified) (c : Classified) (offset : Verdict → Option ℕ) (first : ℕ × ℕ) → after.classified ≡ earlier ++ c ∷ [] → ComesOnce offset → is_some (offset c.verdict) ≡ true → first_at offset earlier ≡ Some first
@@ -59,10 +62,13 @@ pub record TellsFirst (side : Side) (log : Log) (before after : StreamTable) : T
   pub session_closed : (s : ℕ × ℕ) (code : ℕ) (reason : List ℕ) → StreamsPass after.classified → DatagramPasses log before after → established (calls_of log) ≡ Some s
       → session_walk_of (drop s.1 (contents log s.0)) (end_of (events_of log) s.0) ≡ walks.Closed code reason → after.progress.ending ≡ Some (BySession code reason (is_over (session_walk_of (drop s.1 (contents log s.0)) ends.Running)))
   pub stopped : StreamsPass after.classified → DatagramPasses log before after → SessionPasses log → is_some (stop_of (events_of log) (local_uni side)) ≡ true → after.progress.ending ≡ Some (ByFault h3.ClosedCriticalStream)
-  pub control : (c : ℕ × ℕ) (code : ErrorCode) → PassesUpToControl side log before after → first_at control_offset after.classified ≡ Some c → (control_walk_of (drop c.1 (contents log c.0)) (end_of (events_of log) c.0)).fault ≡ Some code
+  pub control : (c : ℕ × ℕ) (code : ErrorCode) → PassesUpToControl side log before after → first_at control_start after.classified ≡ Some c → (control_walk_of (drop c.1 (contents log c.0)) (end_of (events_of log) c.0)).fault ≡ Some code
       → after.progress.ending ≡ Some (ByFault code)
-  pub encoder : (c : ℕ × ℕ) → PassesUpToControl side log before after → ControlPasses log after.classified → first_at encoder_offset after.classified ≡ Some c → is_running (end_of (events_of log) c.0) ≡ false → after.progress.ending ≡ Some (ByFault h3.ClosedCriticalStream)
-  pub decoder : (c : ℕ × ℕ) → PassesUpToControl side log before after → ControlPasses log after.classified → first_at decoder_offset after.classified ≡ Some c → is_running (end_of (events_of log) c.0) ≡ false → after.progress.ending ≡ Some (ByFault h3.ClosedCriticalStream)
+  pub settings : (c : ℕ × ℕ) → PassesUpToControl side log before after → first_at control_start after.classified ≡ Some c → is_some (control_walk_of (drop c.1 (contents log c.0)) (end_of (events_of log) c.0)).settings ≡ true
+      → after.progress.settings ≡ true
+  pub came : before.progress.settings ≡ false → after.progress.settings ≡ true → PassesUpToControl side log before after
+  pub encoder : (c : ℕ × ℕ) → PassesUpToControl side log before after → ControlPasses log after.classified → first_at encoder_start after.classified ≡ Some c → is_running (end_of (events_of log) c.0) ≡ false → after.progress.ending ≡ Some (ByFault h3.ClosedCriticalStream)
+  pub decoder : (c : ℕ × ℕ) → PassesUpToControl side log before after → ControlPasses log after.classified → first_at decoder_start after.classified ≡ Some c → is_running (end_of (events_of log) c.0) ≡ false → after.progress.ending ≡ Some (ByFault h3.ClosedCriticalStream)
 
 -- a moment that finds the connection open, which the driver hasn't ended, tells the first
 abbrev pub FirstIsTold : Side → Entry → Log → Type 0

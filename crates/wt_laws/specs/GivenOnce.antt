@@ -12,10 +12,10 @@ gives_stream k (replies.Bi id) = id == k
 gives_stream k _ = false
 
 -- one of these replies gave the stream
-abbrev pub was_given : ℕ → List Exchange → Bool
-was_given k before = list_any (λ (x : Exchange). gives_stream k x.answer.reply) before
+abbrev pub gave_stream : ℕ → List Exchange → Bool
+gave_stream k before = list_any (λ (x : Exchange). gives_stream k x.answer.reply) before
 
 -- no stream is given by two of the replies
 abbrev pub GivenOnce : List Exchange → Type 0
 GivenOnce [] = Unit {0}
-GivenOnce (x ∷ before) = ((k : ℕ) → gives_stream k x.answer.reply ≡ true → was_given k before ≡ false) × GivenOnce before
+GivenOnce (x ∷ before) = ((k : ℕ) → gives_stream k x.answer.reply ≡ true → gave_stream k before ≡ false) × GivenOnce before

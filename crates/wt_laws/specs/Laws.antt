@@ -6,27 +6,30 @@ use Rattle.wt_message.specs.Datagram.{datagram_bytes}
 use Rattle.wt_message.specs.FixedBytes.{local_control_bytes}
 use Rattle.wt_proto.specs.ResponseWalk.{response_walk_of}
 use Rattle.wt_proto.specs.Uni.{uni_verdict_of}
+use Rattle.wt_proto.specs.declared.verdict.Verdict.{Verdict}
 use Rattle.wt_seam_spec.specs.Joined.{join_all, send_of}
-use Rattle.wt_seam_spec.specs.Reports.{credit, datagrams_of, end_of, unis_allowed}
+use Rattle.wt_seam_spec.specs.Reports.{credit, datagrams_of, end_of, stop_of, unis_allowed}
 use Rattle.wt_seam_spec.specs.Sent.{is_finished, is_reset, sent_on}
 use Rattle.wt_seam_spec.specs.Streams.{contents, local_bi, local_count, local_uni, peer_bi, peer_count, peer_uni}
-use Rattle.wt_turn.specs.Log.{CallRecord, Called, Log, Sent, SessionEstablished, actions_of, all_events_of, calls_of, closes, events_of, is_open, loses, newest, with_actions}
+use Rattle.wt_turn.specs.Log.{CallRecord, Called, ConnectStarted, Log, OpeningStarted, Polled, Sent, SessionEstablished, StreamGivenUp, actions_of, calls_of, closes, events_of, is_open, loses, newest, with_actions}
 use Rattle.wt_turn.specs.declared.action.Action.{Action}
 use Rattle.wt_turn.specs.declared.reply.Reply.{Reply}
 use Rattle.wt_turn.specs.declared.turn.Turn.{Turn}
 use Rattle.wt_wire.specs.Codes.{code_of}
 use Rattle.wt_wire.specs.HeaderList.{Fields}
+use Rattle.wt_wire.specs.declared.addr.Addr.{Addr}
 use Rattle.wt_wire.specs.declared.error.ErrorCode.{ErrorCode}
 use Rattle.wt_wire.specs.declared.side.Side.{Side}
-use Rattle.wt_laws.specs.Causes.{CloseCause, bytes_for, frame_of, reads_from}
+use Rattle.wt_laws.specs.Causes.{CloseCause, DialCause, bytes_for, frame_of, opened_kind, reads_from}
 use Rattle.wt_laws.specs.Reachable.{Exchange, IsReachable, is_among}
 use Rattle.wt_laws.specs.ReplyCauses.{ReplyCause}
 use Rattle.wt_laws.specs.Told.{datagram_told, read_piece}
 use Rattle.wt_spec.specs.Answers.{answer_to, is_client, is_lawful, log_after, run_from}
+use Rattle.wt_spec.specs.Connect.{authority_of, path_of, request_head, reserved_name}
 use Rattle.wt_spec.specs.Connection.{is_for_session, is_opening, starts_opening, stream_header, well_formed}
-use Rattle.wt_spec.specs.Driver.{call_view, delivers, established, is_moment, pending_actions, releases, reset_if, session_id, settings_came, settled_datagrams, stream_table}
-use Rattle.wt_spec.specs.Effect.{driver_error, head_left, is_covered, transport_error}
-use Rattle.wt_spec.specs.Halves.{body_offset, is_accepted}
+use Rattle.wt_spec.specs.Driver.{call_view, delivers, established, pending_actions, releases, reset_if, session_id, settings_came, settled_datagrams, stream_table}
+use Rattle.wt_spec.specs.Effect.{driver_error, head_left, is_covered, log_call, transport_error}
+use Rattle.wt_spec.specs.Halves.{body_start, has_sending_half, is_accepted}
 use Rattle.wt_spec.specs.Handshake.{Connecting, handshake_state, has_success, response_head}
 use Rattle.wt_spec.specs.StreamTable.{ByFault, BySession, Classified, Ending, Stopped, dispatched, verdict_of}
 use Rattle.wt_turn.specs.declared.action.Action.TheVariants as actions
@@ -95,13 +98,14 @@ pub record WasDelivered (side : Side) (log : Log) (k : ℕ) : Type 0 where
   pub verdict : verdict_of k (stream_table side log).classified ≡ Some (verdicts.Request headers at)
 
 -- How session s comes to be established, by these actions of a call: a server's request was delivered, and the rest of an
--- acceptance with status 200 goes out, so that all of it is out; or a client's whole request is out on the stream that its
--- connect opened, and a response with a status code from 200 to 299 was read. The session's part of the stream begins at this
--- offset.
+-- acceptance with status 200 goes out, so that all of it is out; or a client's whole request, with no reserved name among its
+-- headers, is out on the stream that its connect opened, and a response with a status code from 200 to 299 was read. The
+-- session's part of the stream begins at this offset. (Out is a frame here once as many bytes are out as it has; that they are the
+-- frame: `SessionStreamOut`.)
 pub data EstablishedHow (side : Side) (log : Log) (own : List Action) (s at : ℕ) : Type 0 where
   AfterRequest : (headers : Fields) (request : WasDelivered side log s) → is_client side ≡ false → at ≡ request.at → is_covered log s (head_left log s (response_head (codes "200") headers)) ≡ true
       → own ≡ send_of s (head_left log s (response_head (codes "200") headers)) → head_left (with_actions own log) s (response_head (codes "200") headers) ≡ [] → EstablishedHow side log own s at
-  AfterResponse : (reserved : Option (List ℕ)) (head : List ℕ) (fields : Fields) → is_client side ≡ true → s ≡ local_bi side → local_count (actions_of (with_actions own log)) s ≢ 0 → handshake_state (calls_of log) ≡ Connecting reserved head → head_left (with_actions own log) s head ≡ [] → settings_came side log ≡ true
+  AfterResponse : (head : List ℕ) (fields : Fields) → is_client side ≡ true → s ≡ local_bi side → local_count (actions_of (with_actions own log)) s ≢ 0 → handshake_state (calls_of log) ≡ Connecting None head → head_left (with_actions own log) s head ≡ [] → settings_came side log ≡ true
       → response_walk_of (contents log s) (end_of (events_of log) s) ≡ responses.Response fields at → has_success fields ≡ true → EstablishedHow side log own s at
 
 -- right before the session's record, and the call's own actions, the peer's SETTINGS had come, the connection was open, and
@@ -152,7 +156,7 @@ read_from k (x ∷ before) = if reads_from k x.turn then more_read (read_piece x
 -- they are a prefix of what came for the stream behind its header
 abbrev pub ReadsInOrder : Side → List Exchange → Log → Type 0
 ReadsInOrder side before log =
-    (k : ℕ) → (rest : List ℕ) × (read_from k before ++ rest ≡ drop (body_offset (verdict_of k (stream_table side log).classified)) (contents log k))
+    (k : ℕ) → (rest : List ℕ) × (read_from k before ++ rest ≡ drop (body_start (verdict_of k (stream_table side log).classified)) (contents log k))
 
 -- this end opens streams of this id
 abbrev pub is_of_this_end : Side → ℕ → Bool
@@ -160,7 +164,7 @@ is_of_this_end side k = k % 4 == local_uni side || k % 4 == local_bi side
 
 -- before what came on a stream that this end opened no header stands
 abbrev pub ReadsFromStart : Side → Log → Type 0
-ReadsFromStart side log = (k : ℕ) → is_of_this_end side k ≡ true → body_offset (verdict_of k (stream_table side log).classified) ≡ 0
+ReadsFromStart side log = (k : ℕ) → is_of_this_end side k ≡ true → body_start (verdict_of k (stream_table side log).classified) ≡ 0
 
 -- ---- datagrams
 
@@ -254,7 +258,7 @@ before_newest (e ∷ log) = log
 pub data DriverCause (side : Side) (log : Log) : Action → Type 0 where
   OpensControl : unis_allowed (events_of log) ≢ 0 → local_count (actions_of log) (local_uni side) ≡ 0 → DriverCause side log (actions.Opened (local_uni side))
   SendsControl : (piece : List ℕ) → piece ≡ drop (length (sent_on (actions_of log) (local_uni side))) (take (credit (events_of log) (local_uni side)) local_control_bytes) → DriverCause side log (actions.Send (local_uni side) piece)
-  StopsStream : (stop : Stopped) → verdict_of stop.id (stream_table side (before_newest log)).classified ≡ None → StoppedFor side log (stream_table side log).classified stop → DriverCause side log (actions.StopOut stop.id (code_of stop.code))
+  StopsStream : (stop : Stopped) (v : Verdict) → verdict_of stop.id (stream_table side (before_newest log)).classified ≡ None → verdict_of stop.id (stream_table side log).classified ≡ Some v → StoppedFor side log (stream_table side log).classified stop → DriverCause side log (actions.StopOut stop.id (code_of stop.code))
   ResetsSession : (code : ℕ) (reason : List ℕ) → (stream_table side log).progress.ending ≡ Some (BySession code reason true) → DriverCause side log (actions.ResetOut (session_id (established (calls_of log))) (code_of h3.NoError))
   ClosesFault : (code : ErrorCode) → (stream_table side log).progress.ending ≡ Some (ByFault code) → DriverCause side log (actions.Close (code_of code) [])
   ClosesSession : (code : ℕ) (reason : List ℕ) (b : Bool) → (stream_table side log).progress.ending ≡ Some (BySession code reason b) → DriverCause side log (actions.Close (code_of h3.NoError) [])
@@ -333,9 +337,9 @@ SendsEnd side log turn =
     (k : ℕ) → k ≢ local_uni side → is_head_out side log k ≡ true → (is_finished (actions_of log) k || is_reset log k) ≡ true
     → sent_on (actions_of (log_after side log turn)) k ≡ sent_on (actions_of log) k
 
--- no more goes out on a stream than its credit allows
+-- no more goes out on a stream than the credit allows that was told for it while the connection was open
 abbrev pub WithinCredit : Side → Log → Type 0
-WithinCredit side log = (k : ℕ) → length (sent_on (actions_of log) k) ≤ credit (all_events_of log) k
+WithinCredit side log = (k : ℕ) → length (sent_on (actions_of log) k) ≤ credit (events_of log) k
 
 -- the bytes that writes on the stream accepted, joined
 abbrev pub written_on : ℕ → List Exchange → List ℕ
@@ -351,20 +355,29 @@ abbrev pub SendsAll : Side → List Exchange → Log → Type 0
 SendsAll side before log =
     (k s at : ℕ) → k ≢ local_uni side → is_accepted log k ≡ true → established (calls_of log) ≡ Some (s, at) → sent_on (actions_of log) k ≡ head_of side k s ++ written_on k before
 
--- ---- what is answered Done went out
+-- ---- what a call sends goes out, once
 
--- at once after the log, this went out
-abbrev pub GoesOut : Side → Log → Turn → Action → Type 0
-GoesOut side log turn a = GoesOnFrom (Sent a ∷ log) (log_after side log turn)
+-- Behind the log the call sends this action and nothing else, and leaves this record; what the driver sends at the record stands
+-- behind it.
+abbrev pub GoesOut : Side → Log → Turn → Action → CallRecord → Type 0
+GoesOut side log turn a r = log_after side log turn ≡ log_call side log (a ∷ []) r
 
--- a datagram that is taken goes out whole; on an open connection so do a close, a reset and a stop
+-- A datagram that is taken goes out whole, and once; on an open connection so do a close, a reset, a stop, the finish of a half that
+-- isn't finished, reset or stopped, and the opening that a reply names; and a connect to an address on which the endpoint lets it
+-- proceed dials it.
 pub record TakenGoesOut (side : Side) (log : Log) : Type 0 where
   pub datagram : (payload : List ℕ) → (answer_to side log (turns.Call (calls.SendDatagram payload))).reply ≡ replies.Done
-      → (s : ℕ) × (at : ℕ) × (established (calls_of log) ≡ Some (s, at)) × GoesOut side log (turns.Call (calls.SendDatagram payload)) (actions.DatagramOut (datagram_bytes (s / 4) payload))
-  pub close : (code : ℕ) (reason : List ℕ) → is_open log ≡ true → (answer_to side log (turns.Call (calls.Close code reason))).reply ≡ replies.Done → GoesOut side log (turns.Call (calls.Close code reason)) (actions.Close code reason)
-  pub endpoint_close : (code : ℕ) (reason : List ℕ) → is_open log ≡ true → GoesOut side log (turns.Call (calls.EndpointClose code reason)) (actions.Close code reason)
-  pub reset : (k code : ℕ) → is_open log ≡ true → (answer_to side log (turns.Call (calls.ResetSend k code))).reply ≡ replies.Done → GoesOut side log (turns.Call (calls.ResetSend k code)) (actions.ResetOut k code)
-  pub stop : (k code : ℕ) → is_open log ≡ true → (answer_to side log (turns.Call (calls.StopRecv k code))).reply ≡ replies.Done → GoesOut side log (turns.Call (calls.StopRecv k code)) (actions.StopOut k code)
+      → (s : ℕ) × (at : ℕ) × (established (calls_of log) ≡ Some (s, at)) × GoesOut side log (turns.Call (calls.SendDatagram payload)) (actions.DatagramOut (datagram_bytes (s / 4) payload)) Polled
+  pub close : (code : ℕ) (reason : List ℕ) → is_open log ≡ true → (answer_to side log (turns.Call (calls.Close code reason))).reply ≡ replies.Done → GoesOut side log (turns.Call (calls.Close code reason)) (actions.Close code reason) Polled
+  pub endpoint_close : (code : ℕ) (reason : List ℕ) → is_open log ≡ true → GoesOut side log (turns.Call (calls.EndpointClose code reason)) (actions.Close code reason) Polled
+  pub reset : (k code : ℕ) → is_open log ≡ true → (answer_to side log (turns.Call (calls.ResetSend k code))).reply ≡ replies.Done → GoesOut side log (turns.Call (calls.ResetSend k code)) (actions.ResetOut k code) Polled
+  pub stop : (k code : ℕ) → is_open log ≡ true → (answer_to side log (turns.Call (calls.StopRecv k code))).reply ≡ replies.Done → GoesOut side log (turns.Call (calls.StopRecv k code)) (actions.StopOut k code) (StreamGivenUp k)
+  pub finish : (k : ℕ) → has_sending_half side log k ≡ true → is_open log ≡ true → is_finished (actions_of log) k ≡ false → is_reset log k ≡ false → stop_of (events_of log) k ≡ None
+      → GoesOut side log (turns.Call (calls.Finish k)) (actions.Finish k) Polled
+  pub opening : (turn : Turn) (kind k : ℕ) → opened_kind side turn ≡ Some kind → (answer_to side log turn).reply ≡ replies.Opening k
+      → (s : ℕ) × (at : ℕ) × (established (calls_of log) ≡ Some (s, at)) × GoesOut side log turn (actions.Opened k) (OpeningStarted k s)
+  pub dial : (turn : Turn) (address : Addr) (name : List ℕ) (dials : DialCause turn address name)
+      → GoesOut side log turn (actions.Dial address name) (ConnectStarted (reserved_name dials.to.headers) (request_head (authority_of dials.to.url) (path_of dials.to.url) dials.to.headers))
 
 -- ---- headers of streams that this end opens
 

@@ -18,14 +18,14 @@ use Rattle.wt_wire.specs.declared.lookup.ConnectOutcome.{ConnectOutcome}
 use Rattle.wt_wire.specs.declared.lookup.Lookup.{Lookup}
 use Rattle.wt_wire.specs.declared.side.Side.{Side}
 use Rattle.wt_laws.specs.Causes.{FoundDatagram, FoundStream, accepted_kind, is_accept}
-use Rattle.wt_laws.specs.Laws.{is_left_for}
+use Rattle.wt_laws.specs.Laws.{IsDuring, is_left_for}
 use Rattle.wt_laws.specs.Told.{given_stream}
 use Rattle.wt_spec.specs.Answers.{answer_to}
 use Rattle.wt_spec.specs.Connect.{address_of, outcome_error, port_of}
 use Rattle.wt_spec.specs.Connection.{is_opening, next_datagram, next_due, pass_stream, stream_header}
 use Rattle.wt_spec.specs.Driver.{established, settings_came, stream_table}
 use Rattle.wt_spec.specs.Effect.{head_left, is_covered, is_empty, log_call, pending_or_failed}
-use Rattle.wt_spec.specs.Halves.{has_receiving_half, has_sending_half, is_done, unread, write_error}
+use Rattle.wt_spec.specs.Halves.{has_receiving_half, has_sending_half, is_done, unread_body, write_error}
 use Rattle.wt_spec.specs.Handshake.{Connecting, HandshakeState, Responding, handshake_state, is_refused, queued_requests, requested, response_head}
 use Rattle.wt_spec.specs.StreamTable.{Classified}
 use Rattle.wt_turn.specs.Log.{DatagramPassed}
@@ -56,12 +56,12 @@ is_waiting responses.Waiting = true
 is_waiting _ = false
 
 -- the request is out, or goes out now, and nothing of its response is known
-abbrev pub awaits_response : Side → Log → List ℕ → Bool
-awaits_response side log rest = not (is_refused log (local_bi side) rest) && is_waiting (response_walk_of (contents log (local_bi side)) (end_of (events_of log) (local_bi side)))
+abbrev pub lacks_response : Side → Log → List ℕ → Bool
+lacks_response side log rest = not (is_refused log (local_bi side) rest) && is_waiting (response_walk_of (contents log (local_bi side)) (end_of (events_of log) (local_bi side)))
 
 -- the request waits for a stream, for credit, or for its response
 abbrev pub request_waits : Side → Log → List ℕ → Bool
-request_waits side log rest = lacks_stream side log || (lacks_credit log (local_bi side) rest || awaits_response side log rest)
+request_waits side log rest = lacks_stream side log || (lacks_credit log (local_bi side) rest || lacks_response side log rest)
 
 -- a connect waits for its connection, for the peer's SETTINGS, or as its request does, which no reserved name hinders
 abbrev pub connect_waits : Side → Log → Option (List ℕ) → List ℕ → Bool
@@ -69,12 +69,12 @@ connect_waits side log reserved head =
     not (is_connected (events_of log)) || (not (settings_came side log) || (not (is_some reserved) && request_waits side log (head_left log (local_bi side) head)))
 
 -- a response is out, and the peer stopped the stream or has all of it
-abbrev pub is_settled : Log → ℕ → Bool
-is_settled log k = is_finished (actions_of log) k && (is_some (stop_of (events_of log) k) || is_acknowledged (events_of log) k)
+abbrev pub is_response_over : Log → ℕ → Bool
+is_response_over log k = is_finished (actions_of log) k && (is_some (stop_of (events_of log) k) || is_acknowledged (events_of log) k)
 
 -- a rejection waits for credit, and then for the peer, unless the peer stopped the stream before it was out
 abbrev pub rejection_waits : Log → ℕ → List ℕ → Bool
-rejection_waits log k rest = not (is_refused log k rest) && (not (is_covered log k rest) || not (is_settled log k))
+rejection_waits log k rest = not (is_refused log k rest) && (not (is_covered log k rest) || not (is_response_over log k))
 
 -- a response with this frame waits: an acceptance for credit alone
 abbrev pub response_waits : Log → Bool → List ℕ → Bool
@@ -135,9 +135,9 @@ has_nothing_left side (turns.Call (calls.Write id bytes)) log = has_sending_half
 has_nothing_left side (turns.Call (calls.Finish id)) log = has_sending_half side log id && goes_on log id
 has_nothing_left side (turns.Call (calls.Stopped id)) log = has_sending_half side log id && goes_on log id
 has_nothing_left side (turns.Call (calls.Read id size)) log =
-    has_receiving_half side log id && (not (size == 0) && (is_empty (unread side log id) && is_running (end_of (events_of log) id)))
+    has_receiving_half side log id && (not (size == 0) && (is_empty (unread_body side log id) && is_running (end_of (events_of log) id)))
 has_nothing_left side (turns.Call (calls.ReadExact id size)) log =
-    has_receiving_half side log id && (nat_lt (length (unread side log id)) size && is_running (end_of (events_of log) id))
+    has_receiving_half side log id && (nat_lt (length (unread_body side log id)) size && is_running (end_of (events_of log) id))
 has_nothing_left side _ log = false
 
 -- ---- Pending
@@ -175,11 +175,12 @@ passing_reply side (turns.Call calls.AcceptBi) log = Some (session_reply (λ s. 
 passing_reply side (turns.Call calls.ReceiveDatagram) log = Some (session_reply (λ s. datagram_reply side log (next_datagram side log)) (established (calls_of log)))
 passing_reply side _ log = None
 
--- Behind what it passes, at the log at which it decides, a call is answered Pending exactly where nothing is left for it
+-- Behind what it passes, at the log in the turn at which it decides, a call is answered Pending exactly where nothing is left for it
 -- and the connection is open. Only accepts and receives pass anything; where they decide they give what is next. Where an accept
 -- gives no stream, no classified one of its kind and of the session is left: an accept gave each, or passed it.
 pub record PendingExactly (side : Side) (log : Log) (turn : Turn) : Type 0 where
   pub decided : Log
+  pub during : IsDuring side log turn decided
   pub passes : PassesTo side turn decided log
   pub no_stream : (k : ℕ) → FoundStream side turn decided k false → ⊥
   pub no_datagram : FoundDatagram side turn decided false → ⊥

@@ -13,3 +13,6 @@ pub mod GivenOnce
 pub mod Faults
 pub mod FirstFault
 pub mod Ended
+pub mod Telling
+pub mod LeavesRecord
+pub mod OpenedInOrder

@@ -1,22 +1,24 @@
 -- Why a call records what it does: each record has one of these causes, in the call that leaves it.
 use Rattle.std.specs.Prelude.{[], ◌%◌, ◌∷◌, ◌≡◌, ◌≤◌, List, Option, Some, false, length, nat_lt, true, ℕ}
 use Rattle.wt_seam_spec.specs.Outgoing.{may_open, next_id, opening}
-use Rattle.wt_turn.specs.Log.{BytesRead, CallRecord, ConnectStarted, DatagramPassed, DatagramReceived, HandshakeOver, Log, OpeningFailed, OpeningStarted, Polled, PrioritySet, RequestDelivered, ResetUnsent, ResponseStarted, SessionEstablished, StreamAccepted, StreamGivenUp, StreamPassed, calls_of, is_open, with_actions}
+use Rattle.wt_turn.specs.Log.{BytesRead, CallRecord, ConnectStarted, DatagramPassed, DatagramReceived, HandshakeOver, Log, OpeningFailed, OpeningStarted, Polled, PrioritySet, RequestDelivered, ResetUnsent, ResponseStarted, Sent, SessionEstablished, StreamAccepted, StreamGivenUp, StreamPassed, calls_of, is_open, with_actions}
 use Rattle.wt_turn.specs.declared.action.Action.{Action}
 use Rattle.wt_turn.specs.declared.connecting_error.ConnectingError.{ConnectingError}
 use Rattle.wt_turn.specs.declared.turn.Turn.{Turn}
 use Rattle.wt_wire.specs.declared.addr.Addr.{Addr}
 use Rattle.wt_wire.specs.declared.side.Side.{Side}
-use Rattle.wt_laws.specs.Causes.{AcceptCause, DialCause, EstablishedBy, FoundDatagram, FoundStream, ResponseFrom, is_under_way, opened_kind, polls_opening, reads_from}
-use Rattle.wt_laws.specs.ReplyCauses.{ConnectFailedCause, RejectedCause, is_call}
+use Rattle.wt_laws.specs.Causes.{AcceptCause, DialCause, EstablishedBy, FoundDatagram, FoundStream, ResponseFrom, asked_size, is_under_way, opened_kind, polls_opening, reads_from}
+use Rattle.wt_laws.specs.ReplyCauses.{ConnectFailedCause, RejectedCause}
+use Rattle.wt_spec.specs.Turns.{is_call}
 use Rattle.wt_spec.specs.Answers.{is_client}
 use Rattle.wt_spec.specs.Connect.{authority_of, path_of, request_head, reserved_name}
 use Rattle.wt_spec.specs.Connection.{is_opening, stream_header}
 use Rattle.wt_spec.specs.Driver.{established}
 use Rattle.wt_spec.specs.Effect.{head_left}
-use Rattle.wt_spec.specs.Halves.{has_receiving_half, has_sending_half, is_done, unread}
+use Rattle.wt_spec.specs.Halves.{has_receiving_half, has_sending_half, is_done, unread_body}
 use Rattle.wt_spec.specs.Handshake.{AwaitingRequest, Requested, handshake_state, is_refused, queued_requests, requested}
 use Rattle.wt_spec.specs.StreamTable.{Classified}
+use Rattle.wt_turn.specs.declared.action.Action.TheVariants as actions
 use Rattle.wt_turn.specs.declared.call.Call.TheVariants as calls
 use Rattle.wt_turn.specs.declared.turn.Turn.TheVariants as turns
 
@@ -32,13 +34,15 @@ pub record DeliverCause (side : Side) (turn : Turn) (log : Log) (k : ℕ) : Type
   pub first : queued_requests side log ≡ queued ∷ later
   pub same : queued.id ≡ k
 
--- a client's first call connects and dials: this is its request, and the name among its headers that only the session layer sets
+-- a client's first call connects, and its dial went out, alone: this is its request, and the name among its headers that only the
+-- session layer sets
 pub record ConnectCause (side : Side) (turn : Turn) (log : Log) (reserved : Option (List ℕ)) (head : List ℕ) : Type 0 where
   pub first : calls_of log ≡ []
   pub by_client : is_client side ≡ true
   pub address : Addr
   pub name : List ℕ
   pub dials : DialCause turn address name
+  pub sent : log ≡ Sent (actions.Dial address name) ∷ []
   pub request : head ≡ request_head (authority_of dials.to.url) (path_of dials.to.url) dials.to.headers
   pub reserves : reserved ≡ reserved_name dials.to.headers
 
@@ -61,22 +65,28 @@ pub record OverBy (side : Side) (turn : Turn) (log : Log) : Type 0 where
 
 -- ---- streams
 
--- the call opens a stream of this kind, on the established session
+-- the call opens this stream on the established session: right before the record it went out as opened, as the next of its kind,
+-- which was allowed
 pub record OpeningCause (side : Side) (turn : Turn) (log : Log) (k session : ℕ) : Type 0 where
   pub opens : opened_kind side turn ≡ Some (k % 4)
   pub at : ℕ
   pub is_established : established (calls_of log) ≡ Some (session, at)
+  pub earlier : Log
+  pub sent : log ≡ Sent (actions.Opened k) ∷ earlier
+  pub allowed : may_open side earlier (k % 4) ≡ true
+  pub is_next : k ≡ next_id side earlier (k % 4)
 
 -- why an opening fails, which the call polls: the connection ended, or the peer stopped the stream before its header was out
 pub data OpeningOver (side : Side) (turn : Turn) (log : Log) (k : ℕ) : Type 0 where
   AtEnd : polls_opening k turn ≡ true → is_opening log k ≡ true → is_open log ≡ false → OpeningOver side turn log k
   HeaderStopped : (session at : ℕ) → polls_opening k turn ≡ true → is_opening log k ≡ true → established (calls_of log) ≡ Some (session, at) → is_refused log k (head_left log k (stream_header k session)) ≡ true → OpeningOver side turn log k
 
--- why so many bytes of a stream count as read
+-- why so many bytes of a stream count as read: the call reads it, asks for no fewer, and they came and weren't read before
 pub record ReadCause (side : Side) (turn : Turn) (log : Log) (k count : ℕ) : Type 0 where
   pub reads : reads_from k turn ≡ true
   pub has_half : has_receiving_half side log k ≡ true
-  pub within : count ≤ length (unread side log k)
+  pub asked : count ≤ asked_size turn
+  pub within : count ≤ length (unread_body side log k)
 
 -- ---- every record
 

@@ -8,6 +8,7 @@ use Rattle.wt_seam_spec.specs.Outgoing.{covered, may_open, next_id}
 use Rattle.wt_seam_spec.specs.Reports.{datagram_fact, end_of, is_acknowledged, is_connected, stop_of}
 use Rattle.wt_seam_spec.specs.Sent.{is_finished, priority_of}
 use Rattle.wt_seam_spec.specs.Streams.{contents, local_bi, local_count, peer_bi, peer_uni}
+use Rattle.wt_spec.specs.Turns.{is_call}
 use Rattle.wt_turn.specs.Log.{Log, actions_of, calls_of, events_of, is_open, with_actions}
 use Rattle.wt_turn.specs.declared.action.Action.{Action}
 use Rattle.wt_error.specs.declared.connecting_error.ConnectingError.{ConnectingError}
@@ -25,12 +26,12 @@ use Rattle.wt_wire.specs.declared.error.ErrorCode.{ErrorCode}
 use Rattle.wt_wire.specs.declared.lookup.ConnectOutcome.{ConnectOutcome}
 use Rattle.wt_wire.specs.declared.lookup.Lookup.{Lookup}
 use Rattle.wt_wire.specs.declared.side.Side.{Side}
-use Rattle.wt_laws.specs.Causes.{ConnectTo, DatagramOf, EstablishedBy, FoundDatagram, FoundStream, ResponseFrom, ResponseIs, accepted_kind, bytes_for, is_accept, is_receive, opened_kind, polls_opening, reads_from}
+use Rattle.wt_laws.specs.Causes.{ConnectTo, DatagramOf, EstablishedBy, FoundDatagram, FoundStream, ResponseFrom, ResponseIs, accepted_kind, bytes_for, is_accept, is_receive, opened_kind, polls_opening}
 use Rattle.wt_spec.specs.Connect.{address_of, outcome_error, port_of}
 use Rattle.wt_spec.specs.Connection.{is_opening, next_datagram, next_due, payload_limit, stream_header}
 use Rattle.wt_spec.specs.Driver.{established, settings_came}
 use Rattle.wt_spec.specs.Effect.{driver_error, head_left, is_covered, is_empty, transport_error}
-use Rattle.wt_spec.specs.Halves.{has_receiving_half, has_sending_half, is_done, unread, write_error}
+use Rattle.wt_spec.specs.Halves.{has_receiving_half, has_sending_half, is_done, unread_body, write_error}
 use Rattle.wt_spec.specs.Handshake.{Connecting, handshake_state, has_success, is_refused, lost, queued_requests, request_fields_of, requested}
 use Rattle.wt_spec.specs.StreamTable.{Classified}
 use Rattle.wt_turn.specs.declared.call.Call.TheVariants as calls
@@ -111,8 +112,8 @@ pub data PendingCause (side : Side) (turn : Turn) (log : Log) : Type 0 where
   NoStreamLeft : (session at : ℕ) → is_accept turn ≡ true → established (calls_of log) ≡ Some (session, at) → next_due side log (accepted_kind side turn) session ≡ None → PendingCause side turn log
   NoDatagramLeft : is_receive turn ≡ true → next_datagram side log ≡ None → PendingCause side turn log
   NotEnded : (k : ℕ) → waits_for_end turn ≡ Some k → stop_of (events_of log) k ≡ None → is_done log k ≡ false → PendingCause side turn log
-  NothingUnread : (k size : ℕ) → turn ≡ turns.Call (calls.Read k size) → (size == 0) ≡ false → unread side log k ≡ [] → end_of (events_of log) k ≡ ends.Running → PendingCause side turn log
-  TooFewUnread : (k size : ℕ) → turn ≡ turns.Call (calls.ReadExact k size) → nat_lt (length (unread side log k)) size ≡ true → end_of (events_of log) k ≡ ends.Running → PendingCause side turn log
+  NothingUnread : (k size : ℕ) → turn ≡ turns.Call (calls.Read k size) → (size == 0) ≡ false → unread_body side log k ≡ [] → end_of (events_of log) k ≡ ends.Running → PendingCause side turn log
+  TooFewUnread : (k size : ℕ) → turn ≡ turns.Call (calls.ReadExact k size) → nat_lt (length (unread_body side log k)) size ≡ true → end_of (events_of log) k ≡ ends.Running → PendingCause side turn log
   NotClosed : turn ≡ turns.Call calls.Closed → PendingCause side turn log
 
 -- the turn asks for the session request
@@ -146,7 +147,7 @@ pub data ConnectFailedCause (side : Side) (turn : Turn) (log : Log) (e : Connect
   AfterSuccess : (fields : Fields) (at : ℕ) → ResponseIs side turn log (responses.Response fields at) → has_success fields ≡ true → is_open log ≡ false
       → e ≡ connects.ConnectionError (driver_error side log) → ConnectFailedCause side turn log e
   ByReserved : (name head : List ℕ) → turn ≡ turns.Call calls.Handshake → handshake_state (calls_of log) ≡ Connecting (Some name) head → settings_came side log ≡ true → e ≡ connects.ReservedHeader name → ConnectFailedCause side turn log e
-  ByRefusal : (reserved : Option (List ℕ)) (head : List ℕ) → turn ≡ turns.Call calls.Handshake → handshake_state (calls_of log) ≡ Connecting reserved head → is_refused log (local_bi side) (head_left log (local_bi side) head) ≡ true → e ≡ connects.SessionRejected → ConnectFailedCause side turn log e
+  ByRefusal : (reserved : Option (List ℕ)) (head : List ℕ) → turn ≡ turns.Call calls.Handshake → handshake_state (calls_of log) ≡ Connecting reserved head → is_open log ≡ true → is_refused log (local_bi side) (head_left log (local_bi side) head) ≡ true → e ≡ connects.SessionRejected → ConnectFailedCause side turn log e
   ByStatus : (fields : Fields) (at : ℕ) → ResponseIs side turn log (responses.Response fields at) → has_success fields ≡ false
       → e ≡ connects.SessionRejected → ConnectFailedCause side turn log e
   ByResponseFault : (code : ErrorCode) → ResponseIs side turn log (responses.Fault code)
@@ -167,11 +168,12 @@ pub record OpenedCause (side : Side) (turn : Turn) (log : Log) (k : ℕ) : Type 
   pub is_established : established (calls_of log) ≡ Some (session, at)
   pub covers : is_covered log k (head_left log k (stream_header k session)) ≡ true
 
--- so many bytes of those handed in went out, as far as credit went
+-- so many bytes of those handed in for a half that the application has went out, as far as credit went
 pub record WrittenCause (side : Side) (turn : Turn) (log : Log) (count : ℕ) : Type 0 where
   pub stream : ℕ
   pub bytes : List ℕ
   pub handed_in : bytes_for stream turn ≡ Some bytes
+  pub has_half : has_sending_half side log stream ≡ true
   pub no_error : write_error log stream ≡ None
   pub as_credit : count ≡ length (covered log stream bytes)
 
@@ -188,17 +190,17 @@ is_closed_error writes.Closed = true
 is_closed_error _ = false
 
 -- a write fails for the first thing that hinders it, a finish as the half ended, but never as closed
-pub data WriteFailedCause (turn : Turn) (log : Log) (e : StreamWriteError) : Type 0 where
-  AtWrite : (k : ℕ) (bytes : List ℕ) → bytes_for k turn ≡ Some bytes → write_error log k ≡ Some e → WriteFailedCause turn log e
-  AtFinish : (k : ℕ) → turn ≡ turns.Call (calls.Finish k) → StoppedCause log k e → is_closed_error e ≡ false → WriteFailedCause turn log e
+pub data WriteFailedCause (side : Side) (turn : Turn) (log : Log) (e : StreamWriteError) : Type 0 where
+  AtWrite : (k : ℕ) (bytes : List ℕ) → bytes_for k turn ≡ Some bytes → has_sending_half side log k ≡ true → write_error log k ≡ Some e → WriteFailedCause side turn log e
+  AtFinish : (k : ℕ) → turn ≡ turns.Call (calls.Finish k) → has_sending_half side log k ≡ true → StoppedCause log k e → is_closed_error e ≡ false → WriteFailedCause side turn log e
 
--- the stream whose end a call needs not to have come
+-- the call needs a half of this stream that isn't done
 abbrev pub needs_half : ℕ → Turn → Bool
 needs_half k (turns.Call (calls.Priority id)) = id == k
 needs_half k (turns.Call (calls.ResetSend id code)) = id == k
 needs_half k _ = false
 
--- why nothing can be read
+-- why nothing can be read: the connection ended before the stream did, or the peer reset the stream
 abbrev pub ReadErrorCause : Side → Log → ℕ → StreamReadError → Type 0
 ReadErrorCause side log k reads.NotConnected = (is_open log ≡ false) × (end_of (events_of log) k ≡ ends.Running)
 ReadErrorCause side log k (reads.Reset code) = end_of (events_of log) k ≡ ends.Reset code
@@ -207,9 +209,9 @@ ReadErrorCause side log k reads.QuicProto = ⊥
 -- why there aren't as many bytes as were asked for
 abbrev pub ExactErrorCause : Side → Log → ℕ → StreamReadExactError → List ℕ → Type 0
 ExactErrorCause side log k (exacts.Read e) piece = ReadErrorCause side log k e × (piece ≡ [])
-ExactErrorCause side log k (exacts.FinishedEarly count) piece = (end_of (events_of log) k ≡ ends.Fin) × (piece ≡ unread side log k) × (count ≡ length piece)
+ExactErrorCause side log k (exacts.FinishedEarly count) piece = (end_of (events_of log) k ≡ ends.Fin) × (piece ≡ unread_body side log k) × (count ≡ length piece)
 
--- by what the transport told last of datagrams
+-- by what the transport told last of datagrams; it isn't connected also where it told nothing of them yet
 abbrev pub DatagramErrorCause : Log → List ℕ → SendDatagramError → Type 0
 DatagramErrorCause log bytes datagrams.NotConnected = (is_open log ≡ false) ⊎ (datagram_fact (events_of log) ≡ None)
 DatagramErrorCause log bytes datagrams.Disabled = datagram_fact (events_of log) ≡ Some facts.Disabled
@@ -222,11 +224,6 @@ pub data RejectedCause (side : Side) (turn : Turn) (log : Log) : Type 0 where
   RejectionRefused : (head : List ℕ) → ResponseFrom turn (calls_of log) false head → is_refused log (requested (calls_of log)) (head_left log (requested (calls_of log)) head) ≡ true → RejectedCause side turn log
   RejectionOver : (head : List ℕ) → ResponseFrom turn (calls_of log) false head → is_finished (actions_of log) (requested (calls_of log)) ≡ true
       → (is_some (stop_of (events_of log) (requested (calls_of log))) || is_acknowledged (events_of log) (requested (calls_of log))) ≡ true → RejectedCause side turn log
-
--- the turn is a call
-abbrev pub is_call : Turn → Bool
-is_call (turns.Call call) = true
-is_call _ = false
 
 -- what the turn asks for is done: an event is taken; a datagram goes out; a close, on an established session or of the
 -- endpoint; a priority is set, unless the half is done; a half that isn't done is reset; a receiving half is given up
@@ -256,22 +253,22 @@ ReplyCause side turn log (replies.BiReady k) = OpenedCause side turn log k × (i
 ReplyCause side turn log (replies.Id s) = (turn ≡ turns.Call calls.SessionId) × (at : ℕ) × (established (calls_of log) ≡ Some (s, at))
 ReplyCause side turn log (replies.Datagram piece) = (found : FoundDatagram side turn log true) × (piece ≡ found.datagram.1)
 ReplyCause side turn log (replies.Size size) = (turn ≡ turns.Call calls.MaxDatagramSize) × (s : ℕ) × (at : ℕ) × (established (calls_of log) ≡ Some (s, at)) × (size ≡ payload_limit s (datagram_fact (events_of log)))
-ReplyCause side turn log (replies.Written count) = (x : WrittenCause side turn log count) × (count ≡ 0 → x.bytes ≡ [])
-ReplyCause side turn log replies.AllWritten = (count : ℕ) × (x : WrittenCause side turn log count) × (count ≡ length x.bytes)
-ReplyCause side turn log (replies.Count count) = (x : WrittenCause side turn log count) × (nat_lt count (length x.bytes) ≡ true)
-ReplyCause side turn log replies.Finished = (k : ℕ) × (turn ≡ turns.Call (calls.Finish k)) × (stop_of (events_of log) k ≡ None) × (is_done log k ≡ true)
-ReplyCause side turn log (replies.Priority p) = (k : ℕ) × (turn ≡ turns.Call (calls.Priority k)) × (is_done log k ≡ false) × (p ≡ priority_of (calls_of log) k)
-ReplyCause side turn log replies.ClosedStream = (k : ℕ) × (needs_half k turn ≡ true) × (is_done log k ≡ true)
-ReplyCause side turn log (replies.Read None) = (k : ℕ) × (reads_from k turn ≡ true) × (unread side log k ≡ []) × (end_of (events_of log) k ≡ ends.Fin)
-ReplyCause side turn log (replies.Read (Some piece)) = (k : ℕ) × (size : ℕ) × (turn ≡ turns.Call (calls.Read k size)) × (has_receiving_half side log k ≡ true) × (piece ≡ take size (unread side log k)) × (size == 0 || not (is_empty (unread side log k))) ≡ true
-ReplyCause side turn log (replies.Exact piece) = (k : ℕ) × (size : ℕ) × (turn ≡ turns.Call (calls.ReadExact k size)) × (has_receiving_half side log k ≡ true) × (piece ≡ take size (unread side log k)) × (size ≤ length (unread side log k))
+ReplyCause side turn log (replies.Written count) = (x : WrittenCause side turn log count) × (turn ≡ turns.Call (calls.Write x.stream x.bytes)) × (count ≡ 0 → x.bytes ≡ [])
+ReplyCause side turn log replies.AllWritten = (count : ℕ) × (x : WrittenCause side turn log count) × (turn ≡ turns.Call (calls.WriteAll x.stream x.bytes)) × (count ≡ length x.bytes)
+ReplyCause side turn log (replies.Count count) = (x : WrittenCause side turn log count) × (turn ≡ turns.Call (calls.WriteAll x.stream x.bytes)) × (nat_lt count (length x.bytes) ≡ true)
+ReplyCause side turn log replies.Finished = (k : ℕ) × (turn ≡ turns.Call (calls.Finish k)) × (has_sending_half side log k ≡ true) × (stop_of (events_of log) k ≡ None) × (is_done log k ≡ true)
+ReplyCause side turn log (replies.Priority p) = (k : ℕ) × (turn ≡ turns.Call (calls.Priority k)) × (has_sending_half side log k ≡ true) × (is_done log k ≡ false) × (p ≡ priority_of (calls_of log) k)
+ReplyCause side turn log replies.ClosedStream = (k : ℕ) × (needs_half k turn ≡ true) × (has_sending_half side log k ≡ true) × (is_done log k ≡ true)
+ReplyCause side turn log (replies.Read None) = (k : ℕ) × (size : ℕ) × (turn ≡ turns.Call (calls.Read k size)) × (has_receiving_half side log k ≡ true) × ((size == 0) ≡ false) × (unread_body side log k ≡ []) × (end_of (events_of log) k ≡ ends.Fin)
+ReplyCause side turn log (replies.Read (Some piece)) = (k : ℕ) × (size : ℕ) × (turn ≡ turns.Call (calls.Read k size)) × (has_receiving_half side log k ≡ true) × (piece ≡ take size (unread_body side log k)) × (size == 0 || not (is_empty (unread_body side log k))) ≡ true
+ReplyCause side turn log (replies.Exact piece) = (k : ℕ) × (size : ℕ) × (turn ≡ turns.Call (calls.ReadExact k size)) × (has_receiving_half side log k ≡ true) × (piece ≡ take size (unread_body side log k)) × (size ≤ length (unread_body side log k))
 ReplyCause side turn log (replies.Failed e) = FailedCause side turn log e
 ReplyCause side turn log (replies.Closed e) = (turn ≡ turns.Call calls.Closed) × (is_open log ≡ false) × (e ≡ transport_error log)
 ReplyCause side turn log (replies.ConnectFailed e) = ConnectFailedCause side turn log e
 ReplyCause side turn log (replies.OpeningFailed openings.NotConnected) = (is_open log ≡ false) × (k : ℕ) × (polls_opening k turn ≡ true) × (is_opening log k ≡ true)
 ReplyCause side turn log (replies.OpeningFailed openings.Refused) = (k : ℕ) × (session : ℕ) × (at : ℕ) × (polls_opening k turn ≡ true) × (is_opening log k ≡ true) × (established (calls_of log) ≡ Some (session, at)) × (is_refused log k (head_left log k (stream_header k session)) ≡ true)
-ReplyCause side turn log (replies.WriteFailed e) = WriteFailedCause turn log e
-ReplyCause side turn log (replies.StoppedBy e) = (k : ℕ) × (turn ≡ turns.Call (calls.Stopped k)) × StoppedCause log k e
-ReplyCause side turn log (replies.ReadFailed e) = (k : ℕ) × (reads_from k turn ≡ true) × (unread side log k ≡ []) × ReadErrorCause side log k e
-ReplyCause side turn log (replies.ExactFailed e piece) = (k : ℕ) × (size : ℕ) × (turn ≡ turns.Call (calls.ReadExact k size)) × (has_receiving_half side log k ≡ true) × (nat_lt (length (unread side log k)) size ≡ true) × ExactErrorCause side log k e piece
+ReplyCause side turn log (replies.WriteFailed e) = WriteFailedCause side turn log e
+ReplyCause side turn log (replies.StoppedBy e) = (k : ℕ) × (turn ≡ turns.Call (calls.Stopped k)) × (has_sending_half side log k ≡ true) × StoppedCause log k e
+ReplyCause side turn log (replies.ReadFailed e) = (k : ℕ) × (size : ℕ) × (turn ≡ turns.Call (calls.Read k size)) × (has_receiving_half side log k ≡ true) × ((size == 0) ≡ false) × (unread_body side log k ≡ []) × ReadErrorCause side log k e
+ReplyCause side turn log (replies.ExactFailed e piece) = (k : ℕ) × (size : ℕ) × (turn ≡ turns.Call (calls.ReadExact k size)) × (has_receiving_half side log k ≡ true) × (nat_lt (length (unread_body side log k)) size ≡ true) × ExactErrorCause side log k e piece
 ReplyCause side turn log (replies.DatagramFailed e) = (bytes : List ℕ) × DatagramOf turn log bytes × DatagramErrorCause log bytes e

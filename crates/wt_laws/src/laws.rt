@@ -4,7 +4,7 @@ ghost use Rattle.wt_laws.specs.Exactly.{AsksFirst, ConnectGoesOn, ConnectsAnswer
 ghost use Rattle.wt_laws.specs.Laws.{CutsWell, DatagramsInOrder, FaultCloses, HeadersOut, NothingAfterEnd, OneSession, OpenExactly, ReadsFromStart, ReadsInOrder, ReplyHasCause, RequestTold, ResultStays, SendsAll, SendsEnd, SendsInOrder, SessionStreamOut, SessionTold, SessionsRightly, SettingsOut, StreamsAcceptedRightly, TakenGoesOut, WithinCredit};
 ghost use Rattle.wt_laws.specs.Left.{PendingExactly, is_pending};
 ghost use Rattle.wt_laws.specs.Reachable.{AllLawful, IsReachable, exchanges};
-ghost use Rattle.wt_laws.specs.ReplyCauses.{is_call};
+ghost use Rattle.wt_spec.specs.Turns.{is_call};
 ghost use Rattle.wt_laws.specs.Runs.{DoneLate, InOrderOfOpening, LateChangesNothing, RunsLawful, RunsLongest, StaysSo};
 ghost use Rattle.wt_spec.specs.Answers.{answer_to, is_lawful, log_from};
 ghost use Rattle.wt_spec.specs.Driver.{established, stream_table};
@@ -111,7 +111,8 @@ pub fn writes_go_out()
     ensures end { (side : Side) (log : Log) (turn : Turn) → IsReachable side log → is_lawful side log turn ≡ true → SendsEnd side log turn }
 {}
 
-/// A datagram that is taken goes out whole; so do a close, a reset and a stop on an open connection.
+/// A datagram that is taken goes out whole and once; so do, on an open connection, a close, a reset, a
+/// stop, a finish and an opening, and what a connect dials.
 #[tactic(auto, using(crate::proofs::Theorems::taken_theorem))]
 pub fn what_is_taken_goes_out()
     ensures taken { (side : Side) (log : Log) → TakenGoesOut side log }

@@ -6,8 +6,11 @@ ghost use Rattle.wt_laws.specs.Ended.{EndingGoesOut, PendingGoesOut};
 ghost use Rattle.wt_laws.specs.Faults.{ClassifiedRightly, DatagramOrEnds, EndsForCause, FaultlessOrEnds, OnceEach, SettingsComeRead, StreamsFaultless};
 ghost use Rattle.wt_laws.specs.FirstFault.{FirstIsTold};
 ghost use Rattle.wt_laws.specs.GivenOnce.{GivenOnce};
+ghost use Rattle.wt_laws.specs.LeavesRecord.{LeavesRecord};
+ghost use Rattle.wt_laws.specs.OpenedInOrder.{OpenedInOrder};
 ghost use Rattle.wt_laws.specs.Reachable.{AllLawful, IsReachable, exchanges};
 ghost use Rattle.wt_laws.specs.Runs.{DoneAtOnce};
+ghost use Rattle.wt_laws.specs.Telling.{TellingArrives};
 ghost use Rattle.wt_laws.specs.TurnCauses.{ActionsWentOut, EntriesHaveCauses, ReplyIsRecorded};
 ghost use Rattle.wt_spec.specs.Answers.{is_lawful};
 ghost use Rattle.wt_turn.specs.Log.{Entry, Log};
@@ -22,6 +25,26 @@ pub fn turns_have_causes()
     ensures entries { (side : Side) (log : Log) (turn : Turn) → is_lawful side log turn ≡ true → EntriesHaveCauses side log turn }
     ensures actions { (side : Side) (log : Log) → IsReachable side log → ActionsWentOut side log }
     ensures recorded { (side : Side) (log : Log) (turn : Turn) → is_lawful side log turn ≡ true → ReplyIsRecorded side log turn }
+{}
+
+/// What the transport tells in a turn is in the log behind it: an event, and of a piece every byte up
+/// to the one at which the connection ends.
+#[tactic(auto, using(crate::proofs::Telling::telling_theorem))]
+pub fn what_is_told_arrives()
+    ensures arrives { (side : Side) (log : Log) (turn : Turn) → TellingArrives side log turn }
+{}
+
+/// What a call did is left in the log for later answers: an opening, a half that is given up or reset,
+/// a priority, and where its handshake is.
+#[tactic(auto, using(crate::proofs::LeavesRecord::leaves_record_theorem))]
+pub fn calls_leave_their_record()
+    ensures left { (side : Side) (log : Log) (turn : Turn) → is_lawful side log turn ≡ true → LeavesRecord side log turn }
+{}
+
+/// This end opens the streams of each kind one after another: none twice, and none is left out.
+#[tactic(auto, using(crate::proofs::OpenedInOrder::opened_in_order_theorem))]
+pub fn streams_are_opened_in_order()
+    ensures opened { (side : Side) (log : Log) → IsReachable side log → OpenedInOrder log }
 {}
 
 /// An event of the transport is answered Done, and so is the close of the endpoint.

@@ -20,7 +20,7 @@ use Rattle.wt_turn.specs.Log.{Event, Log, PeerBi, PeerUni, actions_of, all_event
 use Rattle.wt_turn.specs.declared.action.Action.{Action}
 use Rattle.wt_wire.specs.declared.side.Side.{Side}
 use Rattle.wt_wire.specs.declared.side.Side.TheVariants.{Client, Server}
-use Rattle.wt_plan.specs.FactsNow.{DriverFacts, facts_now, sending_now}
+use Rattle.wt_plan.specs.FactsNow.{DriverAnswers, facts_now, sending_now}
 use Rattle.wt_plan.specs.Tells.{AnswersLog, LogTells}
 use Rattle.wt_turn.specs.declared.action.Action.TheVariants as actions
 
@@ -122,7 +122,7 @@ module _ (side : Side) (t : TransportState) (log : Log) (position : ℕ → Read
 
   -- ---- all of them
 
-  pub facts-same : (d : DriverFacts) → AnswersLog side log d → LogTells side log
+  pub facts-same : (d : DriverAnswers) → AnswersLog side log d → LogTells side log
       → facts_now t d ≡ record (facts_of side log) { request_end = d.request_end; response = d.response; unread = unread_now t }
   facts-same d a tells = λ j. record {
     side = side-is j;

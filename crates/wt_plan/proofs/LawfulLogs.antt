@@ -8,7 +8,7 @@ use Rattle.wt_laws.proofs.Facts.{IsSessions, facts-hold, is_local, open-before}
 use Rattle.wt_laws.proofs.HeaderLaws.{heads-hold}
 use Rattle.wt_laws.proofs.Reached.{reached}
 use Rattle.wt_laws.proofs.Steps.{Brings, KeepsEntries, by-entries}
-use Rattle.wt_laws.specs.Causes.{event_of}
+use Rattle.wt_spec.specs.Turns.{event_of}
 use Rattle.wt_laws.specs.Reachable.{IsReachable, is_among}
 use Rattle.wt_seam_spec.specs.Arrivals.{fits}
 use Rattle.wt_seam_spec.specs.Reports.{datagram_fact, is_connected, loss_of}

@@ -2,7 +2,7 @@
 use Rattle.std.specs.Prelude.{◌==◌, ◌∷◌, ◌≡◌, Bool, List, None, false, if◌then◌else◌, true, unwrap_or, ℕ}
 use Rattle.std.proofs.Common.{◌∙◌, ap, refl, sym}
 use Rattle.std.proofs.lemmas.Bool.{eq-eqb, eqb-true}
-use Rattle.wt_session_spec.specs.SessionState.{StreamUse, Given, begun, failed, use_after}
+use Rattle.wt_session_spec.specs.SessionState.{StreamUse, Given, begun, failed, stream_use_after}
 use Rattle.wt_spec.specs.Handshake.{after_record, handshake_state, requested, requested_by}
 use Rattle.wt_turn.specs.Log.{CallRecord, OpeningFailed, OpeningStarted, Polled, StreamAccepted, StreamGivenUp}
 use Rattle.wt_plan.specs.Table.{HasNoted, HasSet, KeepsCalls, TableValue, use_as, use_now}
@@ -21,20 +21,20 @@ pub noted : (t u : TableValue) (r : CallRecord) (calls : List CallRecord) → Ha
 noted t u r calls n k = record {
   handshake_is = n.handshake_is ∙ ap (unwrap_or (after_record r)) k.handshake_is ∙ sym (state-next r calls);
   requested_is = n.requested_is ∙ ap (unwrap_or (requested_by r)) k.requested_is ∙ sym (requested-next r calls);
-  uses = λ j. n.uses j ∙ ap (use_after j r) (k.uses j);
+  uses = λ j. n.uses j ∙ ap (stream_use_after j r) (k.uses j);
 }
 
 -- one stream's use is set
 set-noted : (t u : TableValue) (r : CallRecord) (id : ℕ) (to : table.StreamUse) → HasSet t u id to → after_record r ≡ None → requested_by r ≡ None
-    → use_as to ≡ use_after id r (use_as (use_now t id)) → ((k : ℕ) (v : StreamUse) → (id == k) ≡ false → use_after k r v ≡ v) → HasNoted t u r
+    → use_as to ≡ stream_use_after id r (use_as (use_now t id)) → ((k : ℕ) (v : StreamUse) → (id == k) ≡ false → stream_use_after k r v ≡ v) → HasNoted t u r
 set-noted t u r id to s h q e o = record {
   handshake_is = rw h s.handshake_same;
   requested_is = rw q s.requested_same;
   uses = λ k. ap use_as (s.uses k) ∙ at k (id == k) refl;
 }
   where
-    at : (k : ℕ) (b : Bool) → (id == k) ≡ b → use_as (if b then to else use_now t k) ≡ use_after k r (use_as (use_now t k))
-    at k true m = e ∙ ap (λ (j : ℕ). use_after j r (use_as (use_now t j))) (eqb-true id k m)
+    at : (k : ℕ) (b : Bool) → (id == k) ≡ b → use_as (if b then to else use_now t k) ≡ stream_use_after k r (use_as (use_now t k))
+    at k true m = e ∙ ap (λ (j : ℕ). stream_use_after j r (use_as (use_now t j))) (eqb-true id k m)
     at k false m = sym (o k (use_as (use_now t k)) m)
 
 pub accepted_noted : (t u : TableValue) (id : ℕ) (to : table.StreamUse) → HasSet t u id to → use_as to ≡ record (use_as (use_now t id)) { giving = Given } → HasNoted t u (StreamAccepted id)

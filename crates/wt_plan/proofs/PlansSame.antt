@@ -20,7 +20,7 @@ use Rattle.wt_session_spec.specs.Plans.{may_call_now, may_respond_now, plan_of, 
 use Rattle.wt_session_spec.specs.SessionState.{SessionState, has_receiving_now, has_sending_now, is_opening_now, session_state}
 use Rattle.wt_spec.specs.Answers.{call_effect, is_client, may_call}
 use Rattle.wt_spec.specs.Connection.{is_opening}
-use Rattle.wt_spec.specs.Halves.{has_receiving_half, has_sending_half, unread}
+use Rattle.wt_spec.specs.Halves.{has_receiving_half, has_sending_half, unread_body}
 use Rattle.wt_spec.specs.Effect.{is_empty}
 use Rattle.wt_spec.specs.Handshake.{Connecting, HandshakeState, Requested, Responding, awaits_answer, response_head}
 use Rattle.wt_spec.specs.StreamTable.{Classified}
@@ -30,7 +30,7 @@ use Rattle.wt_turn.specs.declared.action.Action.{Action}
 use Rattle.wt_turn.specs.declared.call.Call.{Call}
 use Rattle.wt_wire.specs.declared.side.Side.{Side}
 use Rattle.wt_plan.proofs.FactsSame.{facts-same}
-use Rattle.wt_plan.specs.FactsNow.{DriverFacts, facts_now}
+use Rattle.wt_plan.specs.FactsNow.{DriverAnswers, facts_now}
 use Rattle.wt_plan.specs.Table.{KeepsCalls, TableValue}
 use Rattle.wt_plan.specs.Tells.{TellsFacts, session_now}
 use Rattle.wt_session_spec.specs.SessionState.{is_answering}
@@ -148,9 +148,9 @@ module _ (f : CallFacts) (s : SessionState) (end : ℕ) (walk : ResponseWalk) (b
 
 -- ---- what is kept of a log
 
-module _ (side : Side) (log : Log) (t : TransportState) (d : DriverFacts) (x : TellsFacts side log t d) where
+module _ (side : Side) (log : Log) (t : TransportState) (d : DriverAnswers) (x : TellsFacts side log t d) where
   -- the application's unread bytes
-  pub unread_had : (k : ℕ) → has_receiving_half side log k ≡ true → unread_now t k ≡ unread side log k
+  pub unread_had : (k : ℕ) → has_receiving_half side log k ≡ true → unread_now t k ≡ unread_body side log k
   unread_had k h = refined_unread side t log x.position x.untaken x.refines k ∙ ap (λ p. from_position p (contents log k)) (x.reads k h)
 
   -- a stream whose half the application has is there

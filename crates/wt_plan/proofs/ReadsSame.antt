@@ -10,7 +10,7 @@ use Rattle.wt_turn.specs.Log.{Log}
 use Rattle.wt_turn.specs.declared.action.Action.{Action}
 use Rattle.wt_wire.specs.declared.side.Side.{Side}
 use Rattle.wt_plan.proofs.LawfulLogs.{log_tells}
-use Rattle.wt_plan.specs.FactsNow.{DriverFacts}
+use Rattle.wt_plan.specs.FactsNow.{DriverAnswers}
 use Rattle.wt_plan.specs.Tells.{AnswersLog, TellsFacts}
 use Rattle.wt_plan.specs.Inboxes.{StagesReadAsCalled}
 
@@ -26,7 +26,7 @@ read-at x k bytes position GivenUp n i e = absurd (cc)
 read-at x k bytes position Anywhere n i e = absurd (cc)
 
 -- an inbox, whose stages say how far the calls read, tells what a log does
-pub inbox_tells : (side : Side) (log : Log) (x : InboxState) (stage : ℕ → Stage) (untaken : List Action) (d : DriverFacts)
+pub inbox_tells : (side : Side) (log : Log) (x : InboxState) (stage : ℕ → Stage) (untaken : List Action) (d : DriverAnswers)
     → inboxes.Refines side x log stage untaken → StagesReadAsCalled side log stage → AnswersLog side log d → IsReachable side log → TellsFacts side log x.transport d
 inbox_tells side log x stage untaken d r s a reach = record {
   position = r.position;

@@ -7,18 +7,18 @@ use Rattle.wt_seam.specs.Step.{count_now, may_open_now, next_id_now, opened_id_n
 use Rattle.wt_seam_spec.specs.Streams.{local_bi}
 use Rattle.wt_session_spec.specs.HandshakePlans.{failed_connect, left_of, lost_connect, request_left, request_plan}
 use Rattle.wt_turn.specs.declared.action.Action.{Action}
-use Rattle.wt_plan.specs.FactsNow.{DriverFacts, facts_now}
+use Rattle.wt_plan.specs.FactsNow.{DriverAnswers, facts_now}
 use Rattle.wt_turn.specs.declared.action.Action.TheVariants as actions
 
-pub same-left : (t : TransportState) (d : DriverFacts) (id k : ℕ) (own other : List Action) (left rest : List ℕ) → id ≡ k → own ≡ other → left ≡ rest
+pub same-left : (t : TransportState) (d : DriverAnswers) (id k : ℕ) (own other : List Action) (left rest : List ℕ) → id ≡ k → own ≡ other → left ≡ rest
     → request_left (facts_now t d) id own left ≡ request_left (facts_now t d) k other rest
 same-left t d id k own other left rest a b c = rw (a, b, c) refl
 
-pub when-there : (t : TransportState) (d : DriverFacts) (head : List ℕ) → nat_lt 0 (count_now t (local_bi t.side)) ≡ true
+pub when-there : (t : TransportState) (d : DriverAnswers) (head : List ℕ) → nat_lt 0 (count_now t (local_bi t.side)) ≡ true
     → request_left (facts_now t d) (local_bi t.side) [] (left_of (facts_now t d) (local_bi t.side) head) ≡ request_plan (facts_now t d) (local_bi t.side) head
 when-there t d head e = rw e refl
 
-pub when-ended : (t : TransportState) (d : DriverFacts) (head : List ℕ) → nat_lt 0 (count_now t (local_bi t.side)) ≡ false → t.is_open ≡ false
+pub when-ended : (t : TransportState) (d : DriverAnswers) (head : List ℕ) → nat_lt 0 (count_now t (local_bi t.side)) ≡ false → t.is_open ≡ false
     → failed_connect [] (lost_connect (facts_now t d)) ≡ request_plan (facts_now t d) (local_bi t.side) head
 when-ended t d head e o = rw (e, o) refl
 
@@ -28,7 +28,7 @@ same-id a b e = cc
 none-there : (id : ℕ) (o : Option ℕ) → o ≡ None → o ≡ Some id → ⊥
 none-there id o e s = cc
 
-pub when-opened : (t : TransportState) (d : DriverFacts) (head : List ℕ) (id : ℕ) → nat_lt 0 (count_now t (local_bi t.side)) ≡ false → t.is_open ≡ true → opened_id_now t (local_bi t.side) ≡ Some id
+pub when-opened : (t : TransportState) (d : DriverAnswers) (head : List ℕ) (id : ℕ) → nat_lt 0 (count_now t (local_bi t.side)) ≡ false → t.is_open ≡ true → opened_id_now t (local_bi t.side) ≡ Some id
     → request_left (facts_now t d) (local_bi t.side) (actions.Opened id ∷ []) (left_of (facts_now t d) (local_bi t.side) head) ≡ request_plan (facts_now t d) (local_bi t.side) head
 when-opened t d head id e o s = at (may_open_now t (local_bi t.side)) refl
   where

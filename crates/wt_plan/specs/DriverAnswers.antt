@@ -1,11 +1,11 @@
 -- The driver's answers, by what it keeps.
-use Rattle.std.specs.Prelude.{[], Bool, List, None, Option, Some, if◌then◌else◌, ℕ}
-use Rattle.wt_driver_spec.specs.DriverState.{DriverState}
-use Rattle.wt_plan.specs.FactsNow.{DriverFacts}
+use Rattle.std.specs.Prelude.{Bool, None, Option, Some, ℕ}
+use Rattle.wt_driver_spec.specs.DriverState.{DriverState, requests_now}
+use Rattle.wt_plan.specs.FactsNow.{DriverAnswers}
 use Rattle.wt_proto.specs.declared.response_walk.ResponseWalk.{ResponseWalk}
 use Rattle.wt_seam.specs.State.{TransportState}
 use Rattle.wt_spec.specs.Effect.{loss_or_local}
-use Rattle.wt_spec.specs.StreamTable.{ByFault, BySession, Classified, Ending}
+use Rattle.wt_spec.specs.StreamTable.{ByFault, BySession, Ending}
 use Rattle.wt_error.specs.declared.connection_error.ConnectionError.{ConnectionError}
 use Rattle.wt_error.specs.declared.connection_error.ConnectionError.TheVariants as errors
 
@@ -15,12 +15,8 @@ error_now t None = loss_or_local t.loss
 error_now t (Some (ByFault code)) = errors.LocalH3Error code
 error_now t (Some (BySession code reason by_capsule)) = errors.ApplicationClosed (record { code = code; reason = reason })
 
--- the queued requests, once SETTINGS came
-abbrev pub requests_now : DriverState → List Classified
-requests_now s = if s.progress.settings then s.dispatched.requests else []
-
 -- What it answers. Whether anything happened, where the delivered request ends, and the walk over the response are kept elsewhere.
-abbrev pub answers_now : TransportState → DriverState → Bool → ℕ → ResponseWalk → DriverFacts
+abbrev pub answers_now : TransportState → DriverState → Bool → ℕ → ResponseWalk → DriverAnswers
 answers_now t s first end walk = record {
   is_first = first;
   driver_error = error_now t s.progress.ending;

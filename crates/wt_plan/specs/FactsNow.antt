@@ -12,7 +12,7 @@ use Rattle.wt_streams.specs.StreamState.{fresh, has_stream, sending_half_of, str
 use Rattle.wt_error.specs.declared.connection_error.ConnectionError.{ConnectionError}
 
 -- what the driver answers
-pub record DriverFacts : Type 0 where
+pub record DriverAnswers : Type 0 where
   pub is_first : Bool
   pub driver_error : ConnectionError
   pub settings_came : Bool
@@ -26,7 +26,7 @@ abbrev pub sending_now : TransportState → ℕ → SendingHalf
 sending_now t k = if has_stream t.streams k then sending_half_of (stream_at t.streams k) else sending_half_of (fresh t.initial_credit)
 
 -- what calls ask of both
-abbrev pub facts_now : TransportState → DriverFacts → CallFacts
+abbrev pub facts_now : TransportState → DriverAnswers → CallFacts
 facts_now t d = record {
   side = t.side;
   is_first = d.is_first;

@@ -74,4 +74,4 @@ pub record HasSet (old new : TableValue) (id : ℕ) (to : StreamUse) : Type 0 wh
 pub record HasNoted (old new : TableValue) (r : CallRecord) : Type 0 where
   pub handshake_is : new.handshake ≡ unwrap_or (handshake.after_record r) old.handshake
   pub requested_is : new.requested ≡ unwrap_or (handshake.requested_by r) old.requested
-  pub uses : (k : ℕ) → use_as (use_now new k) ≡ session.use_after k r (use_as (use_now old k))
+  pub uses : (k : ℕ) → use_as (use_now new k) ≡ session.stream_use_after k r (use_as (use_now old k))

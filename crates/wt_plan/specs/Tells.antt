@@ -1,6 +1,6 @@
 -- When a transport, the driver's answers and a table tell what a log does.
 use Rattle.std.specs.Prelude.{◌+◌, ◌≡◌, Bool, List, Option, false, is_some, true, ℕ}
-use Rattle.wt_plan.specs.FactsNow.{DriverFacts}
+use Rattle.wt_plan.specs.FactsNow.{DriverAnswers}
 use Rattle.wt_plan.specs.Table.{TableValue, use_as, use_now}
 use Rattle.wt_proto.specs.ResponseWalk.{response_walk_of}
 use Rattle.wt_seam.specs.State.{Refines, TransportState}
@@ -11,7 +11,7 @@ use Rattle.wt_session_spec.specs.SessionState.{SessionState, is_answering}
 use Rattle.wt_spec.specs.Answers.{is_first}
 use Rattle.wt_spec.specs.Driver.{established, settings_came, stream_table}
 use Rattle.wt_spec.specs.Effect.{driver_error}
-use Rattle.wt_spec.specs.Halves.{body_offset, has_receiving_half, has_sending_half, total_read}
+use Rattle.wt_spec.specs.Halves.{body_start, has_receiving_half, has_sending_half, total_read}
 use Rattle.wt_spec.specs.Handshake.{Connecting, handshake_state, queued_requests, request_end, requested}
 use Rattle.wt_spec.specs.StreamTable.{verdict_of}
 use Rattle.wt_turn.specs.Log.{Log, calls_of, events_of}
@@ -19,7 +19,7 @@ use Rattle.wt_turn.specs.declared.action.Action.{Action}
 use Rattle.wt_wire.specs.declared.side.Side.{Side}
 
 -- what the driver answers of a log
-abbrev pub driver_facts : Side → Log → DriverFacts
+abbrev pub driver_facts : Side → Log → DriverAnswers
 driver_facts side log = record {
   is_first = is_first log;
   driver_error = driver_error side log;
@@ -36,7 +36,7 @@ KeepsRequestEnd side log end = is_answering (handshake_state (calls_of log)) ≡
 
 -- The driver answers what the log does. Where the request ends is asked only while it is answered, and the walk over the
 -- response only while a connect goes on.
-pub record AnswersLog (side : Side) (log : Log) (d : DriverFacts) : Type 0 where
+pub record AnswersLog (side : Side) (log : Log) (d : DriverAnswers) : Type 0 where
   pub is_first : d.is_first ≡ (driver_facts side log).is_first
   pub driver_error : d.driver_error ≡ (driver_facts side log).driver_error
   pub settings_came : d.settings_came ≡ (driver_facts side log).settings_came
@@ -56,10 +56,10 @@ pub record LogTells (side : Side) (log : Log) : Type 0 where
 abbrev pub ReadsAsCalled : Side → Log → (ℕ → ReadPosition) → Type 0
 ReadsAsCalled side log position =
     (k : ℕ) → has_receiving_half side log k ≡ true
-    → position k ≡ AtOffset (body_offset (verdict_of k (stream_table side log).classified) + total_read k (calls_of log))
+    → position k ≡ AtOffset (body_start (verdict_of k (stream_table side log).classified) + total_read k (calls_of log))
 
 -- a transport and the driver's answers tell what a log does
-pub record TellsFacts (side : Side) (log : Log) (t : TransportState) (d : DriverFacts) : Type 0 where
+pub record TellsFacts (side : Side) (log : Log) (t : TransportState) (d : DriverAnswers) : Type 0 where
   pub position : ℕ → ReadPosition
   pub untaken : List Action
   pub refines : Refines side t log position untaken

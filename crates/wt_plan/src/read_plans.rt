@@ -1,6 +1,6 @@
 //! What the calls on receiving halves do.
 ghost use Rattle.std.specs.Prelude.{◌≡◌, ◌≤◌, IfOk, IsTrue, Ok, Some, ℕ, take, length};
-ghost use Rattle.wt_plan.specs.FactsNow.{DriverFacts, facts_now};
+ghost use Rattle.wt_plan.specs.FactsNow.{DriverAnswers, facts_now};
 ghost use Rattle.wt_plan.specs.Planned.{planned};
 ghost use Rattle.wt_turn.specs.Records.{record_of};
 ghost use Rattle.wt_seam.specs.Step.{end_now, unread_now};
@@ -61,7 +61,7 @@ fn read_reply(
 /// At most so many of the unread bytes.
 #[tactic(auto, using(crate::proofs::Reading::read_within))]
 pub fn read(alloc: Global, t: &Transport, id: StreamId, size: u64) -> Result<Plan, OutOfMemory>
-    ensures { (d : DriverFacts) → IfOk result (λ p. planned p ≡ read_plan (facts_now t.now d) id size) }
+    ensures { (d : DriverAnswers) → IfOk result (λ p. planned p ≡ read_plan (facts_now t.now d) id size) }
 {
     let size = size as usize;
     let count = size.min(t.unread(id) as usize);
@@ -101,7 +101,7 @@ pub fn read_exact(
     id: StreamId,
     size: u64,
 ) -> Result<Plan, OutOfMemory>
-    ensures { (d : DriverFacts) → IfOk result (λ p. planned p ≡ read_exact_plan (facts_now t.now d) id size) }
+    ensures { (d : DriverAnswers) → IfOk result (λ p. planned p ≡ read_exact_plan (facts_now t.now d) id size) }
 {
     if t.unread(id) < size {
         return too_few_bytes(alloc, t, id);

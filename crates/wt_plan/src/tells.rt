@@ -6,7 +6,7 @@ ghost use Rattle.wt_inbox.specs.Stage.{Stage};
 ghost use Rattle.wt_inbox.specs.State.{InboxState};
 ghost use Rattle.wt_laws.specs.Reachable.{IsReachable};
 ghost use Rattle.wt_plan.specs.DriverAnswers.{answers_now};
-ghost use Rattle.wt_plan.specs.FactsNow.{DriverFacts, facts_now};
+ghost use Rattle.wt_plan.specs.FactsNow.{DriverAnswers, facts_now};
 ghost use Rattle.wt_plan.specs.Inboxes.{StagesReadAsCalled};
 ghost use Rattle.wt_plan.specs.Table.{KeepsCalls, TableValue};
 ghost use Rattle.wt_plan.specs.Tells.{AnswersLog, KeepsRequestEnd, LogTells, TellsFacts, driver_facts, session_now};
@@ -23,7 +23,7 @@ ghost use Rattle.wt_session_spec.specs.Plans.{may_call_now, plan_of};
 ghost use Rattle.wt_session_spec.specs.SessionState.{session_state};
 ghost use Rattle.wt_spec.specs.Answers.{call_effect, is_first, may_call};
 ghost use Rattle.wt_spec.specs.Driver.{stream_table};
-ghost use Rattle.wt_spec.specs.Halves.{has_receiving_half, has_sending_half, unread};
+ghost use Rattle.wt_spec.specs.Halves.{has_receiving_half, has_sending_half, unread_body};
 ghost use Rattle.wt_spec.specs.Handshake.{Connecting, handshake_state, request_end, requested};
 ghost use Rattle.wt_spec.specs.StreamTable.{verdict_of};
 ghost use Rattle.wt_turn.specs.Log.{Log, calls_of};
@@ -40,7 +40,7 @@ pub fn lawful_logs_tell()
 
 /// An inbox whose stages say how far the calls read tells, with the driver's answers, what a log of lawful turns does.
 pub fn inboxes_tell()
-    ensures { (side : Side) (log : Log) (x : InboxState) (stage : ℕ → Stage) (untaken : List Action) (d : DriverFacts) → inboxes.Refines side x log stage untaken → StagesReadAsCalled side log stage → AnswersLog side log d → IsReachable side log → TellsFacts side log x.transport d }
+    ensures { (side : Side) (log : Log) (x : InboxState) (stage : ℕ → Stage) (untaken : List Action) (d : DriverAnswers) → inboxes.Refines side x log stage untaken → StagesReadAsCalled side log stage → AnswersLog side log d → IsReachable side log → TellsFacts side log x.transport d }
 {}
 
 /// Where a request ends is kept from its delivery on, as long as no other is delivered.
@@ -58,15 +58,15 @@ pub fn kept_state_answers()
 
 /// A stream whose half the application has is there, and what of it is unread is kept.
 pub fn given_streams_are_kept()
-    ensures sending { (side : Side) (log : Log) (t : TransportState) (d : DriverFacts) → TellsFacts side log t d → (k : ℕ) → has_sending_half side log k ≡ true → can_send_now t k ≡ true }
-    ensures receiving { (side : Side) (log : Log) (t : TransportState) (d : DriverFacts) → TellsFacts side log t d → (k : ℕ) → has_receiving_half side log k ≡ true → can_receive_now t k ≡ true }
-    ensures unread { (side : Side) (log : Log) (t : TransportState) (d : DriverFacts) → TellsFacts side log t d → (k : ℕ) → has_receiving_half side log k ≡ true → unread_now t k ≡ unread side log k }
+    ensures sending { (side : Side) (log : Log) (t : TransportState) (d : DriverAnswers) → TellsFacts side log t d → (k : ℕ) → has_sending_half side log k ≡ true → can_send_now t k ≡ true }
+    ensures receiving { (side : Side) (log : Log) (t : TransportState) (d : DriverAnswers) → TellsFacts side log t d → (k : ℕ) → has_receiving_half side log k ≡ true → can_receive_now t k ≡ true }
+    ensures unread { (side : Side) (log : Log) (t : TransportState) (d : DriverAnswers) → TellsFacts side log t d → (k : ℕ) → has_receiving_half side log k ≡ true → unread_now t k ≡ unread_body side log k }
 {}
 
 /// The plan of each call that may come, by what is kept, is that by the log, and leads to what the call does; and the same
 /// calls may come.
 pub fn calls_are_planned_by_what_is_kept()
-    ensures plan { (side : Side) (log : Log) (t : TransportState) (d : DriverFacts) → TellsFacts side log t d → (s : TableValue) → KeepsCalls s (calls_of log) → (call : Call) → may_call side log call ≡ true → plan_of (facts_now t d) (session_now s) call ≡ plan_of (facts_of side log) (session_state log) call }
-    ensures effect { (side : Side) (log : Log) (t : TransportState) (d : DriverFacts) → TellsFacts side log t d → (s : TableValue) → KeepsCalls s (calls_of log) → (call : Call) → may_call side log call ≡ true → call_effect side log call ≡ perform side log (plan_of (facts_now t d) (session_now s) call) }
-    ensures may { (side : Side) (log : Log) (t : TransportState) (d : DriverFacts) → TellsFacts side log t d → (s : TableValue) → KeepsCalls s (calls_of log) → (call : Call) → may_call_now (facts_now t d) (session_now s) call ≡ may_call side log call }
+    ensures plan { (side : Side) (log : Log) (t : TransportState) (d : DriverAnswers) → TellsFacts side log t d → (s : TableValue) → KeepsCalls s (calls_of log) → (call : Call) → may_call side log call ≡ true → plan_of (facts_now t d) (session_now s) call ≡ plan_of (facts_of side log) (session_state log) call }
+    ensures effect { (side : Side) (log : Log) (t : TransportState) (d : DriverAnswers) → TellsFacts side log t d → (s : TableValue) → KeepsCalls s (calls_of log) → (call : Call) → may_call side log call ≡ true → call_effect side log call ≡ perform side log (plan_of (facts_now t d) (session_now s) call) }
+    ensures may { (side : Side) (log : Log) (t : TransportState) (d : DriverAnswers) → TellsFacts side log t d → (s : TableValue) → KeepsCalls s (calls_of log) → (call : Call) → may_call_now (facts_now t d) (session_now s) call ≡ may_call side log call }
 {}

@@ -13,7 +13,7 @@ use Rattle.wt_turn.specs.declared.turn.Turn.TheVariants as turns
 use Rattle.wt_wire.specs.declared.side.Side.{Side}
 use Rattle.wt_laws.specs.Reachable.{AfterTurn, IsReachable}
 use Rattle.wt_reached.proofs.Driving.{driver-facts, facts-unflushed, half-later}
-use Rattle.wt_reached.specs.Driving.{DriverFacts, leaves_driver}
+use Rattle.wt_reached.specs.Driving.{KeepsOwnStreams, leaves_driver}
 use Rattle.wt_session_spec.proofs.Theorems.{planned_theorem}
 use Rattle.wt_session_spec.specs.CallFacts.{facts_of}
 use Rattle.wt_session_spec.specs.Plan.{Establish, Plan, Step, perform}
@@ -56,7 +56,7 @@ half-told side e log k kind c =
     let p = and_parts (exists side log k) (not (kind == k % 4)) c in
     and_from _ (not (kind == k % 4)) (counts-more (peer_opens side (k % 4) e) (k / 4) (peer_count side (all_events_of log) (k % 4)) (local_count (actions_of log) (k % 4)) p.0) p.1
 
-pub facts-stay : (side : Side) (e : Entry) (log : Log) → leaves_driver side e ≡ true → DriverFacts side log → DriverFacts side (e ∷ log)
+pub facts-stay : (side : Side) (e : Entry) (log : Log) → leaves_driver side e ≡ true → KeepsOwnStreams side log → KeepsOwnStreams side (e ∷ log)
 facts-stay side (Sent a) log p h = record {
   sends = record {
     unfinished = ap (λ b. b || is_finished (actions_of log) (local_uni side)) (not-finishing side a p) ∙ h.sends.unfinished;
@@ -94,13 +94,13 @@ facts-stay side (Received id b) log p h = record { sends = record { unfinished =
 -- ---- a call's moment
 
 module _ (side : Side) (log : Log) (call : Call) (r : IsReachable side log) (l : is_lawful side log (turns.Call call) ≡ true) where
-  performed : (plan : Plan) → plan_of (facts_of side log) (session_state log) call ≡ plan → DriverFacts side (perform side log plan).log
-  performed plan e = subst (DriverFacts side) (ap (λ (x : Effect). x.log) (planned_theorem side log call ∙ ap (perform side log) e)) (driver-facts side (log_after side log (turns.Call call)) (AfterTurn (turns.Call call) r l))
+  performed : (plan : Plan) → plan_of (facts_of side log) (session_state log) call ≡ plan → KeepsOwnStreams side (perform side log plan).log
+  performed plan e = subst (KeepsOwnStreams side) (ap (λ (x : Effect). x.log) (planned_theorem side log call ∙ ap (perform side log) e)) (driver-facts side (log_after side log (turns.Call call)) (AfterTurn (turns.Call call) r l))
 
-  pub step-facts : (own : List Action) (c : CallRecord) (reply : Reply) → plan_of (facts_of side log) (session_state log) call ≡ Step own c reply → DriverFacts side (Called c ∷ with_actions own log)
+  pub step-facts : (own : List Action) (c : CallRecord) (reply : Reply) → plan_of (facts_of side log) (session_state log) call ≡ Step own c reply → KeepsOwnStreams side (Called c ∷ with_actions own log)
   step-facts own c reply e = facts-unflushed side (Called c ∷ with_actions own log) (performed (Step own c reply) e)
 
-  pub establish-facts : (own : List Action) (id at : ℕ) → plan_of (facts_of side log) (session_state log) call ≡ Establish own id at → DriverFacts side (Called (SessionEstablished id at) ∷ with_actions own log)
+  pub establish-facts : (own : List Action) (id at : ℕ) → plan_of (facts_of side log) (session_state log) call ≡ Establish own id at → KeepsOwnStreams side (Called (SessionEstablished id at) ∷ with_actions own log)
   establish-facts own id at e =
       let h = facts-unflushed side (Called Polled ∷ log_call side log own (SessionEstablished id at)) (performed (Establish own id at) e) in
       facts-unflushed side (Called (SessionEstablished id at) ∷ with_actions own log) (record { sends = record { unfinished = h.sends.unfinished; unreset = h.sends.unreset; session = h.sends.session }; session_receives = h.session_receives })

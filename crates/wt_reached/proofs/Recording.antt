@@ -18,7 +18,7 @@ use Rattle.wt_driver_spec.proofs.ClassifiedOnce.{In, only-in}
 use Rattle.wt_driver_spec.proofs.Turns.{start_theorem, turn_theorem}
 use Rattle.wt_driver_spec.specs.Claims.{IsOnce}
 use Rattle.wt_driver_spec.specs.DriverState.{state_of}
-use Rattle.wt_driver_spec.specs.Rest.{AtRest, DriverFacts}
+use Rattle.wt_driver_spec.specs.Rest.{AtRest, FitsAndRests}
 use Rattle.wt_driver_spec.specs.Uses.{RequestOpened, StreamRole, classified_of, is_for_application, is_request_stream, may_give, passes, queued_at, request_at, role_by, role_of, use_of}
 use Rattle.wt_laws.proofs.Classified as once_there
 use Rattle.wt_laws.proofs.Classified.{classified-stays, next-is-due, of-classified}
@@ -247,7 +247,7 @@ unclassified side log k l = missing k (stream_table side log).classified (local-
 
 -- ---- this end's control stream is the first of its kind
 
-pub driver-asks : (side : Side) (log : Log) → IsReachable side log → DriverFacts side log
+pub driver-asks : (side : Side) (log : Log) → IsReachable side log → FitsAndRests side log
 driver-asks side [] AtStart = start_theorem side
 driver-asks side log (AfterTurn turn r l) = turn_theorem side _ turn (driver-asks side _ r)
 

@@ -111,7 +111,7 @@ module _ (side : Side) (turn : Turn) (never : (cs : List CallRecord) (accepts : 
       at true e (OfWrite bytes b w m p) = absurd (request-not-given side log g (requested (calls_of log)) (g.handshakes.has_one q) (subst (λ (j : ℕ). is_accepted log j ≡ true) (eqb-true id (requested (calls_of log)) e) (and_parts (is_accepted log id) _ w).0))
       at true e (OfHeader session t z d o p) = absurd (request-not-local side log g (requested (calls_of log)) (subst (λ (j : ℕ). is_local side j ≡ true) (eqb-true id (requested (calls_of log)) e) (g.facts_hold.openings id (and_parts (list_any (starts_opening id) (calls_of log)) _ o).0)) (g.handshakes.has_one q))
       at true e (OfResponse accepts head f r p) = absurd (never (calls_of log) accepts head f)
-      at true e (OfRequest reserved head t s r z p) = absurd (let x = ap has_request s in cc)
+      at true e (OfRequest head t s r z p) = absurd (let x = ap has_request s in cc)
   quiet-action log _ g c q = refl
 
   whole-own : (own : List Action) (log : Log) → OwnCauses side turn log own → Ends side log → RejectsWhole log → RejectsWhole (with_actions own log)

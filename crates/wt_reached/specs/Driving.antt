@@ -9,7 +9,7 @@ use Rattle.wt_wire.specs.declared.side.Side.{Side}
 
 -- This end's control stream is neither finished nor reset (RFC 9114, section 6.2.1), and the stream of the established
 -- session has both halves.
-pub record DriverFacts (side : Side) (log : Log) : Type 0 where
+pub record KeepsOwnStreams (side : Side) (log : Log) : Type 0 where
   pub sends : SendFacts side log
   pub session_receives : (s : ℕ × ℕ) → established (calls_of log) ≡ Some s → can_receive side log s.0 ≡ true
 

@@ -10,7 +10,7 @@ use Rattle.wt_driver_spec.specs.Uses.{role_of, use_of}
 use Rattle.wt_laws.specs.Reachable.{IsReachable}
 use Rattle.wt_plan.proofs.FactsSame.{facts-same}
 use Rattle.wt_plan.specs.DriverAnswers.{answers_now, error_now}
-use Rattle.wt_plan.specs.FactsNow.{DriverFacts, facts_now}
+use Rattle.wt_plan.specs.FactsNow.{DriverAnswers, facts_now}
 use Rattle.wt_plan.specs.Planned.{planned}
 use Rattle.wt_plan.specs.Tells.{TellsFacts, driver_facts}
 use Rattle.wt_plan.specs.declared.plan.Plan as code
@@ -120,7 +120,7 @@ module _ (side : Side) (log : Log) (reach : IsReachable side log) (c : Connect) 
     pub connect_by_log : (walk : ResponseWalk) → walk ≡ (driver_facts side log).response
         → continued_connect (facts_now d.inbox.transport (answers_now d.inbox.transport d.state (is_first log) 0 walk)) c.reserved c.head ≡ continued_connect (facts_of side log) c.reserved c.head
     connect_by_log walk w =
-        let answered : DriverFacts = answers_now d.inbox.transport d.state (is_first log) 0 walk in
+        let answered : DriverAnswers = answers_now d.inbox.transport d.state (is_first log) 0 walk in
         let tells : TellsFacts side log d.inbox.transport answered =
         drivers_tell_theorem side d log (untaken_since taken log) (is_first log) 0 walk f.refines refl (λ a. absurd (connecting-answers-none side log c s a)) (λ r h e. w) reach in
         ap (λ (x : CallFacts). continued_connect x c.reserved c.head) (facts-same side d.inbox.transport log tells.position tells.untaken tells.refines answered tells.answers tells.lawful)
@@ -224,7 +224,7 @@ module _ (p : Result code.Plan OutOfMemory) (side : Side) (log : Log) (c : Conne
   -- what is planned by what a driver keeps is planned by the log
   pub planned_by_log : (d : DriverValue) (taken : ℕ) → Follows side d log taken → IsReachable side log → (t : TransportState) → t ≡ d.inbox.transport → (came : Bool) → came ≡ d.state.progress.settings
       → (error : ConnectionError) → error ≡ error_now t d.state.progress.ending → (walk : ResponseWalk) → walk ≡ (driver_facts side log).response → (head : List ℕ) → head ≡ c.head
-      → ((f : DriverFacts) → t.side ≡ Client → f.settings_came ≡ came → f.driver_error ≡ error → f.response ≡ walk → IfOk p (λ q. planned q ≡ continued_connect (facts_now t f) c.reserved head))
+      → ((f : DriverAnswers) → t.side ≡ Client → f.settings_came ≡ came → f.driver_error ≡ error → f.response ≡ walk → IfOk p (λ q. planned q ≡ continued_connect (facts_now t f) c.reserved head))
       → IfOk p (λ q. planned q ≡ continued_connect (facts_of side log) c.reserved c.head)
   planned_by_log d taken f reach t there came came_is error error_is walk walk_told head same g =
       let now =

@@ -4,7 +4,7 @@ use Rattle.std.proofs.Common.{◌∙◌, ap, refl, subst, sym}
 use Rattle.std.proofs.lemmas.Bool.{and_parts}
 use Rattle.wt_session.specs.Incoming.{IsUnanswered, Request, StandsWith, incoming_reply, told_of}
 use Rattle.wt_driver.specs.DriverValue.{DriverValue}
-use Rattle.wt_driver.specs.Results.{requests_now}
+use Rattle.wt_driver_spec.specs.DriverState.{requests_now}
 use Rattle.wt_dispatch.specs.Requests.{first_request, request_in}
 use Rattle.wt_driver.specs.Tie.{Follows, untaken_since}
 use Rattle.wt_driver_spec.specs.Asking.{MayBeCalled}

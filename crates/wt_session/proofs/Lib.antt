@@ -9,4 +9,5 @@ pub mod Responding
 pub mod Connects
 pub mod Leaves
 pub mod Stays
+pub mod Outlasts
 pub mod Gives

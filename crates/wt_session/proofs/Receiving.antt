@@ -10,7 +10,7 @@ use Rattle.wt_driver.specs.DriverValue.{DriverValue}
 use Rattle.wt_driver.specs.Tie.{Follows}
 use Rattle.wt_laws.specs.Reachable.{IsReachable}
 use Rattle.wt_plan.proofs.PlansSame as plans
-use Rattle.wt_plan.specs.FactsNow.{DriverFacts, facts_now}
+use Rattle.wt_plan.specs.FactsNow.{DriverAnswers, facts_now}
 use Rattle.wt_plan.specs.Planned.{planned}
 use Rattle.wt_plan.specs.declared.plan.Plan as planning
 use Rattle.wt_seam.specs.State.{TransportState}
@@ -25,7 +25,7 @@ use Rattle.wt_session_spec.specs.Plans.{plan_of, with_half, with_receiving}
 use Rattle.wt_session_spec.specs.SessionState.{session_state}
 use Rattle.wt_spec.specs.Answers.{call_effect, may_call}
 use Rattle.wt_spec.specs.Effect.{Effect}
-use Rattle.wt_spec.specs.Halves.{has_receiving_half, unread}
+use Rattle.wt_spec.specs.Halves.{has_receiving_half, unread_body}
 use Rattle.wt_streams.specs.HalfRules.{ReceivingHalf, nothing_unread, read_answer, read_count, read_exact_answer, too_few}
 use Rattle.wt_turn.specs.Log.{CallRecord, Log}
 use Rattle.wt_turn.specs.declared.call.Call.TheVariants as calls
@@ -131,7 +131,7 @@ module _ (side : Side) (d : DriverValue) (log : Log) (taken : ℕ) (f : Follows 
   had : (p : Plan) → p ≡ with_receiving (facts_of side log) (session_state log) id p
   had p = sym (ap (λ b. with_half b p) (same-receiving side log id ∙ h))
 
-  unread_is : unread_now d.inbox.transport id ≡ unread side log id
+  unread_is : unread_now d.inbox.transport id ≡ unread_body side log id
   unread_is = plans.unread_had side log d.inbox.transport (told side d log taken f r) (tells side d log taken f r) id h
 
   pub read_by_log : (size : ℕ) → read_plan now id size ≡ plan_of (facts_of side log) (session_state log) (calls.Read id size)
@@ -154,7 +154,7 @@ module _ (side : Side) (d : DriverValue) (log : Log) (taken : ℕ) (f : Follows 
   unfolding plan_of
   stop_by_log code = ap (λ (x : CallFacts). stop_plan x id code) (facts_told side d log taken f r) ∙ had (stop_plan (facts_of side log) id code)
 
-  pub stop_planned : (v : ℕ) (t : TransportState) → t ≡ d.inbox.transport → (p : planning.Plan) → ((x : DriverFacts) → planned p ≡ stop_plan (facts_now t x) id v)
+  pub stop_planned : (v : ℕ) (t : TransportState) → t ≡ d.inbox.transport → (p : planning.Plan) → ((x : DriverAnswers) → planned p ≡ stop_plan (facts_now t x) id v)
       → planned p ≡ plan_of (facts_of side log) (session_state log) (calls.StopRecv id v)
   stop_planned v t same p e =
       e (told side d log taken f r) ∙ ap (λ (u : TransportState). stop_plan (facts_now u (told side d log taken f r)) id v) same ∙ stop_by_log v

@@ -10,7 +10,7 @@ use Rattle.wt_laws.proofs.SessionLaws.{has_request}
 use Rattle.wt_laws.specs.Reachable.{IsReachable}
 use Rattle.wt_plan.proofs.FactsSame.{facts-same}
 use Rattle.wt_plan.specs.DriverAnswers.{answers_now}
-use Rattle.wt_plan.specs.FactsNow.{DriverFacts, facts_now}
+use Rattle.wt_plan.specs.FactsNow.{DriverAnswers, facts_now}
 use Rattle.wt_plan.specs.Planned.{planned}
 use Rattle.wt_plan.specs.Tells.{KeepsRequestEnd, TellsFacts, driver_facts}
 use Rattle.wt_plan.specs.declared.plan.Plan as code
@@ -65,7 +65,7 @@ module _ (f : CallFacts) (end : ℕ) (walk : ResponseWalk) (bytes : ℕ → List
 
 module _ (side : Side) (d : DriverValue) (log : Log) (taken : ℕ) (f : Follows side d log taken) (reach : IsReachable side log) where
   -- what the driver answers, where the request ends here
-  abbrev answered : ℕ → DriverFacts
+  abbrev answered : ℕ → DriverAnswers
   answered end = answers_now d.inbox.transport d.state (is_first log) end (driver_facts side log).response
 
   pub response_by_log : (end : ℕ) → KeepsRequestEnd side log end → is_answering (handshake_state (calls_of log)) ≡ true → (accepts : Bool) (head : List ℕ) (waiting : CallRecord)
@@ -271,7 +271,7 @@ module _ (side : Side) (log : Log) (accepts : Bool) (r : Response) (s : IsRespon
 module _ (p : Result code.Plan OutOfMemory) (side : Side) (log : Log) (accepts : Bool) (r : Response) (s : IsResponse side log accepts r) where
   -- what is planned by what a driver keeps is planned by the log
   pub planned_by_log : (d : DriverValue) (taken : ℕ) → Follows side d log taken → IsReachable side log → (t : TransportState) → t ≡ d.inbox.transport → (head : List ℕ) → head ≡ r.head → (waiting : CallRecord)
-      → ((f : DriverFacts) (x : SessionState) → x.requested ≡ r.id → f.request_end ≡ r.end → IfOk p (λ q. planned q ≡ response_plan (facts_now t f) x accepts head waiting))
+      → ((f : DriverAnswers) (x : SessionState) → x.requested ≡ r.id → f.request_end ≡ r.end → IfOk p (λ q. planned q ≡ response_plan (facts_now t f) x accepts head waiting))
       → IfOk p (λ q. planned q ≡ response_plan (facts_of side log) (session_state log) accepts r.head waiting)
   planned_by_log d taken f reach t there head same waiting g =
       let now = g (answers_now d.inbox.transport d.state (is_first log) r.end (driver_facts side log).response) (session_state log) s.requested refl in

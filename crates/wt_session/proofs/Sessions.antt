@@ -9,7 +9,7 @@ use Rattle.wt_driver.specs.DriverValue.{DriverValue}
 use Rattle.wt_driver.specs.Tie.{Follows}
 use Rattle.wt_laws.specs.Reachable.{IsReachable}
 use Rattle.wt_message.specs.Datagram.{datagram_bytes}
-use Rattle.wt_plan.specs.FactsNow.{DriverFacts, facts_now}
+use Rattle.wt_plan.specs.FactsNow.{DriverAnswers, facts_now}
 use Rattle.wt_plan.specs.Planned.{planned}
 use Rattle.wt_plan.specs.declared.plan.Plan as planning
 use Rattle.wt_seam.specs.State.{TransportState}
@@ -154,23 +154,23 @@ module _ (side : Side) (log : Log) (session : ℕ) (s : IsEstablished log sessio
     unfolding plan_of
     closed_by_log = ap (λ (x : CallFacts). closed_plan x) (facts_told side d log taken f r) ∙ had (λ k. closed_plan (facts_of side log))
 
-    pub open_uni_planned : (t : TransportState) → t ≡ d.inbox.transport → (p : planning.Plan) → ((x : DriverFacts) → planned p ≡ opening_plan (facts_now t x) (local_uni t.side) session) → planned p ≡ plan_of (facts_of side log) (session_state log) calls.OpenUni
+    pub open_uni_planned : (t : TransportState) → t ≡ d.inbox.transport → (p : planning.Plan) → ((x : DriverAnswers) → planned p ≡ opening_plan (facts_now t x) (local_uni t.side) session) → planned p ≡ plan_of (facts_of side log) (session_state log) calls.OpenUni
     open_uni_planned t same p e =
         e (told side d log taken f r) ∙ ap (λ (u : TransportState). opening_plan (facts_now u (told side d log taken f r)) (local_uni u.side) session) same ∙ open_uni_by_log
 
-    pub open_bi_planned : (t : TransportState) → t ≡ d.inbox.transport → (p : planning.Plan) → ((x : DriverFacts) → planned p ≡ opening_plan (facts_now t x) (local_bi t.side) session) → planned p ≡ plan_of (facts_of side log) (session_state log) calls.OpenBi
+    pub open_bi_planned : (t : TransportState) → t ≡ d.inbox.transport → (p : planning.Plan) → ((x : DriverAnswers) → planned p ≡ opening_plan (facts_now t x) (local_bi t.side) session) → planned p ≡ plan_of (facts_of side log) (session_state log) calls.OpenBi
     open_bi_planned t same p e =
         e (told side d log taken f r) ∙ ap (λ (u : TransportState). opening_plan (facts_now u (told side d log taken f r)) (local_bi u.side) session) same ∙ open_bi_by_log
 
-    pub datagram_planned : (payload : List ℕ) → (t : TransportState) → t ≡ d.inbox.transport → (p : planning.Plan) → ((x : DriverFacts) → planned p ≡ datagram_plan (facts_now t x) payload session) → planned p ≡ plan_of (facts_of side log) (session_state log) (calls.SendDatagram payload)
+    pub datagram_planned : (payload : List ℕ) → (t : TransportState) → t ≡ d.inbox.transport → (p : planning.Plan) → ((x : DriverAnswers) → planned p ≡ datagram_plan (facts_now t x) payload session) → planned p ≡ plan_of (facts_of side log) (session_state log) (calls.SendDatagram payload)
     datagram_planned payload t same p e =
         e (told side d log taken f r) ∙ ap (λ (u : TransportState). datagram_plan (facts_now u (told side d log taken f r)) payload session) same ∙ datagram_by_log payload
 
-    pub close_planned : (code : ℕ) (reason : List ℕ) → (t : TransportState) → t ≡ d.inbox.transport → (p : planning.Plan) → ((x : DriverFacts) → planned p ≡ close_plan (facts_now t x) code reason) → planned p ≡ plan_of (facts_of side log) (session_state log) (calls.Close code reason)
+    pub close_planned : (code : ℕ) (reason : List ℕ) → (t : TransportState) → t ≡ d.inbox.transport → (p : planning.Plan) → ((x : DriverAnswers) → planned p ≡ close_plan (facts_now t x) code reason) → planned p ≡ plan_of (facts_of side log) (session_state log) (calls.Close code reason)
     close_planned code reason t same p e =
         e (told side d log taken f r) ∙ ap (λ (u : TransportState). close_plan (facts_now u (told side d log taken f r)) code reason) same ∙ close_by_log code reason
 
-    pub closed_planned : (t : TransportState) → t ≡ d.inbox.transport → (p : planning.Plan) → ((x : DriverFacts) → planned p ≡ closed_plan (facts_now t x)) → planned p ≡ plan_of (facts_of side log) (session_state log) calls.Closed
+    pub closed_planned : (t : TransportState) → t ≡ d.inbox.transport → (p : planning.Plan) → ((x : DriverAnswers) → planned p ≡ closed_plan (facts_now t x)) → planned p ≡ plan_of (facts_of side log) (session_state log) calls.Closed
     closed_planned t same p e =
         e (told side d log taken f r) ∙ ap (λ (u : TransportState). closed_plan (facts_now u (told side d log taken f r))) same ∙ closed_by_log
 
@@ -208,7 +208,7 @@ module _ (side : Side) (d : DriverValue) (log : Log) (taken : ℕ) (f : Follows 
       ∙ had side log o.session s.session (poll_plan own (session_state log) o.id)
 
   pub poll_planned : (t : TransportState) → t ≡ d.inbox.transport → (p : planning.Plan)
-      → ((x : DriverFacts) → planned p ≡ header_left (facts_now t x) o.id (left_of (facts_now t x) o.id (stream_header o.id o.session)))
+      → ((x : DriverAnswers) → planned p ≡ header_left (facts_now t x) o.id (left_of (facts_now t x) o.id (stream_header o.id o.session)))
       → planned p ≡ plan_of (facts_of side log) (session_state log) (calls.PollOpening o.id)
   poll_planned t same p e =
       let own = told side d log taken f r in

@@ -15,7 +15,7 @@ use Rattle.wt_laws.specs.Causes.{AcceptCause, ByAccept, ByOpening, FoundStream, 
 use Rattle.wt_laws.specs.RecordCauses.{RecordCause}
 use Rattle.wt_laws.specs.Laws.{GoesOnFrom}
 use Rattle.wt_laws.specs.Reachable.{AfterTurn, IsReachable}
-use Rattle.wt_laws.specs.ReplyCauses.{is_call}
+use Rattle.wt_spec.specs.Turns.{is_call}
 use Rattle.wt_plan.specs.Tells.{KeepsRequestEnd}
 use Rattle.wt_seam_spec.specs.Streams.{local_bi, local_uni, peer_uni}
 use Rattle.wt_session.proofs.Leaves.{call-same, is_left_by}
@@ -25,19 +25,20 @@ use Rattle.wt_session.specs.Openings.{IsOpening, OpeningStream}
 use Rattle.wt_session.specs.Responding.{IsResponse, Response}
 use Rattle.wt_session.specs.Standing.{IsEstablished}
 use Rattle.wt_session.specs.Staying.{gives_half_up, is_past_handshake}
-use Rattle.wt_spec.specs.Answers.{call_effect, is_first, is_lawful, log_after, may_call}
+use Rattle.wt_spec.specs.Answers.{call_effect, is_client, is_first, is_lawful, log_after, may_call}
 use Rattle.wt_spec.specs.Connection.{accepts_stream, ends_opening, is_opening, starts_opening}
 use Rattle.wt_spec.specs.Driver.{stream_table}
 use Rattle.wt_spec.specs.Halves.{gives_up, has_receiving_half, has_sending_half, is_accepted}
-use Rattle.wt_spec.specs.Handshake.{handshake_state, requested}
+use Rattle.wt_spec.specs.Handshake.{awaits_request, handshake_state, requested}
 use Rattle.wt_spec.specs.StreamTable.{verdict_of}
-use Rattle.wt_told.proofs.Theorems.{same_calls_theorem, turn_end_theorem}
+use Rattle.wt_told.proofs.Theorems.{not_first_theorem, same_calls_theorem, turn_end_theorem}
 use Rattle.wt_turn.specs.Log.{CallRecord, Called, Entry, Log, OpeningFailed, OpeningStarted, StreamAccepted, StreamGivenUp, calls_of}
 use Rattle.wt_turn.specs.declared.call.Call.{Call}
 use Rattle.wt_turn.specs.declared.call.Call.TheVariants as calls
 use Rattle.wt_turn.specs.declared.turn.Turn.{Turn}
 use Rattle.wt_turn.specs.declared.turn.Turn.TheVariants as turns
 use Rattle.wt_wire.specs.declared.side.Side.{Side}
+use Rattle.wt_wire.specs.declared.side.Side.TheVariants.{Server}
 
 -- ---- what calls did stays done
 
@@ -213,6 +214,39 @@ module _ (side : Side) (log : Log) (turn : Turn) (n : is_call turn ≡ false) wh
       requested = ap requested same-calls ∙ s.requested;
       end = turn_end_theorem side log turn response.end r l n s.end;
     }
+
+  -- a server that waits for a request waits on
+  pub wait-stays : is_lawful side log turn ≡ true → may_call side log calls.Incoming ≡ true → may_call side (log_after side log turn) calls.Incoming ≡ true
+  wait-stays l m =
+      let later = log_after side log turn in
+      let q = and_parts (not (is_client side) && not (is_first log)) (awaits_request (handshake_state (calls_of log))) m in
+      let p = and_parts (not (is_client side)) (not (is_first log)) q.0 in
+      and_from (not (is_client side) && not (is_first later)) (awaits_request (handshake_state (calls_of later)))
+      (and_from (not (is_client side)) (not (is_first later)) p.0 (ap not (not_first_theorem side log turn l n))) (ap (λ cs. awaits_request (handshake_state cs)) same-calls ∙ q.1)
+
+-- ---- a server's wait begins
+
+not-first : (call : Call) → may_call Server [] call ≡ true → ⊥
+not-first (calls.Connect options lookup outcome) m = absurd (cc)
+not-first calls.Incoming m = absurd (cc)
+not-first (calls.Accept headers) m = absurd (cc)
+not-first calls.Forbidden m = absurd (cc)
+not-first calls.NotFound m = absurd (cc)
+not-first calls.TooManyRequests m = absurd (cc)
+not-first calls.Handshake m = absurd (cc)
+not-first _ m = absurd (cc)
+
+-- a server's first turn is the transport's
+first-told : (turn : Turn) → is_lawful Server [] turn ≡ true → is_call turn ≡ false
+first-told (turns.Call call) l = absurd (not-first call l)
+first-told _ l = refl
+
+pub wait-starts : (turn : Turn) → is_lawful Server [] turn ≡ true → may_call Server (log_after Server [] turn) calls.Incoming ≡ true
+wait-starts turn l =
+    let later = log_after Server [] turn in
+    let n = first-told turn l in
+    and_from (not (is_client Server) && not (is_first later)) (awaits_request (handshake_state (calls_of later)))
+    (and_from (not (is_client Server)) (not (is_first later)) refl (ap not (not_first_theorem Server [] turn l n))) (ap (λ cs. awaits_request (handshake_state cs)) (same_calls_theorem Server [] turn n))
 
 -- ---- the calls that may come
 

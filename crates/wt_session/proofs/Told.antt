@@ -6,7 +6,7 @@ use Rattle.wt_driver.specs.Tie.{Follows, untaken_since}
 use Rattle.wt_laws.specs.Reachable.{IsReachable}
 use Rattle.wt_plan.proofs.FactsSame.{facts-same}
 use Rattle.wt_plan.specs.DriverAnswers.{answers_now}
-use Rattle.wt_plan.specs.FactsNow.{DriverFacts, facts_now}
+use Rattle.wt_plan.specs.FactsNow.{DriverAnswers, facts_now}
 use Rattle.wt_plan.specs.Tells.{TellsFacts, driver_facts}
 use Rattle.wt_reached.proofs.Theorems.{performs_theorem}
 use Rattle.wt_seam.specs.Step.{unread_now}
@@ -27,7 +27,7 @@ use Rattle.wt_wire.specs.declared.side.Side.{Side}
 
 module _ (side : Side) (d : DriverValue) (log : Log) (taken : ℕ) (f : Follows side d log taken) (r : IsReachable side log) where
   -- what the driver answers; what it doesn't keep is the log's
-  abbrev pub told : DriverFacts
+  abbrev pub told : DriverAnswers
   told = answers_now d.inbox.transport d.state (is_first log) (driver_facts side log).request_end (driver_facts side log).response
 
   pub tells : TellsFacts side log d.inbox.transport told

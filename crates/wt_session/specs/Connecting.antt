@@ -35,7 +35,7 @@ IsConnectReply (replies.Session id) = Unit {0}
 IsConnectReply (replies.ConnectFailed e) = Unit {0}
 IsConnectReply _ = ⊥
 
--- what a poll of a connect replies: the session that stands, or why there is none
+-- what a poll of a connect replies: the session that is established, or why there is none
 abbrev pub connecting_reply : Poll (Result ℕ ConnectingError) → Reply
 connecting_reply Pending = replies.Pending
 connecting_reply (Ready (Ok id)) = replies.Session id

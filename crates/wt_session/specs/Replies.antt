@@ -1,4 +1,4 @@
--- The reply of a trace that a typed answer stands for.
+-- The reply of a run's call that a typed answer stands for.
 use Rattle.std.specs.Prelude.{[], ◌≡◌, Err, List, None, Ok, Option, Result, Some, take, ℕ}
 use Rattle.wt_turn.specs.Log.{BytesRead, CallRecord, Polled}
 use Rattle.wt_error.specs.declared.connection_error.ConnectionError.{ConnectionError}

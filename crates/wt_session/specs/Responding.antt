@@ -83,7 +83,7 @@ abbrev pub IsResponseReply : Bool → Reply → Type 0
 IsResponseReply true r = IsAcceptance r
 IsResponseReply false r = IsRejection r
 
--- what a poll of an acceptance replies: the session that stands, or how the connection ended
+-- what a poll of an acceptance replies: the session that is established, or how the connection ended
 abbrev pub accepting_reply : Poll (Result ℕ ConnectionError) → Reply
 accepting_reply Pending = replies.Pending
 accepting_reply (Ready (Ok id)) = replies.Session id

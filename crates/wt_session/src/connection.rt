@@ -1,5 +1,6 @@
 //! A session that is established (draft-ietf-webtrans-http3, section 4).
-ghost use Rattle.std.specs.Prelude.{◌≡◌, IfOk, OnOk, false, true, ℕ};
+ghost use Rattle.std.specs.Prelude.{◌≡◌, IfOk, Ok, OnOk, false, true, ℕ};
+ghost use Rattle.wt_session.specs.Datagrams.{session_datagram};
 ghost use Rattle.wt_session.specs.Openings.{IsOpening, opening_in};
 ghost use Rattle.wt_session.specs.Replies.{IsOneStream, closed_in, closed_reply, sent_in, sent_reply};
 ghost use Rattle.wt_session.specs.Standing.{IfGiven, IsEstablished};
@@ -78,13 +79,15 @@ fn both_halves(
     }
 }
 
-/// The datagram of the session whose payload is given.
+/// The datagram of the session whose payload is given, and whose bytes carry both.
 fn datagram_of(
     alloc: Global,
     session: SessionId,
     answer: Poll<Result<Piece, ConnectionError>>,
 ) -> Result<Poll<Result<Datagram, ConnectionError>>, OutOfMemory>
-    ensures { IfOk result (λ a. poll_reply (λ datagram. replies.Datagram datagram.payload) a ≡ poll_reply replies.Datagram answer) }
+    ensures reply { IfOk result (λ a. poll_reply (λ datagram. replies.Datagram datagram.payload) a ≡ poll_reply replies.Datagram answer) }
+    ensures session { IfOk result (λ a. IfGiven a (λ datagram. datagram.session ≡ session)) }
+    ensures carried { IfOk result (λ a. IfGiven a (λ datagram. session_datagram datagram.bytes ≡ Ok datagram)) }
 {
     match answer {
         Poll::Ready(Ok(payload)) => {
@@ -248,6 +251,8 @@ impl Connection {
             → IfOk result (λ a. poll_reply (λ datagram. replies.Datagram datagram.payload) a ≡ (call_effect side log calls.ReceiveDatagram).reply) }
         ensures log { (side : Side) (log : Log) (taken : ℕ) → Follows side d.old log taken → IsReachable side log → IsEstablished log self.old
             → OnOk result (Follows side d.new (call_effect side log calls.ReceiveDatagram).log taken) }
+        ensures session { IfOk result (λ a. IfGiven a (λ datagram. datagram.session ≡ self.old)) }
+        ensures carried { IfOk result (λ a. IfGiven a (λ datagram. session_datagram datagram.bytes ≡ Ok datagram)) }
         ensures same { self.new ≡ self.old }
     {
         let answer = acting::receive(alloc, d, self.session)?;

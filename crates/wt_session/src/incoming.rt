@@ -3,7 +3,7 @@ ghost use Rattle.std.specs.Option.{option_copied};
 ghost use Rattle.std.specs.Prelude.{◌≡◌, [], ◌∷◌, IfOk, OnOk, Err, Ok, Some, codes, false, true, ℕ};
 ghost use Rattle.wt_session.specs.Incoming.{IsUnanswered, StandsWith, incoming_reply, told_of, unbegun};
 ghost use Rattle.wt_session.specs.Responding.{IsPollOf, IsResponse};
-ghost use Rattle.wt_driver.specs.Results.{requests_now};
+ghost use Rattle.wt_driver_spec.specs.DriverState.{requests_now};
 ghost use Rattle.wt_dispatch.specs.Requests.{first_request};
 ghost use Rattle.wt_driver.specs.Tie.{Follows};
 ghost use Rattle.wt_driver_spec.specs.Asking.{MayBeCalled};

@@ -1,9 +1,9 @@
 //! What stands for a log stands for the logs behind it, so that calls can come one after another: functions
 //! with empty bodies, whose contracts are the laws.
-ghost use Rattle.std.specs.Prelude.{◌≡◌, Bool, false, true, ℕ};
+ghost use Rattle.std.specs.Prelude.{◌≡◌, [], Bool, false, true, ℕ};
 ghost use Rattle.wt_laws.specs.Causes.{polls_opening};
 ghost use Rattle.wt_laws.specs.Reachable.{IsReachable};
-ghost use Rattle.wt_laws.specs.ReplyCauses.{is_call};
+ghost use Rattle.wt_spec.specs.Turns.{is_call};
 ghost use Rattle.wt_session.specs.Connecting.{Connect, IsConnecting};
 ghost use Rattle.wt_session.specs.Incoming.{IsUnanswered, Request};
 ghost use Rattle.wt_session.specs.Openings.{IsOpening, OpeningStream};
@@ -14,8 +14,10 @@ ghost use Rattle.wt_spec.specs.Answers.{call_effect, is_lawful, log_after, may_c
 ghost use Rattle.wt_spec.specs.Halves.{has_receiving_half, has_sending_half};
 ghost use Rattle.wt_turn.specs.Log.{Log};
 ghost use Rattle.wt_turn.specs.declared.call.Call.{Call};
+ghost use Rattle.wt_turn.specs.declared.call.Call.TheVariants as calls;
 ghost use Rattle.wt_turn.specs.declared.turn.Turn.{Turn};
 ghost use Rattle.wt_wire.specs.declared.side.Side.{Side};
+ghost use Rattle.wt_wire.specs.declared.side.Side.TheVariants.{Server};
 
 /// Where a session or a half stands each call past the handshake may come, and a call that may come
 /// leads to a log of lawful turns again. (The log behind a call is that behind its turn: `log_after`.)
@@ -35,10 +37,21 @@ pub fn what_stands_stays()
     ensures opening { (side : Side) (log : Log) (turn : Turn) (kind : Bool) (opening : OpeningStream) → IsReachable side log → is_lawful side log turn ≡ true → polls_opening opening.id turn ≡ false → IsOpening kind log opening → IsOpening kind (log_after side log turn) opening }
 {}
 
-/// What a handshake stands at stands after a turn of the transport: a request that isn't answered, a
-/// response, and a connect.
+/// What a handshake stands at stands after a turn of the transport: a server's wait for a request, a
+/// request that isn't answered, a response, and a connect. A server's wait begins with its first turn.
 pub fn handshakes_wait()
+    ensures starts { (turn : Turn) → is_lawful Server [] turn ≡ true → may_call Server (log_after Server [] turn) calls.Incoming ≡ true }
+    ensures wait { (side : Side) (log : Log) (turn : Turn) → is_lawful side log turn ≡ true → is_call turn ≡ false → may_call side log calls.Incoming ≡ true → may_call side (log_after side log turn) calls.Incoming ≡ true }
     ensures request { (side : Side) (log : Log) (turn : Turn) (request : Request) → IsReachable side log → is_lawful side log turn ≡ true → is_call turn ≡ false → IsUnanswered side log request → IsUnanswered side (log_after side log turn) request }
     ensures response { (side : Side) (log : Log) (turn : Turn) (accepts : Bool) (response : Response) → IsReachable side log → is_lawful side log turn ≡ true → is_call turn ≡ false → IsResponse side log accepts response → IsResponse side (log_after side log turn) accepts response }
     ensures connect { (side : Side) (log : Log) (turn : Turn) (connect : Connect) → is_call turn ≡ false → IsConnecting log connect → IsConnecting (log_after side log turn) connect }
+{}
+
+/// What a handshake stands at stands after each call that is none of a handshake's, as the endpoint's
+/// close. (The log behind a call is that behind its turn: `log_after`.)
+pub fn handshakes_outlast_calls()
+    ensures wait { (side : Side) (log : Log) (call : Call) → may_call side log call ≡ true → is_past_handshake call ≡ true → may_call side log calls.Incoming ≡ true → may_call side (call_effect side log call).log calls.Incoming ≡ true }
+    ensures request { (side : Side) (log : Log) (call : Call) (request : Request) → IsReachable side log → may_call side log call ≡ true → is_past_handshake call ≡ true → IsUnanswered side log request → IsUnanswered side (call_effect side log call).log request }
+    ensures response { (side : Side) (log : Log) (call : Call) (accepts : Bool) (response : Response) → IsReachable side log → may_call side log call ≡ true → is_past_handshake call ≡ true → IsResponse side log accepts response → IsResponse side (call_effect side log call).log accepts response }
+    ensures connect { (side : Side) (log : Log) (call : Call) (connect : Connect) → may_call side log call ≡ true → is_past_handshake call ≡ true → IsConnecting log connect → IsConnecting (call_effect side log call).log connect }
 {}

@@ -26,8 +26,7 @@ use wt_wire::varint::VarInt;
 
 /// The sending half of a stream that the application has. Contracts see the stream's id.
 ///
-/// Each call takes the driver of the connection that gave the half. A driver that doesn't know the
-/// stream answers as a connection that ended.
+/// Each call takes the driver of the connection that gave the half.
 #[derive(Debug, Drop)]
 pub struct SendStream {
     id: StreamId,
@@ -139,11 +138,11 @@ impl SendStream {
 
     // ---- the end
 
-    /// Finishes the half where it is open and neither finished, reset nor stopped; it is through once
-    /// the peer has all of it, or this end reset it.
+    /// Finishes the half where the connection is open and the half neither finished, reset nor stopped.
     ///
-    /// The error is `Stopped` with the peer's code where it stopped the half, and `NotConnected` where
-    /// the connection isn't open.
+    /// Where the peer stopped the half the error is `Stopped` with its code. Else the call is through
+    /// once the peer has all of the half, or this end reset it; before that it is pending, and the error
+    /// is `NotConnected` where the connection isn't open.
     ///
     /// # Errors
     ///

@@ -37,7 +37,7 @@ use Rattle.wt_spec.specs.Connect.{address_of, outcome_error, port_of}
 use Rattle.wt_spec.specs.Connection.{stream_header}
 use Rattle.wt_spec.specs.Driver.{call_view, settings_came, stream_table}
 use Rattle.wt_spec.specs.Effect.{is_empty}
-use Rattle.wt_spec.specs.Halves.{unread}
+use Rattle.wt_spec.specs.Halves.{unread_body}
 use Rattle.wt_spec.specs.Handshake.{Connecting, HandshakeState, Requested, Responding, awaits_answer, handshake_state, has_success, queued_requests, requested, response_head}
 use Rattle.wt_spec.specs.StreamTable.{Classified, dispatched}
 use Rattle.wt_streams.specs.HalfRules.{is_closed, read_count, too_few}
@@ -270,22 +270,22 @@ module _ (side : Side) (log : Log) where
     read-plan-made : (size : ℕ) → RecordMayBeMade side log (read_plan (facts_of side log) k size)
     read-plan-made size = reading-made side log k (read_count (receiving (facts_of side log) k) size) (r.receiving k given) (sym (same-receiving side log k) ∙ given) (omega arith)
 
-    takes-made : (count : ℕ) → count ≤ length (unread side log k) → MayBeMade side log (BytesRead k count)
+    takes-made : (count : ℕ) → count ≤ length (unread_body side log k) → MayBeMade side log (BytesRead k count)
     takes-made count within = read-made side log k count (r.receiving k given) (sym (same-receiving side log k) ∙ given) within
 
-    few-made : (size : ℕ) (bytes : List ℕ) (o : Bool) (e : StreamEnd) → RecordMayBeMade side log (exact_plan k size bytes (too_few o e (length (unread side log k))))
-    few-made size bytes o ends.Fin = takes-made (length (unread side log k)) (omega arith)
+    few-made : (size : ℕ) (bytes : List ℕ) (o : Bool) (e : StreamEnd) → RecordMayBeMade side log (exact_plan k size bytes (too_few o e (length (unread_body side log k))))
+    few-made size bytes o ends.Fin = takes-made (length (unread_body side log k)) (omega arith)
     few-made size bytes o (ends.Reset code) = polls []
     few-made size bytes true ends.Running = polls []
     few-made size bytes false ends.Running = polls []
 
     exact-plan-made : (size : ℕ) → RecordMayBeMade side log (read_exact_plan (facts_of side log) k size)
-    exact-plan-made size = by (nat_lt (length (unread side log k)) size) refl
+    exact-plan-made size = by (nat_lt (length (unread_body side log k)) size) refl
       where
-        by : (b : Bool) → nat_lt (length (unread side log k)) size ≡ b
-            → RecordMayBeMade side log (exact_plan k size (unread side log k) (if b then too_few (is_open log) (end_of (events_of log) k) (length (unread side log k)) else Ready (Ok tt)))
-        by true e = few-made size (unread side log k) (is_open log) (end_of (events_of log) k)
-        by false e = takes-made size (ltb-false (length (unread side log k)) size e)
+        by : (b : Bool) → nat_lt (length (unread_body side log k)) size ≡ b
+            → RecordMayBeMade side log (exact_plan k size (unread_body side log k) (if b then too_few (is_open log) (end_of (events_of log) k) (length (unread_body side log k)) else Ready (Ok tt)))
+        by true e = few-made size (unread_body side log k) (is_open log) (end_of (events_of log) k)
+        by false e = takes-made size (ltb-false (length (unread_body side log k)) size e)
 
   -- ---- each call
 

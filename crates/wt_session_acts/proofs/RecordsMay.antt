@@ -16,7 +16,7 @@ use Rattle.wt_session_acts.specs.RecordFacts.{Connects, OpensForSession}
 use Rattle.wt_session_spec.specs.HalfPlans.{read_record}
 use Rattle.wt_spec.specs.Answers.{is_client, is_first}
 use Rattle.wt_spec.specs.Driver.{established, stream_table}
-use Rattle.wt_spec.specs.Halves.{has_receiving_half, unread}
+use Rattle.wt_spec.specs.Halves.{has_receiving_half, unread_body}
 use Rattle.wt_spec.specs.Handshake.{awaits_answer, handshake_state}
 use Rattle.wt_spec.specs.StreamTable.{StreamTable, verdict_of}
 use Rattle.wt_turn.specs.Log.{BytesRead, CallRecord, ConnectStarted, HandshakeOver, Log, OpeningFailed, OpeningStarted, Polled, PrioritySet, RequestDelivered, ResetUnsent, ResponseStarted, Sent, SessionEstablished, StreamAccepted, StreamGivenUp, actions_of, all_events_of, calls_of, events_of, is_open, with_actions}
@@ -152,12 +152,12 @@ given-made side log own k o = record {
 
 -- ---- halves
 
-pub read-made : (side : Side) (log : Log) (k count : ℕ) → is_for_application (role_of side k) (classified_of k (stream_table side log).classified) ≡ true → has_receiving_half side log k ≡ true → count ≤ length (unread side log k)
+pub read-made : (side : Side) (log : Log) (k count : ℕ) → is_for_application (role_of side k) (classified_of k (stream_table side log).classified) ≡ true → has_receiving_half side log k ≡ true → count ≤ length (unread_body side log k)
     → MayBeMade side log (BytesRead k count)
 read-made side log k count a r within = record { may = tt; can = (a, within); half = r }
 
 -- where nothing is read, nothing is recorded of the stream
-pub reading-made : (side : Side) (log : Log) (k count : ℕ) → is_for_application (role_of side k) (classified_of k (stream_table side log).classified) ≡ true → has_receiving_half side log k ≡ true → count ≤ length (unread side log k)
+pub reading-made : (side : Side) (log : Log) (k count : ℕ) → is_for_application (role_of side k) (classified_of k (stream_table side log).classified) ≡ true → has_receiving_half side log k ≡ true → count ≤ length (unread_body side log k)
     → MayBeMade side log (read_record k count)
 reading-made side log k zero a r within = polled-made side log
 reading-made side log k (suc n) a r within = read-made side log k (suc n) a r within

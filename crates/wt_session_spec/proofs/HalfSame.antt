@@ -13,7 +13,7 @@ use Rattle.wt_error.specs.declared.stream_error.StreamWriteError.{StreamWriteErr
 use Rattle.wt_wire.specs.declared.side.Side.{Side}
 use Rattle.wt_wire.specs.declared.side.StreamEnd.{StreamEnd}
 use Rattle.wt_spec.specs.Effect.{poll_only}
-use Rattle.wt_spec.specs.Halves.{all_written_reply, at_stream_end, exact_at_end, finish, is_done, priority, read, read_exact, read_reply, reset, set_priority, stop_receiving, stopped, stopped_reply, take_bytes, unread, write, write_all, write_by, write_error, written_reply}
+use Rattle.wt_spec.specs.Halves.{all_written_reply, at_stream_end, exact_at_end, finish, is_done, priority, read, read_exact, read_reply, reset, set_priority, stop_receiving, stopped, stopped_reply, take_bytes, unread_body, write, write_all, write_by, write_error, written_reply}
 use Rattle.wt_session_spec.proofs.HandshakeSame.{split}
 use Rattle.wt_session_spec.specs.CallFacts.{facts_of}
 use Rattle.wt_session_spec.specs.HalfPlans.{bytes_out, exact_plan, finish_plan, finish_reply, priority_plan, read_exact_plan, read_plan, reset_plan, set_priority_plan, stop_plan, stopped_by, stopped_plan, write_all_plan, write_all_reply, write_plan, write_reply}
@@ -137,7 +137,7 @@ module _ (side : Side) (log : Log) where
       rw (m, ne_eqb (suc n) 0 (omega arith), ne_eqb (length (b ∷ bytes)) 0 (omega arith), take-taken n bytes) refl
 
   pub same-read : (k size : ℕ) → read side log k size ≡ perform side log (read_plan (facts_of side log) k size)
-  same-read k size = same-read-of k size (unread side log k)
+  same-read k size = same-read-of k size (unread_body side log k)
 
   same-too-few : (k size : ℕ) (u : List ℕ) (e : StreamEnd) → exact_at_end side log k u e ≡ perform side log (exact_plan k size u (too_few (is_open log) e (length u)))
   same-too-few k size u ends.Fin = refl
@@ -162,7 +162,7 @@ module _ (side : Side) (log : Log) where
           rw (e, l) refl
 
   pub same-read-exact : (k size : ℕ) → read_exact side log k size ≡ perform side log (read_exact_plan (facts_of side log) k size)
-  same-read-exact k size = same-exact-of k size (unread side log k)
+  same-read-exact k size = same-exact-of k size (unread_body side log k)
 
   pub same-stop-receiving : (k code : ℕ) → stop_receiving side log k code ≡ perform side log (stop_plan (facts_of side log) k code)
   same-stop-receiving k code = refl

@@ -23,7 +23,7 @@ use Rattle.wt_session_spec.specs.ConnectionPlans.{close_plan, closed_plan, datag
 use Rattle.wt_session_spec.specs.HalfPlans.{finish_plan, priority_plan, read_exact_plan, read_plan, reset_plan, set_priority_plan, stop_plan, stopped_plan, write_all_plan, write_plan}
 use Rattle.wt_session_spec.specs.Plan.{AcceptBi, AcceptUni, Plan, Receive, only_reply, perform}
 use Rattle.wt_session_spec.specs.Plans.{in_session_now, may_call_now, plan_of, with_half, with_receiving, with_sending, with_session}
-use Rattle.wt_session_spec.specs.SessionState.{after_call, session_state}
+use Rattle.wt_session_spec.specs.SessionState.{session_after, session_state}
 use Rattle.wt_turn.specs.declared.call.Call.TheVariants as calls
 use Rattle.wt_turn.specs.declared.reply.Reply.TheVariants as replies
 
@@ -90,7 +90,7 @@ planned_theorem = planned
 pub may_call_theorem : (side : Side) (log : Log) (call : Call) → may_call side log call ≡ may_call_now (facts_of side log) (session_state log) call
 may_call_theorem = may-planned
 
-pub step_theorem : (side : Side) (log : Log) (own : List Action) (r : CallRecord) → session_state (log_call side log own r) ≡ after_call r (session_state log)
+pub step_theorem : (side : Side) (log : Log) (own : List Action) (r : CallRecord) → session_state (log_call side log own r) ≡ session_after r (session_state log)
 step_theorem = state-log-call
 
 pub unchanged_theorem : (side : Side) (log : Log) (e : Entry) → record_in e ≡ None → session_state (log_and_flush side log e) ≡ session_state log

@@ -9,7 +9,7 @@ use Rattle.wt_spec.specs.Connection.{accepts_stream, ends_opening, is_opening, s
 use Rattle.wt_spec.specs.Driver.{apply_if, flush, is_moment, log_and_flush, pending_actions}
 use Rattle.wt_spec.specs.Effect.{log_call}
 use Rattle.wt_spec.specs.Halves.{has_receiving_half, has_sending_half}
-use Rattle.wt_session_spec.specs.SessionState.{Given, Giving, NotGiven, Opening, Unopened, after_call, begun, changed_if, failed, giving_after, giving_of, has_receiving_now, has_sending_now, is_in_opening, is_opening_now, session_state, was_given}
+use Rattle.wt_session_spec.specs.SessionState.{Given, Giving, NotGiven, Opening, Unopened, session_after, begun, changed_if, failed, giving_after, giving_of, has_receiving_now, has_sending_now, is_in_opening, is_opening_now, session_state, was_given}
 
 -- the same, of what calls did: an opening began, it ended, the stream was given
 giving_by : Bool → Bool → Bool → Giving
@@ -107,7 +107,7 @@ same-receiving side log k = rw (given-now k (calls_of log)) refl
 -- ---- the step
 
 -- a call that recorded this
-pub state-called : (r : CallRecord) (log : Log) → session_state (Called r ∷ log) ≡ after_call r (session_state log)
+pub state-called : (r : CallRecord) (log : Log) → session_state (Called r ∷ log) ≡ session_after r (session_state log)
 state-called Polled log = refl
 state-called _ log = refl
 
@@ -135,5 +135,5 @@ state-logged side (ReportedLate event) log n = same-flushed side (ReportedLate e
 state-logged side (Sent a) log n = same-flushed side (Sent a ∷ log)
 
 -- a call's actions, its record, and what goes out then
-pub state-log-call : (side : Side) (log : Log) (own : List Action) (r : CallRecord) → session_state (log_call side log own r) ≡ after_call r (session_state log)
-state-log-call side log own r = same-flushed side (Called r ∷ with_actions own log) ∙ state-called r (with_actions own log) ∙ ap (after_call r) (same-with-actions own log)
+pub state-log-call : (side : Side) (log : Log) (own : List Action) (r : CallRecord) → session_state (log_call side log own r) ≡ session_after r (session_state log)
+state-log-call side log own r = same-flushed side (Called r ∷ with_actions own log) ∙ state-called r (with_actions own log) ∙ ap (session_after r) (same-with-actions own log)

@@ -16,7 +16,7 @@ use Rattle.wt_wire.specs.declared.side.StreamEnd.{StreamEnd}
 use Rattle.wt_spec.specs.Answers.{is_first}
 use Rattle.wt_spec.specs.Driver.{established, settings_came, stream_table}
 use Rattle.wt_spec.specs.Effect.{driver_error, transport_error}
-use Rattle.wt_spec.specs.Halves.{unread}
+use Rattle.wt_spec.specs.Halves.{unread_body}
 use Rattle.wt_spec.specs.Handshake.{queued_requests, request_end, requested}
 use Rattle.wt_spec.specs.StreamTable.{Classified, verdict_of}
 
@@ -65,7 +65,7 @@ facts_of side log = record {
   next_id = next_id side log;
   sending = sending_half log;
   sent = λ k. length (sent_on (actions_of log) k);
-  unread = unread side log;
+  unread = unread_body side log;
   end = end_of (events_of log);
 }
 

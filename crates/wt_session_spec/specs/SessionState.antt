@@ -53,8 +53,8 @@ abbrev pub stream_use : ℕ → List CallRecord → StreamUse
 stream_use k calls = record { giving = giving_of k calls; given_up = list_any (gives_up k) calls }
 
 -- what it has of stream k, after a call that recorded this
-abbrev pub use_after : ℕ → CallRecord → StreamUse → StreamUse
-use_after k r u = record { giving = giving_after k r u.giving; given_up = gives_up k r || u.given_up }
+abbrev pub stream_use_after : ℕ → CallRecord → StreamUse → StreamUse
+stream_use_after k r u = record { giving = giving_after k r u.giving; given_up = gives_up k r || u.given_up }
 
 -- it is being opened
 abbrev pub is_in_opening : Giving → Bool
@@ -83,11 +83,11 @@ session_state log = record {
 }
 
 -- what it keeps after a call that recorded this
-abbrev pub after_call : CallRecord → SessionState → SessionState
-after_call r s = record {
+abbrev pub session_after : CallRecord → SessionState → SessionState
+session_after r s = record {
   handshake = unwrap_or (after_record r) s.handshake;
   requested = unwrap_or (requested_by r) s.requested;
-  streams = λ k. use_after k r (s.streams k);
+  streams = λ k. stream_use_after k r (s.streams k);
 }
 
 -- ---- what the application has

@@ -3,7 +3,7 @@ ghost use Rattle.std.specs.Prelude.{◌≡◌, List, None};
 ghost use Rattle.wt_session_spec.specs.CallFacts.{facts_of};
 ghost use Rattle.wt_session_spec.specs.Plan.{perform};
 ghost use Rattle.wt_session_spec.specs.Plans.{may_call_now, plan_of};
-ghost use Rattle.wt_session_spec.specs.SessionState.{after_call, session_state};
+ghost use Rattle.wt_session_spec.specs.SessionState.{session_after, session_state};
 ghost use Rattle.wt_spec.specs.Answers.{call_effect, may_call};
 ghost use Rattle.wt_spec.specs.Driver.{log_and_flush};
 ghost use Rattle.wt_spec.specs.Effect.{log_call};
@@ -23,6 +23,6 @@ pub fn calls_go_by_what_is_kept()
 /// A call that recorded something changes what is kept step by step; what else happens changes nothing.
 #[tactic(auto, using(crate::proofs::Theorems::step_theorem, crate::proofs::Theorems::unchanged_theorem))]
 pub fn calls_change_what_is_kept()
-    ensures step { (side : Side) (log : Log) (own : List Action) (r : CallRecord) → session_state (log_call side log own r) ≡ after_call r (session_state log) }
+    ensures step { (side : Side) (log : Log) (own : List Action) (r : CallRecord) → session_state (log_call side log own r) ≡ session_after r (session_state log) }
     ensures unchanged { (side : Side) (log : Log) (e : Entry) → record_in e ≡ None → session_state (log_and_flush side log e) ≡ session_state log }
 {}

@@ -136,13 +136,13 @@ total_read k [] = 0
 total_read k (r ∷ earlier) = bytes_read k r + total_read k earlier
 
 -- where the application's part of a stream begins: behind the peer's header
-abbrev pub body_offset : Option Verdict → ℕ
-body_offset (Some (verdicts.WebTransport session at)) = at
-body_offset _ = 0
+abbrev pub body_start : Option Verdict → ℕ
+body_start (Some (verdicts.WebTransport session at)) = at
+body_start _ = 0
 
 -- what came for the stream and wasn't read
-abbrev pub unread : Side → Log → ℕ → List ℕ
-unread side log k = drop (body_offset (verdict_of k (stream_table side log).classified) + total_read k (calls_of log)) (contents log k)
+abbrev pub unread_body : Side → Log → ℕ → List ℕ
+unread_body side log k = drop (body_start (verdict_of k (stream_table side log).classified) + total_read k (calls_of log)) (contents log k)
 
 -- these bytes are read
 abbrev pub take_bytes : Side → Log → ℕ → List ℕ → Reply → Effect
@@ -162,7 +162,7 @@ read_reply side log k size (b ∷ bytes) = take_bytes side log k (take size (b �
 -- at most so many of the unread bytes
 abbrev pub read : Side → Log → ℕ → ℕ → Effect
 read side log k size =
-    if size == 0 then poll_only side log (replies.Read (Some [])) else read_reply side log k size (unread side log k)
+    if size == 0 then poll_only side log (replies.Read (Some [])) else read_reply side log k size (unread_body side log k)
 
 -- with too few bytes: they are taken only where no more can come
 abbrev pub exact_at_end : Side → Log → ℕ → List ℕ → StreamEnd → Effect
@@ -174,8 +174,8 @@ exact_at_end side log k bytes (ends.Reset code) = poll_only side log (replies.Ex
 -- exactly so many of the unread bytes
 abbrev pub read_exact : Side → Log → ℕ → ℕ → Effect
 read_exact side log k size =
-    if nat_lt (length (unread side log k)) size then exact_at_end side log k (unread side log k) (end_of (events_of log) k)
-    else take_bytes side log k (take size (unread side log k)) (replies.Exact (take size (unread side log k)))
+    if nat_lt (length (unread_body side log k)) size then exact_at_end side log k (unread_body side log k) (end_of (events_of log) k)
+    else take_bytes side log k (take size (unread_body side log k)) (replies.Exact (take size (unread_body side log k)))
 
 -- the half is given up
 abbrev pub stop_receiving : Side → Log → ℕ → ℕ → Effect

@@ -7,3 +7,4 @@ pub mod Connect
 pub mod Connection
 pub mod Halves
 pub mod Answers
+pub mod Turns

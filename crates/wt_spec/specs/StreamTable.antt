@@ -78,19 +78,19 @@ verdict_of k (c ∷ cs) = if c.id == k then Some c.verdict else verdict_of k cs
 -- ---- where classified streams go
 
 -- where the control stream's part begins, behind its type; likewise for the QPACK streams
-abbrev pub control_offset : Verdict → Option ℕ
-control_offset (verdicts.Control at) = Some at
-control_offset _ = None
+abbrev pub control_start : Verdict → Option ℕ
+control_start (verdicts.Control at) = Some at
+control_start _ = None
 
 -- where the part of the peer's QPACK encoder stream begins
-abbrev pub encoder_offset : Verdict → Option ℕ
-encoder_offset (verdicts.Encoder at) = Some at
-encoder_offset _ = None
+abbrev pub encoder_start : Verdict → Option ℕ
+encoder_start (verdicts.Encoder at) = Some at
+encoder_start _ = None
 
 -- where the part of the peer's QPACK decoder stream begins
-abbrev pub decoder_offset : Verdict → Option ℕ
-decoder_offset (verdicts.Decoder at) = Some at
-decoder_offset _ = None
+abbrev pub decoder_start : Verdict → Option ℕ
+decoder_start (verdicts.Decoder at) = Some at
+decoder_start _ = None
 
 -- the stream carries a request
 abbrev pub is_request : Verdict → Bool
@@ -146,9 +146,9 @@ pub record Dispatched : Type 0 where
 -- the classified streams by their use, after what the calls did
 abbrev pub dispatched : CallView → List Classified → Dispatched
 dispatched calls cs = record {
-  control = first_at control_offset cs;
-  encoder = first_at encoder_offset cs;
-  decoder = first_at decoder_offset cs;
+  control = first_at control_start cs;
+  encoder = first_at encoder_start cs;
+  decoder = first_at decoder_start cs;
   requests = only (awaits_delivery calls.delivered) cs;
   waiting = only (awaits_accept calls.released) cs;
 }

@@ -3,10 +3,9 @@ use Rattle.std.specs.Prelude.{[], ◌∷◌, ◌≡◌, Bool, List, None, Option
 use Rattle.std.proofs.Common.{◌∙◌, ap, refl, subst, sym}
 use Rattle.wt_driver.proofs.StageAnswers.{read-staged}
 use Rattle.wt_driver.specs.DriverValue.{DriverValue}
-use Rattle.wt_driver.specs.Results.{requests_now}
 use Rattle.wt_dispatch.specs.Requests.{first_request, request_in}
 use Rattle.wt_driver.specs.Tie.{Refines}
-use Rattle.wt_driver_spec.specs.DriverState.{DriverState, state_of}
+use Rattle.wt_driver_spec.specs.DriverState.{DriverState, requests_now, state_of}
 use Rattle.wt_laws.specs.Reachable.{IsReachable}
 use Rattle.wt_plan.proofs.AnswersSame.{answers_same}
 use Rattle.wt_plan.proofs.ReadsSame.{inbox_tells}

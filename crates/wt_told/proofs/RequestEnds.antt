@@ -13,7 +13,8 @@ use Rattle.wt_laws.specs.Causes.{is_accept, is_receive}
 use Rattle.wt_laws.specs.Laws.{GoesOnFrom}
 use Rattle.wt_laws.specs.Reachable.{AfterTurn, IsReachable}
 use Rattle.wt_laws.specs.RecordCauses.{RecordCause}
-use Rattle.wt_laws.specs.ReplyCauses.{ReplyCause, is_call}
+use Rattle.wt_laws.specs.ReplyCauses.{ReplyCause}
+use Rattle.wt_spec.specs.Turns.{is_call}
 use Rattle.wt_laws.specs.Told.{Logged, NoRecord, OneRecord, Tells, ThenPolled, request_told}
 use Rattle.wt_plan.proofs.AnswersSame.{delivered_end, request_end_kept}
 use Rattle.wt_plan.specs.Tells.{KeepsRequestEnd}

@@ -4,7 +4,7 @@ use Rattle.std.proofs.Common.{refl}
 use Rattle.wt_driver_spec.specs.Due.{accepted, received}
 use Rattle.wt_laws.proofs.Steps.{calls-logged}
 use Rattle.wt_laws.specs.Reachable.{AfterTurn, IsReachable}
-use Rattle.wt_laws.specs.ReplyCauses.{is_call}
+use Rattle.wt_spec.specs.Turns.{is_call}
 use Rattle.wt_plan.specs.Table.{KeepsCalls, TableValue}
 use Rattle.wt_plan.specs.Tells.{KeepsRequestEnd}
 use Rattle.wt_proto.specs.declared.verdict.Verdict.TheVariants as verdicts

@@ -5,7 +5,7 @@ use Rattle.std.proofs.lemmas.Bool.{and_parts}
 use Rattle.wt_laws.proofs.During.{decided-during, extend}
 use Rattle.wt_laws.proofs.Steps.{blind-flush, kept-flush}
 use Rattle.wt_laws.specs.Laws.{GoesOnFrom}
-use Rattle.wt_laws.specs.ReplyCauses.{is_call}
+use Rattle.wt_spec.specs.Turns.{is_call}
 use Rattle.wt_seam_spec.specs.Arrivals.{event_entry, fits, may_come}
 use Rattle.wt_seam_spec.specs.Reports.{end_of, is_connected, is_running, loss_of}
 use Rattle.wt_seam_spec.specs.Streams.{can_receive}

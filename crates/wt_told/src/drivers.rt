@@ -2,7 +2,7 @@
 //! contracts are the laws.
 ghost use Rattle.std.specs.Prelude.{◌≡◌, Bool, List, Option, Some, if◌then◌else◌, true, ℕ};
 ghost use Rattle.wt_driver.specs.DriverValue.{DriverValue};
-ghost use Rattle.wt_driver.specs.Results.{requests_now};
+ghost use Rattle.wt_driver_spec.specs.DriverState.{requests_now};
 ghost use Rattle.wt_dispatch.specs.Requests.{first_request};
 ghost use Rattle.wt_driver.specs.Tie.{Refines};
 ghost use Rattle.wt_laws.specs.Reachable.{IsReachable};

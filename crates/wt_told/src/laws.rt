@@ -3,7 +3,7 @@
 ghost use Rattle.std.specs.Prelude.{◌∷◌, ◌≡◌, List, None, Some, false, true, ℕ};
 ghost use Rattle.wt_driver_spec.specs.Due.{accepted, received};
 ghost use Rattle.wt_laws.specs.Reachable.{IsReachable};
-ghost use Rattle.wt_laws.specs.ReplyCauses.{is_call};
+ghost use Rattle.wt_spec.specs.Turns.{is_call};
 ghost use Rattle.wt_plan.specs.Table.{KeepsCalls, TableValue};
 ghost use Rattle.wt_plan.specs.Tells.{KeepsRequestEnd};
 ghost use Rattle.wt_proto.specs.declared.verdict.Verdict.TheVariants as verdicts;

@@ -1,5 +1,6 @@
 -- Every run keeps the laws.
 use Rattle.std.proofs.Common.{arith, ◌≡◌, ◌<◌, ℕ, List, length, subst, sym, take, true}
+use Rattle.wt_driver_spec.proofs.Dequeues.{dequeued_turns_theorem}
 use Rattle.wt_laws.proofs.DatagramOrEnds.{datagram-or-ends}
 use Rattle.wt_laws.proofs.DatagramTold.{datagram-told}
 use Rattle.wt_laws.proofs.EndingOut.{ending-goes-out}
@@ -7,11 +8,14 @@ use Rattle.wt_laws.proofs.FaultLaws.{classified-rightly, ends-for-cause, setting
 use Rattle.wt_laws.proofs.FaultlessLaws.{faultless-or-ends}
 use Rattle.wt_laws.proofs.FirstFault.{first-is-told}
 use Rattle.wt_laws.proofs.GivenOnce.{given_once_theorem}
+use Rattle.wt_laws.proofs.LeavesRecord.{leaves-record}
 use Rattle.wt_laws.proofs.NoFault.{streams-faultless}
 use Rattle.wt_laws.proofs.OnceLaws.{once-each}
+use Rattle.wt_laws.proofs.OpenedInOrder.{opened_in_order_theorem}
 use Rattle.wt_laws.proofs.PendingOut.{pending-goes-out}
 use Rattle.wt_laws.proofs.RequestTold.{request_told_theorem}
 use Rattle.wt_laws.proofs.RunLaws.{done_at_once_theorem}
+use Rattle.wt_laws.proofs.Telling.{telling-arrives}
 use Rattle.wt_laws.proofs.Theorems.{accepted_theorem, after_end_theorem, asks_first_theorem, connect_theorem, connects_theorem, datagrams_theorem, ended_theorem, fault_theorem, headers_theorem, heads_theorem, late_theorem, later_theorem, one_session_theorem, open_theorem, order_theorem, own_reads_theorem, pending_theorem, reads_theorem, receiving_calls_theorem, reply_theorem, request_theorem, requests_theorem, responses_theorem, result_theorem, sending_calls_theorem, sends_all_theorem, sends_end_theorem, sends_theorem, session_calls_theorem, session_stream_theorem, session_told_theorem, sessions_theorem, settings_theorem, stays_theorem, taken_theorem, within_credit_theorem}
 use Rattle.wt_laws.proofs.TurnCauses.{entries_theorem, recorded_theorem, went_out_theorem}
 use Rattle.wt_laws.specs.Runs.{StaysSo}
@@ -80,11 +84,14 @@ laws side all =
       recorded = λ n turn l e. recorded_theorem side (log_at side all n) turn (lawful n turn l e);
       actions = λ n l. went_out_theorem side (log_at side all n) (reach n l);
       entries = λ n turn l e. entries_theorem side (log_at side all n) turn (lawful n turn l e);
+      telling = λ n turn l e. telling-arrives side (log_at side all n) turn;
+      left = λ n turn l e. leaves-record side (log_at side all n) turn (lawful n turn l e);
       events = λ n turn l e. done_at_once_theorem side (log_at side all n) turn;
       opened = λ n l. open_theorem side (log_at side all n) (reach n l);
       faults = λ n l. record { closes = λ moment goes. fault_theorem side moment; went_out = pending-goes-out side (log_at side all n) (reach n l) };
       endings = λ n turn l e. ending-goes-out side (log_at side all n) turn (lawful n turn l e);
       driver = λ n l. driver-is-read side (log_at side all n) (reach n l);
+      dequeued = λ n l. dequeued_turns_theorem side (take n all);
       result_stays = λ n turn l e. result_theorem side (log_at side all n) turn (lawful n turn l e);
       after_end = λ n l. after_end_theorem side (log_at side all n) (reach n l);
       late = λ n turn l e. late_theorem side (log_at side all n) turn;
@@ -99,5 +106,6 @@ laws side all =
       session_stream = λ n l. session_stream_theorem side (take n all) (lawful-at side all n l);
       credit = λ n l. within_credit_theorem side (log_at side all n) (reach n l);
       taken = λ n l. taken_theorem side (log_at side all n);
+      opened_in_order = λ n l. opened_in_order_theorem side (log_at side all n) (reach n l);
       cutting = may-be-cut side all;
     }

@@ -39,7 +39,7 @@ counted_bytes number count = map (λ index. (number + index) % 256) (range_with_
 abbrev pub stream_payload : ℕ → List ℕ
 stream_payload number = counted_bytes number (number % 100 + 1)
 
--- its bytes: the header of a stream of session 0 (draft-ietf-webtrans-http3, section 4.1), and what it carries
+-- its bytes: the header of a stream of session 0 (draft-ietf-webtrans-http3, section 4.2), and what it carries
 abbrev pub stream_bytes : ℕ → List ℕ
 stream_bytes number = (0x40 ∷ 0x54 ∷ 0x00 ∷ []) ++ stream_payload number
 

@@ -11,6 +11,7 @@ use Rattle.wt_wire.specs.HeaderList.{Fields}
 use Rattle.wt_wire.specs.declared.lookup.ConnectOutcome.{ConnectOutcome}
 use Rattle.wt_wire.specs.declared.lookup.Lookup.{Lookup}
 use Rattle.wt_wire.specs.declared.side.Side.{Side}
+use Rattle.wt_driver_spec.specs.Dequeued.{StreamsDequeued}
 use Rattle.wt_laws.specs.Datagrams.{DatagramTold}
 use Rattle.wt_laws.specs.Ended.{EndingGoesOut, PendingGoesOut}
 use Rattle.wt_laws.specs.Exactly.{AsksFirst, ConnectGoesOn, ConnectsAnswer, HeadsGoOut, MaySend, ReceivingCallsAnswer, RequestGoesOn, RequestsAnswer, ResponsesAnswer, SendingCallsAnswer, SessionCallsAnswer}
@@ -18,10 +19,13 @@ use Rattle.wt_laws.specs.Faults.{ClassifiedRightly, DatagramOrEnds, EndsForCause
 use Rattle.wt_laws.specs.FirstFault.{FirstIsTold}
 use Rattle.wt_laws.specs.GivenOnce.{GivenOnce}
 use Rattle.wt_laws.specs.Laws.{DatagramsInOrder, FaultCloses, GoesOnFrom, HeadersOut, NothingAfterEnd, OneSession, OpenExactly, ReadsFromStart, ReadsInOrder, ReplyHasCause, RequestTold, ResultStays, SendsAll, SendsEnd, SendsInOrder, SessionStreamOut, SessionTold, SessionsRightly, SettingsOut, StreamsAcceptedRightly, TakenGoesOut, WithinCredit}
+use Rattle.wt_laws.specs.LeavesRecord.{LeavesRecord}
 use Rattle.wt_laws.specs.Left.{PendingExactly, is_pending}
+use Rattle.wt_laws.specs.OpenedInOrder.{OpenedInOrder}
 use Rattle.wt_laws.specs.Reachable.{Exchange, exchanges}
-use Rattle.wt_laws.specs.ReplyCauses.{is_call}
+use Rattle.wt_spec.specs.Turns.{is_call}
 use Rattle.wt_laws.specs.Runs.{DoneAtOnce, DoneLate, InOrderOfOpening, LateChangesNothing, StaysSo}
+use Rattle.wt_laws.specs.Telling.{TellingArrives}
 use Rattle.wt_laws.specs.TurnCauses.{ActionsWentOut, EntriesHaveCauses, ReplyIsRecorded}
 use Rattle.wt_spec.specs.Answers.{answer_to, run}
 use Rattle.wt_spec.specs.Driver.{established, stream_table}
@@ -85,12 +89,12 @@ AtEachEntry Law log = (e : Entry) (earlier : Log) → GoesOnFrom (e ∷ earlier)
 -- connection; and where it ends none, no such cause is there.
 pub record DriverIsRead (side : Side) (log : Log) : Type 0 where
   pub classified : ClassifiedRightly side log  -- a classified stream was opened by the peer, and has its verdict over all bytes that came for it
-  pub settings : AtEachEntry (SettingsComeRead side) log  -- SETTINGS came at an entry at which the walk over the first control stream had read them
+  pub settings : AtEachEntry (SettingsComeRead side) log  -- SETTINGS came at a moment that found the connection open, and at which the walk over the first control stream had read them
   pub ending : AtEachEntry (EndsForCause side) log  -- the driver ended the connection at an entry that shows a fault in the stream or datagram that it takes, or behind those taken, or the end of the session
   pub streams : StreamsFaultless side log  -- while it ended none, no classified stream has a fault; one that has a fault is classified last
   pub once : OnceEach side log  -- while it ended none, the control stream and the QPACK streams were classified once each
   pub datagram : AtEachEntry (DatagramOrEnds side) log  -- the datagram that a moment dequeues is the next that came, and has a quarter id, or the driver ends the connection then
-  pub first : AtEachEntry (FirstIsTold side) log  -- of several faults of one moment the first in the driver's order ends the connection
+  pub first : AtEachEntry (FirstIsTold side) log  -- of several faults of one moment that of a stream before all others, then the first in the driver's order ends the connection
   pub faultless : AtEachEntry (FaultlessOrEnds side) log  -- a moment at which it doesn't end an open connection shows no fault behind the streams
 
 -- ---- what a call answers
@@ -160,11 +164,14 @@ pub record KeepsLaws (side : Side) (all : List Turn) (answers : List Answer) : T
   pub recorded : AtEachTurn side (ReplyIsRecorded side) all answers
   pub actions : Throughout side (ActionsWentOut side) all answers
   pub entries : AtEachTurn side (EntriesHaveCauses side) all answers
+  pub telling : AtEachTurn side (TellingArrives side) all answers
+  pub left : AtEachTurn side (LeavesRecord side) all answers
   pub events : AtEachTurn side (DoneAtOnce side) all answers
   pub opened : Throughout side (OpenExactly side) all answers
   pub faults : Throughout side (FaultsClose side) all answers
   pub endings : AtEachTurn side (EndingGoesOut side) all answers
   pub driver : Throughout side (DriverIsRead side) all answers
+  pub dequeued : Throughout side (StreamsDequeued side) all answers
   pub result_stays : AtEachTurn side (ResultStaysAfterEnd side) all answers
   pub after_end : Throughout side NothingAfterEnd all answers
   pub late : AtEachTurn side (DoneAfterEnd side) all answers
@@ -179,4 +186,5 @@ pub record KeepsLaws (side : Side) (all : List Turn) (answers : List Answer) : T
   pub sends_end : AtEachTurn side (SendsEnd side) all answers
   pub credit : Throughout side (WithinCredit side) all answers
   pub taken : Throughout side (TakenGoesOut side) all answers
+  pub opened_in_order : Throughout side OpenedInOrder all answers
   pub cutting : MayBeCut side all answers

@@ -1,13 +1,17 @@
 //! A whole list of turns.
 ghost use Rattle.std.specs.Prelude.{◌≡◌, [], IfErr, List, length, take};
 ghost use Rattle.wt_core.specs.CoreState.{Refines};
+ghost use Rattle.wt_driver_spec.specs.Dequeued.{StreamsDequeued};
 ghost use Rattle.wt_laws.specs.Datagrams.{DatagramTold};
 ghost use Rattle.wt_laws.specs.Ended.{EndingGoesOut};
 ghost use Rattle.wt_laws.specs.GivenOnce.{GivenOnce};
 ghost use Rattle.wt_laws.specs.Laws.{DatagramsInOrder, HeadersOut, NothingAfterEnd, OneSession, OpenExactly, ReadsFromStart, ReadsInOrder, ReplyHasCause, RequestTold, SendsAll, SendsEnd, SendsInOrder, SessionStreamOut, SessionTold, SessionsRightly, SettingsOut, StreamsAcceptedRightly, TakenGoesOut, WithinCredit};
+ghost use Rattle.wt_laws.specs.LeavesRecord.{LeavesRecord};
 ghost use Rattle.wt_laws.specs.Left.{PendingExactly};
+ghost use Rattle.wt_laws.specs.OpenedInOrder.{OpenedInOrder};
 ghost use Rattle.wt_laws.specs.Reachable.{AllLawful};
 ghost use Rattle.wt_laws.specs.Runs.{DoneAtOnce};
+ghost use Rattle.wt_laws.specs.Telling.{TellingArrives};
 ghost use Rattle.wt_laws.specs.TurnCauses.{ActionsWentOut, EntriesHaveCauses, ReplyIsRecorded};
 ghost use Rattle.wt_spec.specs.Answers.{answers_to};
 ghost use Rattle.wt_trace.specs.Laws.{AtEachTurn, BiStreamsInOrder, CallsAnswer, DoneAfterEnd, DriverIsRead, FaultsClose, HandshakesAnswer, HeadGoesOut, LateIsForgotten, MayBeCut, NonePendingAfterEnd, OfExchanges, ResultStaysAfterEnd, SettledStays, Throughout};
@@ -46,10 +50,11 @@ impl From<OutOfMemory> for TraceError {
 /// `trace` says them whole, `answers` and `each` one by one, `lawful`, `stop` and `complete` up to where.
 /// The clauses after these say what is true of them, of every list: where a session is established, which
 /// requests, streams and datagrams are given and in what order, what reads give (`sessions` to `next_datagram`);
-/// where a call is pending, what it answers, why each reply and each action comes (`pending` to `events`);
-/// what ends the connection and where in the peer's bytes that is read, how it is told, and what stays
-/// (`opened` to `settled`); what goes out (`settings` to `taken`); and that a piece may come in two parts
-/// (`cutting`).
+/// where a call is pending, what it answers, why each reply and each action comes, and that what the
+/// transport told and what calls did is kept for later answers (`pending` to `events`);
+/// what ends the connection and where in the peer's bytes that is read, which of its streams are dequeued
+/// and classified, how the end is told, and what stays (`opened` to `settled`); what goes out (`settings`
+/// to `opened_in_order`); and that a piece may come in two parts (`cutting`).
 pub fn run_trace(alloc: Global, side: Side, turns: &[Turn]) -> Result<Answers, TraceError>
     ensures trace { IsTrace side turns.now result }
     ensures answers { IfAnswered result (λ answers. answers ≡ answers_to side (take (length answers) turns.now)) }
@@ -76,11 +81,14 @@ pub fn run_trace(alloc: Global, side: Side, turns: &[Turn]) -> Result<Answers, T
     ensures recorded { IfAnswered result (AtEachTurn side (ReplyIsRecorded side) turns.now) }
     ensures actions { IfAnswered result (Throughout side (ActionsWentOut side) turns.now) }
     ensures entries { IfAnswered result (AtEachTurn side (EntriesHaveCauses side) turns.now) }
+    ensures telling { IfAnswered result (AtEachTurn side (TellingArrives side) turns.now) }
+    ensures left { IfAnswered result (AtEachTurn side (LeavesRecord side) turns.now) }
     ensures events { IfAnswered result (AtEachTurn side (DoneAtOnce side) turns.now) }
     ensures opened { IfAnswered result (Throughout side (OpenExactly side) turns.now) }
     ensures faults { IfAnswered result (Throughout side (FaultsClose side) turns.now) }
     ensures endings { IfAnswered result (AtEachTurn side (EndingGoesOut side) turns.now) }
     ensures driver { IfAnswered result (Throughout side (DriverIsRead side) turns.now) }
+    ensures dequeued { IfAnswered result (Throughout side (StreamsDequeued side) turns.now) }
     ensures result_stays { IfAnswered result (AtEachTurn side (ResultStaysAfterEnd side) turns.now) }
     ensures after_end { IfAnswered result (Throughout side NothingAfterEnd turns.now) }
     ensures late { IfAnswered result (AtEachTurn side (DoneAfterEnd side) turns.now) }
@@ -95,6 +103,7 @@ pub fn run_trace(alloc: Global, side: Side, turns: &[Turn]) -> Result<Answers, T
     ensures sends_end { IfAnswered result (AtEachTurn side (SendsEnd side) turns.now) }
     ensures credit { IfAnswered result (Throughout side (WithinCredit side) turns.now) }
     ensures taken { IfAnswered result (Throughout side (TakenGoesOut side) turns.now) }
+    ensures opened_in_order { IfAnswered result (Throughout side OpenedInOrder turns.now) }
     ensures cutting { IfAnswered result (MayBeCut side turns.now) }
 {
     run_turns(alloc, side, turns)

@@ -1,15 +1,20 @@
 -- What a frame on a stream does is decided by its own bytes, and stays under more.
-use Rattle.std.proofs.Common.{◌≡◌, ℕ, Bool, true, false, cond, ◌≤◌, List, [], ◌++◌, length, Some, refl}
+use Rattle.std.proofs.Common.{◌≡◌, ◌-◌, ℕ, zero, suc, Bool, true, false, cond, ◌≤◌, List, [], ◌∷◌, ◌++◌, length, Option, Some, None, Result, refl, ◌∙◌}
+use Rattle.wt_wire.specs.declared.error.ErrorCode.{ErrorCode}
 use Rattle.wt_wire.specs.declared.frame.FrameKind.TheVariants as kinds
+use Rattle.wt_wire.specs.FrameBytes.{FrameParts}
 use Rattle.wt_wire.specs.Frames as frames
 use Rattle.wt_wire.specs.Varint.{varint_at}
+use Rattle.wt_proto.specs.declared.walk.Step.{Step}
 use Rattle.wt_proto.specs.declared.walk.Step.TheVariants.{Cut, Goes, Stops}
 use Rattle.wt_proto.specs.FrameSteps.{decided}
+use Rattle.wt_proto.specs.Progress.{Progress, progress_over}
 use Rattle.wt_proto.specs.Steady.{taken, IsSteady}
+use Rattle.wt_proto.specs.Walk.{led}
 use Rattle.wt_proto.proofs.FrameLaws.{IsEffect, frames-steady, session_id_ignored-on, varint-on}
 use Rattle.wt_typed.specs.declared.next_frame.FrameSource.{FrameSource}
 use Rattle.wt_typed.specs.declared.next_frame.FrameSource.TheVariants.{Request, Control, Other}
-use Rattle.wt_typed.specs.NextFrame.{frame_decides, frame_effect, given}
+use Rattle.wt_typed.specs.NextFrame.{frame_decides, frame_effect, given, id_at}
 
 skipped-taken : (b : Bool) (n kind : ℕ) → taken (cond b (Stops (given (kinds.Exercise kind) []) n) (Goes Control n)) ≡ Some n
 skipped-taken true n kind = refl
@@ -57,3 +62,44 @@ frame_steady = record { nothing = nothing; more = more; front = front; some = so
     some Request = with-id.some Request
     some Control = without-id.some Control
     some Other = without-id.some Other
+
+-- ---- no frame changes where the frames stand
+
+control-same : (b : Bool) (t : FrameSource) (m n kind : ℕ) → cond b (Stops (given (kinds.Exercise kind) []) m) (Goes Control m) ≡ Goes t n → t ≡ Control
+control-same true t m n kind e = absurd cc
+control-same false t m n kind e = cc
+
+effect-same : (s t : FrameSource) (m n : ℕ) (f : frames.Frame) → frame_effect s m f ≡ Goes t n → t ≡ s
+effect-same s t m n (frames.Data payload) e = absurd cc
+effect-same s t m n (frames.Headers payload) e = absurd cc
+effect-same s t m n (frames.Settings payload) e = absurd cc
+effect-same s t m n frames.TooLong e = absurd cc
+effect-same s t m n (frames.Signal id) e = absurd cc
+effect-same Request t m n (frames.Skipped kind) e = cc
+effect-same Control t m n (frames.Skipped kind) e = control-same (frames.is_exercise kind) t m n kind e
+effect-same Other t m n (frames.Skipped kind) e = cc
+
+decided-same : (s t : FrameSource) (n : ℕ) (item : Option (frames.Frame × ℕ)) → decided (frame_effect s) item ≡ Goes t n → t ≡ s
+decided-same s t n None e = absurd cc
+decided-same s t n (Some f) e = effect-same s t f.1 n f.0 e
+
+goes-same : (s t : FrameSource) (xs : List ℕ) (n : ℕ) → frame_decides s xs ≡ Goes t n → t ≡ s
+unfolding frame_decides
+goes-same s t xs n e = decided-same s t n (frames.frame_at (id_at s) xs) e
+
+abbrev source_in : Progress FrameSource (Result FrameParts ErrorCode) → FrameSource
+source_in p = p.state
+
+led-same : (s : FrameSource) (b : ℕ) (xs : List ℕ) → ((t : FrameSource) (stop : Option (Result FrameParts ErrorCode)) (n : ℕ) → source_in (progress_over frame_decides t stop n xs) ≡ t)
+    → (d : Step FrameSource (Result FrameParts ErrorCode)) → frame_decides s (b ∷ xs) ≡ d
+    → source_in (led (record { state = s; stop = None; skip = 0; kept = b ∷ xs }) (λ t stop n. progress_over frame_decides t stop (n - 1) xs) s d) ≡ s
+led-same s b xs again Cut e = refl
+led-same s b xs again (Goes t n) e = again t None (n - 1) ∙ goes-same s t (b ∷ xs) n e
+led-same s b xs again (Stops o n) e = again s (Some o) (n - 1)
+
+pub same-source : (xs : List ℕ) (s : FrameSource) (stop : Option (Result FrameParts ErrorCode)) (n : ℕ) → source_in (progress_over frame_decides s stop n xs) ≡ s
+same-source [] s stop (suc n) = refl
+same-source (b ∷ xs) s stop (suc n) = same-source xs s stop n
+same-source [] s stop zero = refl
+same-source (b ∷ xs) s (Some o) zero = refl
+same-source (b ∷ xs) s None zero = led-same s b xs (same-source xs) (frame_decides s (b ∷ xs)) refl

@@ -1,5 +1,7 @@
 -- How a reader takes bytes, one at a time.
 use Rattle.std.proofs.Common.{arith, ◌≡◌, ◌<◌, ◌≤◌, ◌-◌, ℕ, zero, suc, true, false, List, [], ◌∷◌, ◌++◌, length, take, drop, Option, Some, None, is_some, refl, sym, ap, ◌∙◌, inl, inr}
+use Rattle.std.specs.Prelude.{slice_index}
+use Rattle.std.specs.List.{concat}
 use Rattle.std.proofs.lemmas.Bool.{cases_lt}
 use Rattle.std.proofs.lemmas.List.{append-nil, length-append, take-append-drop, take_all}
 use Rattle.wt_proto.specs.declared.walk.Step.{Step}
@@ -7,6 +9,10 @@ use Rattle.wt_proto.specs.declared.walk.Step.TheVariants.{Cut, Goes, Stops}
 use Rattle.wt_proto.specs.Progress.{Progress, progress_over, fed, reached, reached_at, IsProper, Advances, passed}
 use Rattle.wt_proto.specs.Steady.{taken, IsSteady}
 use Rattle.wt_proto.proofs.ProgressLaws.{progress-cut, progress-goes, progress-stops, fed-fed, kept-open}
+use Rattle.wt_streams.specs.Pieces.{first_piece}
+use Rattle.wt_seam.specs.State.{TransportState}
+use Rattle.wt_seam.specs.Step.{unread_now}
+use Rattle.wt_typed.specs.Reading.{TookFirst, after_taking}
 
 module _ {S O : Type 0} (decide : S → List ℕ → Step S O) (steady : IsSteady decide) (s : S) (kept : List ℕ) (byte : ℕ) (waits : decide s kept ≡ Cut) where
   -- bytes of which all but the last decide nothing are no more than an item
@@ -87,3 +93,13 @@ module _ {S O : Type 0} (decide : S → List ℕ → Step S O) (steady : IsStead
             ∙ over-stays new.state new.stop new.skip new.kept (drop n bytes) (all lt)))
         | inr whole ↦ ap (λ (xs : List ℕ). fed decide old xs) (sym (take_all n bytes whole)) ∙ sym e
       ]
+
+-- where memory ran out, the bytes in front of the one that wasn't kept are taken
+pub took-first : {S O : Type 0} (decide : S → List ℕ → Step S O) (old mid new : Progress S O) (t u : TransportState) (id n : ℕ) → Advances decide old mid (unread_now t id) n → new ≡ mid → u ≡ after_taking t id n → TookFirst decide old new t u id n
+took-first decide old mid new t u id n front same is = record { within = front.within; reading = same ∙ front.taken; running = front.running; state = is }
+
+-- the first byte of the first piece is the first of all
+pub first-byte : (pieces : List (List ℕ)) (piece : List ℕ) → piece ≡ first_piece pieces → 0 < length piece → slice_index piece 0 ∷ [] ≡ take 1 (concat pieces)
+first-byte pieces [] is some = absurd (omega arith)
+first-byte [] (b ∷ piece) is some = absurd cc
+first-byte (p ∷ later) (b ∷ piece) is some = ap (λ (xs : List ℕ). take 1 (xs ++ concat later)) is

@@ -1,6 +1,6 @@
 -- A write goes out in order, from its first byte to its last.
-use Rattle.std.proofs.Common.{arith, ◌≡◌, ◌<◌, ◌≤◌, ◌+◌, ℕ, Bool, true, false, List, [], ◌++◌, length, take, drop, Option, Some, None, refl, sym, ap, ◌∙◌}
-use Rattle.std.specs.Prelude.{is_some, nat_lt, not, if◌then◌else◌}
+use Rattle.std.proofs.Common.{arith, ◌≡◌, ◌<◌, ◌≤◌, ◌+◌, ℕ, Bool, true, false, List, [], ◌++◌, length, take, drop, Option, Some, None, Result, Ok, Err, refl, sym, subst, ap, ◌∙◌}
+use Rattle.std.specs.Prelude.{OnErr, OnOk, is_some, nat_lt, not, if◌then◌else◌}
 use Rattle.std.proofs.Math.Seq.{take-add}
 use Rattle.std.proofs.lemmas.Bool.Decides.{nat_tests}
 use Rattle.std.proofs.lemmas.Grind.{common_steps}
@@ -20,6 +20,12 @@ continues-if true false false p n some = absurd (omega arith)
 
 pub still_continues : (open_ : Bool) (half : SendingHalf) (p : Pending) (bytes : List ℕ) → Continues (after_pending open_ half (write_of p bytes)) bytes
 still_continues open_ half p bytes = continues-if open_ (is_some half.stop) (nat_lt half.left (length (rest (write_of p bytes)))) (write_of p bytes) (p.out + half.left)
+
+-- the same where memory ran out and the write stands as it was begun
+pub either_continues : {A E : Type 0} (r : Result A E) (open_ : Bool) (half : SendingHalf) (old mid new : Pending) (bytes : List ℕ) → mid ≡ write_of old bytes
+    → OnOk r (new ≡ after_pending open_ half mid) → OnErr r (new ≡ mid) → Continues new bytes
+either_continues (Ok a) open_ half old mid new bytes begun ok err = subst (λ (p : Pending). Continues p bytes) (sym (ok ∙ ap (λ (p : Pending). after_pending open_ half p) begun)) (still_continues open_ half old bytes)
+either_continues (Err e) open_ half old mid new bytes begun ok err = subst (λ (p : Pending). Continues p bytes) (sym (err ∙ begun)) (λ some. refl)
 
 nothing-out : (n : ℕ) (bytes : List ℕ) → take n bytes ≡ take n bytes ++ []
 nothing-out n bytes = sym (append-nil (take n bytes))

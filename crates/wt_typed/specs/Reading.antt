@@ -1,5 +1,5 @@
 -- How a stream's bytes are read up to the end of an item, whatever the pieces are in which they come.
-use Rattle.std.specs.Prelude.{◌≡◌, ℕ, ◌<◌, ◌≤◌, List, length, take, Option, Some, None, is_some, Result, Ok, Err, Bool, true, false, ◌==◌, ◌&&◌, if◌then◌else◌}
+use Rattle.std.specs.Prelude.{◌≡◌, ℕ, ◌<◌, ◌≤◌, List, [], length, take, Option, Some, None, is_some, Result, Ok, Err, Bool, true, false, ◌==◌, ◌&&◌, if◌then◌else◌}
 use Rattle.wt_wire.specs.declared.error.ErrorCode.{ErrorCode}
 use Rattle.wt_wire.specs.declared.side.StreamEnd.{StreamEnd}
 use Rattle.wt_wire.specs.declared.side.StreamEnd.TheVariants.{Running, Fin, Reset}
@@ -36,6 +36,13 @@ pub record Took {S O : Type 0} (decide : S → List ℕ → Step S O) (old new :
   pub all : n < length (unread_now t id) → is_some (reached new).stop ≡ true
   pub state : u ≡ after_taking t id n
 
+-- The reader took the first n unread bytes of a stream, and none behind an item that stopped it.
+pub record TookFirst {S O : Type 0} (decide : S → List ℕ → Step S O) (old new : Progress S O) (t u : TransportState) (id n : ℕ) : Type 0 where
+  pub within : n ≤ length (unread_now t id)
+  pub reading : new ≡ fed decide old (take n (unread_now t id))
+  pub running : (k : ℕ) → k < n → (reached (fed decide old (take k (unread_now t id)))).stop ≡ None
+  pub state : u ≡ after_taking t id n
+
 -- what is answered where the bytes end before an item is whole
 abbrev pub ended : {G : Type 0} → Bool → StreamEnd → Bool → Poll (Result G ProtoReadError)
 ended open_ Running between = if open_ then polls.Pending else polls.Ready (Err (IO ends.NotConnected))
@@ -62,6 +69,12 @@ handed_out None p = p
 -- where a read leaves its reader
 abbrev pub after_read : {S G : Type 0} → Progress S (Result G ErrorCode) → Progress S (Result G ErrorCode)
 after_read p = handed_out (reached p).stop p
+
+-- the bytes since the last item that was handed out, behind a read that answers so
+abbrev pub since_item : {G : Type 0} → Poll (Result G ProtoReadError) → List ℕ → List ℕ
+since_item (polls.Ready (Ok item)) bytes = []
+since_item (polls.Ready (Err error)) bytes = bytes
+since_item polls.Pending bytes = bytes
 
 -- these bytes came since the last item was handed out
 abbrev pub HasBegun : {S O : Type 0} → (S → List ℕ → Step S O) → S → Progress S O → List ℕ → Type 0

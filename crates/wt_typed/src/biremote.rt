@@ -5,7 +5,7 @@ ghost use Rattle.wt_seam.specs.Step.{can_receive_now, end_now, unread_now};
 ghost use Rattle.wt_typed.specs.declared.next_frame.FrameSource.TheVariants as sources;
 ghost use Rattle.wt_typed.specs.Accepting.{accepted_bi, next_bi};
 ghost use Rattle.wt_typed.specs.NextFrame.{frame_decides, session_reading};
-ghost use Rattle.wt_typed.specs.Reading.{HasBegun, Took, after_read, read_answer};
+ghost use Rattle.wt_typed.specs.Reading.{HasBegun, Took, TookFirst, after_read, read_answer, since_item};
 ghost use Rattle.wt_typed.specs.Typed.{after_stop_once, both, frame_answer, has_both, in_stage, stop_answer};
 ghost use Rattle.wt_typed.specs.Writing.{nothing_begun};
 
@@ -80,8 +80,11 @@ impl Stream<Pair, BiRemoteH3> {
         requires { IsTrue (can_receive_now t.old self.old.halves.0.id) }
         ensures answer { IfOk result (λ a. a ≡ read_answer t.old.is_open (end_now t.old self.old.halves.0.id) (reached (fed frame_decides self.old.stage.frames (unread_now t.old self.old.halves.0.id)))) }
         ensures frame { (bytes : List ℕ) → HasBegun frame_decides sources.Request self.old.stage.frames bytes → IfOk result (λ a. a ≡ frame_answer sources.Request t.old.is_open (end_now t.old self.old.halves.0.id) (bytes ++ unread_now t.old self.old.halves.0.id)) }
+        ensures begun { (bytes : List ℕ) → HasBegun frame_decides sources.Request self.old.stage.frames bytes → IfOk result (λ a. HasBegun frame_decides sources.Request self.new.stage.frames (since_item a (bytes ++ unread_now t.old self.old.halves.0.id))) }
         ensures left { OnOk result (self.new ≡ record self.old { stage = record self.old.stage { frames = after_read (fed frame_decides self.old.stage.frames (unread_now t.old self.old.halves.0.id)) } }) }
         ensures took { OnOk result ((n : ℕ) × Took frame_decides self.old.stage.frames (fed frame_decides self.old.stage.frames (unread_now t.old self.old.halves.0.id)) t.old t.new self.old.halves.0.id n) }
+        ensures others { self.new ≡ record self.old { stage = record self.old.stage { frames = self.new.stage.frames } } }
+        ensures err { OnErr result ((n : ℕ) × TookFirst frame_decides self.old.stage.frames self.new.stage.frames t.old t.new self.old.halves.0.id n) }
     {
         self.stage.frames.poll(t, self.halves.0.id)
     }

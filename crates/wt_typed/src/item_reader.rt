@@ -1,18 +1,18 @@
 //! Items that are read from a stream, each up to its last byte.
-ghost use Rattle.std.specs.Prelude.{◌≡◌, ◌<◌, ◌≤◌, ◌&&◌, ◌==◌, ℕ, [], ◌∷◌, ◌++◌, List, Option, length, take, IfOk, IsTrue, OnOk, is_some, false, true};
+ghost use Rattle.std.specs.Prelude.{◌≡◌, ◌<◌, ◌≤◌, ◌&&◌, ◌==◌, ℕ, [], ◌∷◌, ◌++◌, List, Option, length, take, IfOk, IsTrue, OnErr, OnOk, is_some, false, true};
 ghost use Rattle.std.specs.Prelude.{Result};
 ghost use Rattle.wt_wire.specs.declared.error.ErrorCode.{ErrorCode};
 ghost use Rattle.wt_proto.specs.declared.walk.Step.{Step};
 ghost use Rattle.wt_proto.specs.Progress.{Advances, at_item, fed, progress_over, reached};
 ghost use Rattle.wt_proto.specs.Steady.{IsSteady};
 ghost use Rattle.wt_proto.specs.Walk.{walked};
-ghost use Rattle.wt_seam.specs.Step.{after_consume, can_receive_now, end_now, unread_now};
-ghost use Rattle.wt_typed.specs.Reading.{HasBegun, Took, after_read, ended, is_over, read_answer};
+ghost use Rattle.wt_seam.specs.Step.{can_receive_now, end_now, unread_now};
+ghost use Rattle.wt_typed.specs.Reading.{HasBegun, Took, TookFirst, after_read, ended, is_over, read_answer};
 
 use std::alloc::Global;
 use std::marker::Model;
 use wt_proto::walk::Step;
-use wt_seam::{QuicRecvStream, Transport};
+use wt_seam::Transport;
 use wt_turn::poll::Poll;
 use wt_turn::proto_error::{IoReadError, ProtoReadError};
 use wt_wire::error::{ErrorCode, OutOfMemory};
@@ -77,16 +77,13 @@ fn ended<T>(is_open: bool, end: StreamEnd, between: bool) -> Poll<Result<T, Prot
     Poll::Ready(Err(ProtoReadError::IO(error)))
 }
 
-/// Takes the next unread byte of a stream that has one.
-fn next_byte(t: &mut Transport, id: StreamId) -> u8
-    requires can { IsTrue (can_receive_now t.old id) }
-    requires some { 0 < length (unread_now t.old id) }
-    ensures byte { result ∷ [] ≡ take 1 (unread_now t.old id) }
-    ensures state { t.new ≡ after_consume t.old id 1 }
+/// The next unread byte of a stream that has one.
+fn next_byte(t: &Transport, id: StreamId) -> u8
+    requires some { 0 < length (unread_now t.now id) }
+    ensures byte { result ∷ [] ≡ take 1 (unread_now t.now id) }
 {
-    let mut buffer = [0; 1];
-    let _ = QuicRecvStream::new(id).read(t, &mut buffer);
-    buffer[0]
+    let piece = t.peek(id);
+    piece[0]
 }
 
 impl<G: Grammar> ItemReader<G> {
@@ -128,6 +125,7 @@ impl<G: Grammar> ItemReader<G> {
         requires bare { self.old.skip ≡ 0 }
         requires goes { is_some self.old.stop ≡ false }
         ensures advances { OnOk result ((later : List ℕ) → Advances G.decides self.old self.new (byte ∷ later) 1) }
+        ensures err { OnErr result (self.new ≡ self.old) }
     {
         self.kept.push(byte)?;
         let alloc = *self.kept.allocator();
@@ -155,7 +153,8 @@ impl<G: Grammar> ItemReader<G> {
     /// of them, and tells how many.
     fn take_unread(&mut self, t: &mut Transport, id: StreamId) -> Result<u64, OutOfMemory>
         requires { IsTrue (can_receive_now t.old id) }
-        ensures { IfOk result (λ n. Took G.decides self.old self.new t.old t.new id n) }
+        ensures took { IfOk result (λ n. Took G.decides self.old self.new t.old t.new id n) }
+        ensures err { OnErr result ((n : ℕ) × TookFirst G.decides self.old self.new t.old t.new id n) }
     {
         let _ = &self.state;
         let unread = t.unread(id);
@@ -169,7 +168,11 @@ impl<G: Grammar> ItemReader<G> {
             } else {
                 let byte = next_byte(t, id);
                 match self.keep(byte) {
-                    Ok(()) => taken += 1,
+                    Ok(()) => {
+                        t.consume(id, 1);
+                        taken += 1;
+                    }
+                    // the byte that isn't kept stays unread
                     Err(error) => return Err(error),
                 }
             }
@@ -206,6 +209,7 @@ impl<G: Grammar> ItemReader<G> {
         ensures begun { (state : G.State) (bytes : List ℕ) → HasBegun G.decides state self.old bytes → IfOk result (λ a. a ≡ read_answer t.old.is_open (end_now t.old id) (walked G.decides state (bytes ++ unread_now t.old id))) }
         ensures left { OnOk result (self.new ≡ after_read (fed G.decides self.old (unread_now t.old id))) }
         ensures took { OnOk result ((n : ℕ) × Took G.decides self.old (fed G.decides self.old (unread_now t.old id)) t.old t.new id n) }
+        ensures err { OnErr result ((n : ℕ) × TookFirst G.decides self.old self.new t.old t.new id n) }
     {
         let _ = &self.state;
         let is_open = t.is_open();

@@ -1,5 +1,5 @@
 //! Bytes that go out as the peer grants credit.
-ghost use Rattle.std.specs.Prelude.{◌≡◌, ◌<◌, ◌≤◌, [], length, IfOk, IsTrue, OnErr, OnOk};
+ghost use Rattle.std.specs.Prelude.{◌≡◌, ◌↔◌, ◌<◌, ◌≤◌, [], length, IfOk, IsTrue, OnErr, OnOk};
 ghost use Rattle.wt_proto.specs.StreamHeader.{header_bytes};
 ghost use Rattle.wt_wire.specs.FrameBytes.{frame_bytes};
 ghost use Rattle.wt_seam.specs.Rules.{after_write, may_write_now, sending_half_now};
@@ -61,7 +61,7 @@ impl Outgoing {
 
     /// Whether a write of this frame may begin or go on: none was begun, or one of the same bytes.
     pub fn continues_frame(&self, frame: &Frame) -> Result<bool, OutOfMemory>
-        ensures { IfOk result (λ b. IsTrue b → Continues self.now (frame_bytes frame.now)) }
+        ensures { IfOk result (λ b. IsTrue b ↔ Continues self.now (frame_bytes frame.now)) }
     {
         let mut bytes = Vec::new(self.allocator());
         frame.write(&mut bytes)?;
@@ -70,7 +70,7 @@ impl Outgoing {
 
     /// Whether a write of this header may begin or go on.
     pub fn continues_header(&self, header: StreamHeader) -> Result<bool, OutOfMemory>
-        ensures { IfOk result (λ b. IsTrue b → Continues self.now (header_bytes header)) }
+        ensures { IfOk result (λ b. IsTrue b ↔ Continues self.now (header_bytes header)) }
     {
         let mut bytes = Vec::new(self.allocator());
         header.write(&mut bytes)?;
@@ -79,7 +79,7 @@ impl Outgoing {
 
     /// Whether a write of the signal of this session's stream may begin or go on.
     pub fn continues_signal(&self, session: SessionId) -> Result<bool, OutOfMemory>
-        ensures { IfOk result (λ b. IsTrue b → Continues self.now (signal_bytes session)) }
+        ensures { IfOk result (λ b. IsTrue b ↔ Continues self.now (signal_bytes session)) }
     {
         self.continues_frame(&Frame::new_webtransport(self.allocator(), session))
     }
@@ -87,11 +87,19 @@ impl Outgoing {
     /// Begins a write of this frame, unless it was begun.
     fn begin_frame(&mut self, frame: &Frame) -> Result<(), OutOfMemory>
         requires { Continues self.old (frame_bytes frame.now) }
-        ensures { OnOk result (self.new ≡ write_of self.old (frame_bytes frame.now)) }
+        ensures write { OnOk result (self.new ≡ write_of self.old (frame_bytes frame.now)) }
+        ensures err { OnErr result (self.new ≡ self.old) }
     {
         if self.bytes.is_empty() {
             self.out = 0;
-            frame.write(&mut self.bytes)?;
+            match frame.write(&mut self.bytes) {
+                Ok(()) => {}
+                Err(error) => {
+                    // a part of the bytes would be taken for a write of other bytes
+                    self.bytes.clear();
+                    return Err(error);
+                }
+            }
         }
         Ok(())
     }
@@ -99,11 +107,19 @@ impl Outgoing {
     /// Begins a write of this header, unless it was begun.
     fn begin_header(&mut self, header: StreamHeader) -> Result<(), OutOfMemory>
         requires { Continues self.old (header_bytes header) }
-        ensures { OnOk result (self.new ≡ write_of self.old (header_bytes header)) }
+        ensures write { OnOk result (self.new ≡ write_of self.old (header_bytes header)) }
+        ensures err { OnErr result (self.new ≡ self.old) }
     {
         if self.bytes.is_empty() {
             self.out = 0;
-            header.write(&mut self.bytes)?;
+            match header.write(&mut self.bytes) {
+                Ok(()) => {}
+                Err(error) => {
+                    // a part of the bytes would be taken for a write of other bytes
+                    self.bytes.clear();
+                    return Err(error);
+                }
+            }
         }
         Ok(())
     }
@@ -120,9 +136,10 @@ impl Outgoing {
         ensures answer { IfOk result (λ a. a ≡ pending_answer t.old.is_open (sending_half_now t.old id) (rest (write_of self.old (frame_bytes frame.now)))) }
         ensures state { OnOk result (t.new ≡ after_write t.old id (rest (write_of self.old (frame_bytes frame.now)))) }
         ensures write { OnOk result (self.new ≡ after_pending t.old.is_open (sending_half_now t.old id) (write_of self.old (frame_bytes frame.now))) }
-        ensures goes_on { OnOk result (Continues self.new (frame_bytes frame.now)) }
+        ensures goes_on { Continues self.new (frame_bytes frame.now) }
         ensures prefix { OnOk result (WritesPrefix t.old.is_open (sending_half_now t.old id) self.old self.new (frame_bytes frame.now)) }
         ensures err { OnErr result (t.new ≡ t.old) }
+        ensures kept { OnErr result (write_of self.new (frame_bytes frame.now) ≡ write_of self.old (frame_bytes frame.now)) }
     {
         self.begin_frame(frame)?;
         self.poll(t, id)
@@ -140,9 +157,10 @@ impl Outgoing {
         ensures answer { IfOk result (λ a. a ≡ pending_answer t.old.is_open (sending_half_now t.old id) (rest (write_of self.old (signal_bytes session)))) }
         ensures state { OnOk result (t.new ≡ after_write t.old id (rest (write_of self.old (signal_bytes session)))) }
         ensures write { OnOk result (self.new ≡ after_pending t.old.is_open (sending_half_now t.old id) (write_of self.old (signal_bytes session))) }
-        ensures goes_on { OnOk result (Continues self.new (signal_bytes session)) }
+        ensures goes_on { Continues self.new (signal_bytes session) }
         ensures prefix { OnOk result (WritesPrefix t.old.is_open (sending_half_now t.old id) self.old self.new (signal_bytes session)) }
         ensures err { OnErr result (t.new ≡ t.old) }
+        ensures kept { OnErr result (write_of self.new (signal_bytes session) ≡ write_of self.old (signal_bytes session)) }
     {
         let signal = Frame::new_webtransport(self.allocator(), session);
         self.poll_frame(t, id, &signal)
@@ -160,9 +178,10 @@ impl Outgoing {
         ensures answer { IfOk result (λ a. a ≡ pending_answer t.old.is_open (sending_half_now t.old id) (rest (write_of self.old (header_bytes header)))) }
         ensures state { OnOk result (t.new ≡ after_write t.old id (rest (write_of self.old (header_bytes header)))) }
         ensures write { OnOk result (self.new ≡ after_pending t.old.is_open (sending_half_now t.old id) (write_of self.old (header_bytes header))) }
-        ensures goes_on { OnOk result (Continues self.new (header_bytes header)) }
+        ensures goes_on { Continues self.new (header_bytes header) }
         ensures prefix { OnOk result (WritesPrefix t.old.is_open (sending_half_now t.old id) self.old self.new (header_bytes header)) }
         ensures err { OnErr result (t.new ≡ t.old) }
+        ensures kept { OnErr result (write_of self.new (header_bytes header) ≡ write_of self.old (header_bytes header)) }
     {
         self.begin_header(header)?;
         self.poll(t, id)

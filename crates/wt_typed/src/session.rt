@@ -1,5 +1,5 @@
 //! The stream of a session.
-ghost use Rattle.std.specs.Prelude.{◌≡◌, ◌++◌, IfOk, IsTrue, List, OnErr, OnOk, true, ℕ};
+ghost use Rattle.std.specs.Prelude.{◌≡◌, ◌↔◌, ◌++◌, IfOk, IsTrue, List, OnErr, OnOk, true, ℕ};
 ghost use Rattle.wt_proto.specs.Progress.{fed, reached};
 ghost use Rattle.wt_wire.specs.FrameBytes.{frame_bytes};
 ghost use Rattle.wt_streams.specs.HalfRules.{finish_answer, reset_answer};
@@ -7,7 +7,7 @@ ghost use Rattle.wt_seam.specs.Rules.{after_finishing, after_reset_unless_closed
 ghost use Rattle.wt_seam.specs.Step.{can_receive_now, can_send_now, end_now, unread_now};
 ghost use Rattle.wt_typed.specs.declared.next_frame.FrameSource.TheVariants as sources;
 ghost use Rattle.wt_typed.specs.NextFrame.{frame_decides};
-ghost use Rattle.wt_typed.specs.Reading.{HasBegun, Took, after_read, read_answer};
+ghost use Rattle.wt_typed.specs.Reading.{HasBegun, Took, TookFirst, after_read, read_answer, since_item};
 ghost use Rattle.wt_typed.specs.Typed.{after_stop_once, can_write_now, frame_answer, ready_at_all, stop_answer};
 ghost use Rattle.wt_typed.specs.Writing.{Continues, WritesPrefix, after_pending, is_begun, pending_answer, rest, write_of};
 
@@ -35,8 +35,11 @@ impl Stream<Pair, Session> {
         requires { IsTrue (can_receive_now t.old self.old.halves.0.id) }
         ensures answer { IfOk result (λ a. a ≡ read_answer t.old.is_open (end_now t.old self.old.halves.0.id) (reached (fed frame_decides self.old.stage.frames (unread_now t.old self.old.halves.0.id)))) }
         ensures frame { (bytes : List ℕ) → HasBegun frame_decides sources.Other self.old.stage.frames bytes → IfOk result (λ a. a ≡ frame_answer sources.Other t.old.is_open (end_now t.old self.old.halves.0.id) (bytes ++ unread_now t.old self.old.halves.0.id)) }
+        ensures begun { (bytes : List ℕ) → HasBegun frame_decides sources.Other self.old.stage.frames bytes → IfOk result (λ a. HasBegun frame_decides sources.Other self.new.stage.frames (since_item a (bytes ++ unread_now t.old self.old.halves.0.id))) }
         ensures left { OnOk result (self.new ≡ record self.old { stage = record self.old.stage { frames = after_read (fed frame_decides self.old.stage.frames (unread_now t.old self.old.halves.0.id)) } }) }
         ensures took { OnOk result ((n : ℕ) × Took frame_decides self.old.stage.frames (fed frame_decides self.old.stage.frames (unread_now t.old self.old.halves.0.id)) t.old t.new self.old.halves.0.id n) }
+        ensures others { self.new ≡ record self.old { stage = record self.old.stage { frames = self.new.stage.frames } } }
+        ensures err { OnErr result ((n : ℕ) × TookFirst frame_decides self.old.stage.frames self.new.stage.frames t.old t.new self.old.halves.0.id n) }
     {
         self.stage.frames.poll(t, self.halves.0.id)
     }
@@ -53,10 +56,12 @@ impl Stream<Pair, Session> {
         requires same { Continues self.old.stage.writing (frame_bytes frame.now) }
         ensures answer { IfOk result (λ a. a ≡ pending_answer t.old.is_open (sending_half_now t.old self.old.halves.0.id) (rest (write_of self.old.stage.writing (frame_bytes frame.now)))) }
         ensures state { OnOk result (t.new ≡ after_write t.old self.old.halves.0.id (rest (write_of self.old.stage.writing (frame_bytes frame.now)))) }
-        ensures goes_on { OnOk result (Continues self.new.stage.writing (frame_bytes frame.now)) }
+        ensures goes_on { Continues self.new.stage.writing (frame_bytes frame.now) }
         ensures prefix { OnOk result (WritesPrefix t.old.is_open (sending_half_now t.old self.old.halves.0.id) self.old.stage.writing self.new.stage.writing (frame_bytes frame.now)) }
         ensures writing { OnOk result (self.new ≡ record self.old { stage = record self.old.stage { writing = after_pending t.old.is_open (sending_half_now t.old self.old.halves.0.id) (write_of self.old.stage.writing (frame_bytes frame.now)) } }) }
+        ensures others { self.new ≡ record self.old { stage = record self.old.stage { writing = self.new.stage.writing } } }
         ensures err { OnErr result (t.new ≡ t.old) }
+        ensures kept { OnErr result (write_of self.new.stage.writing (frame_bytes frame.now) ≡ write_of self.old.stage.writing (frame_bytes frame.now)) }
     {
         self.stage.writing.poll_frame(t, self.halves.0.id, frame)
     }
@@ -138,7 +143,7 @@ impl Stream<Pair, Session> {
 
     /// Whether a write of this frame may begin or go on: none is half written, or the same one.
     pub fn continues(&self, frame: &Frame) -> Result<bool, OutOfMemory>
-        ensures { IfOk result (λ b. IsTrue b → Continues self.now.stage.writing (frame_bytes frame.now)) }
+        ensures { IfOk result (λ b. IsTrue b ↔ Continues self.now.stage.writing (frame_bytes frame.now)) }
     {
         self.stage.writing.continues_frame(frame)
     }

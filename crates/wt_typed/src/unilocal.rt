@@ -1,5 +1,5 @@
 //! Unidirectional streams of this end.
-ghost use Rattle.std.specs.Prelude.{◌≡◌, IfOk, IsTrue, OnErr, OnOk, false, true};
+ghost use Rattle.std.specs.Prelude.{◌≡◌, ◌↔◌, IfOk, IsTrue, OnErr, OnOk, false, true};
 ghost use Rattle.wt_proto.specs.StreamHeader.{header_bytes, header_kind};
 ghost use Rattle.wt_proto.specs.declared.stream_header.StreamKind.TheVariants as kinds;
 ghost use Rattle.wt_wire.specs.FrameBytes.{frame_bytes};
@@ -56,12 +56,14 @@ impl Stream<QuicSendStream, UniLocalQuic> {
         requires same { Continues self.old.stage.writing (header_bytes header) }
         ensures answer { IfOk result (λ a. a ≡ made (λ through. record { halves = self.old.halves; stage = record { kind = header_kind header; writing = nothing_begun } }) (pending_answer t.old.is_open (sending_half_now t.old self.old.halves.id) (rest (write_of self.old.stage.writing (header_bytes header))))) }
         ensures state { OnOk result (t.new ≡ after_write t.old self.old.halves.id (rest (write_of self.old.stage.writing (header_bytes header)))) }
-        ensures goes_on { OnOk result (Continues self.new.stage.writing (header_bytes header)) }
+        ensures goes_on { Continues self.new.stage.writing (header_bytes header) }
         ensures prefix { OnOk result (WritesPrefix t.old.is_open (sending_half_now t.old self.old.halves.id) self.old.stage.writing self.new.stage.writing (header_bytes header)) }
         ensures halves { self.new.halves ≡ self.old.halves }
         ensures writing { OnOk result (self.new.stage.writing ≡ after_pending t.old.is_open (sending_half_now t.old self.old.halves.id) (write_of self.old.stage.writing (header_bytes header))) }
         ensures spent { IfOk result (λ a. self.new.stage.is_spent ≡ is_through a) }
         ensures err { OnErr result (t.new ≡ t.old) }
+        ensures kept { OnErr result (write_of self.new.stage.writing (header_bytes header) ≡ write_of self.old.stage.writing (header_bytes header)) }
+        ensures unspent { OnErr result (self.new.stage.is_spent ≡ false) }
     {
         let id = self.halves.id;
         match self.stage.writing.poll_header(t, id, header)? {
@@ -97,7 +99,7 @@ impl Stream<QuicSendStream, UniLocalQuic> {
 
     /// Whether an upgrade with this header may begin or go on.
     pub fn continues(&self, header: StreamHeader) -> Result<bool, OutOfMemory>
-        ensures { IfOk result (λ b. IsTrue b → Continues self.now.stage.writing (header_bytes header)) }
+        ensures { IfOk result (λ b. IsTrue b ↔ Continues self.now.stage.writing (header_bytes header)) }
     {
         self.stage.writing.continues_header(header)
     }
@@ -130,10 +132,12 @@ impl Stream<QuicSendStream, UniLocalH3> {
         requires same { Continues self.old.stage.writing (frame_bytes frame.now) }
         ensures answer { IfOk result (λ a. a ≡ pending_answer t.old.is_open (sending_half_now t.old self.old.halves.id) (rest (write_of self.old.stage.writing (frame_bytes frame.now)))) }
         ensures state { OnOk result (t.new ≡ after_write t.old self.old.halves.id (rest (write_of self.old.stage.writing (frame_bytes frame.now)))) }
-        ensures goes_on { OnOk result (Continues self.new.stage.writing (frame_bytes frame.now)) }
+        ensures goes_on { Continues self.new.stage.writing (frame_bytes frame.now) }
         ensures prefix { OnOk result (WritesPrefix t.old.is_open (sending_half_now t.old self.old.halves.id) self.old.stage.writing self.new.stage.writing (frame_bytes frame.now)) }
         ensures writing { OnOk result (self.new ≡ record self.old { stage = record self.old.stage { writing = after_pending t.old.is_open (sending_half_now t.old self.old.halves.id) (write_of self.old.stage.writing (frame_bytes frame.now)) } }) }
+        ensures others { self.new ≡ record self.old { stage = record self.old.stage { writing = self.new.stage.writing } } }
         ensures err { OnErr result (t.new ≡ t.old) }
+        ensures kept { OnErr result (write_of self.new.stage.writing (frame_bytes frame.now) ≡ write_of self.old.stage.writing (frame_bytes frame.now)) }
     {
         self.stage.writing.poll_frame(t, self.halves.id, frame)
     }
@@ -177,7 +181,7 @@ impl Stream<QuicSendStream, UniLocalH3> {
 
     /// Whether a write of this frame may begin or go on: none is half written, or the same one.
     pub fn continues(&self, frame: &Frame) -> Result<bool, OutOfMemory>
-        ensures { IfOk result (λ b. IsTrue b → Continues self.now.stage.writing (frame_bytes frame.now)) }
+        ensures { IfOk result (λ b. IsTrue b ↔ Continues self.now.stage.writing (frame_bytes frame.now)) }
     {
         self.stage.writing.continues_frame(frame)
     }

@@ -1,7 +1,8 @@
 //! The plans of the handshake's calls.
 ghost use Rattle.std.specs.Prelude.{◌≡◌, Bool, IfOk, IfSome, IsSome, if◌then◌else◌, ℕ};
-ghost use Rattle.wt_plan.specs.DriverAnswers.{answers_now, requests_now};
-ghost use Rattle.wt_plan.specs.FactsNow.{DriverFacts, facts_now};
+ghost use Rattle.wt_plan.specs.DriverAnswers.{answers_now};
+ghost use Rattle.wt_driver_spec.specs.DriverState.{requests_now};
+ghost use Rattle.wt_plan.specs.FactsNow.{DriverAnswers, facts_now};
 ghost use Rattle.wt_plan.specs.Planned.{planned};
 ghost use Rattle.wt_plan.specs.Tells.{session_now};
 ghost use Rattle.wt_seam_spec.specs.Streams.{local_bi};
@@ -47,7 +48,7 @@ pub fn respond(
     head: &[u8],
     waiting: Record,
 ) -> Result<Plan, OutOfMemory>
-    ensures { (d : DriverFacts) → d.request_end ≡ s.now.request_end → IsSessionStream s.now.requested → IfOk result (λ p. planned p ≡ response_plan (facts_now t.now d) (session_now s.now) accepts head.now (record_of waiting)) }
+    ensures { (d : DriverAnswers) → d.request_end ≡ s.now.request_end → IsSessionStream s.now.requested → IfOk result (λ p. planned p ≡ response_plan (facts_now t.now d) (session_now s.now) accepts head.now (record_of waiting)) }
 {
     let (id, end) = s.requested();
     match SessionId::try_from_session_stream(id) {
@@ -64,7 +65,7 @@ fn start(
     accepts: bool,
     head: Piece,
 ) -> Result<Plan, OutOfMemory>
-    ensures { (d : DriverFacts) → d.request_end ≡ s.now.request_end → IsSessionStream s.now.requested → IfOk result (λ p. planned p ≡ start_plan (facts_now t.now d) (session_now s.now) accepts head) }
+    ensures { (d : DriverAnswers) → d.request_end ≡ s.now.request_end → IsSessionStream s.now.requested → IfOk result (λ p. planned p ≡ start_plan (facts_now t.now d) (session_now s.now) accepts head) }
 {
     let begun = Record::ResponseStarted(accepts, head.copy()?);
     respond(alloc, t, s, accepts, head.as_slice(), begun)
@@ -78,7 +79,7 @@ pub fn accept(
     s: &SessionTable,
     headers: &HeaderList,
 ) -> Result<Plan, OutOfMemory>
-    ensures { (d : DriverFacts) → d.request_end ≡ s.now.request_end → IsSessionStream s.now.requested → IfOk result (λ p. planned p ≡ plan_of (facts_now t.now d) (session_now s.now) (calls.Accept headers.now)) }
+    ensures { (d : DriverAnswers) → d.request_end ≡ s.now.request_end → IsSessionStream s.now.requested → IfOk result (λ p. planned p ≡ plan_of (facts_now t.now d) (session_now s.now) (calls.Accept headers.now)) }
 {
     start(alloc, t, s, true, heads::accepting(alloc, headers)?)
 }
@@ -86,7 +87,7 @@ pub fn accept(
 /// The request is rejected, by status 403.
 #[tactic(auto, unfolding(wt_session_spec::specs::Plans::plan_of))]
 pub fn forbid(alloc: Global, t: &Transport, s: &SessionTable) -> Result<Plan, OutOfMemory>
-    ensures { (d : DriverFacts) → d.request_end ≡ s.now.request_end → IsSessionStream s.now.requested → IfOk result (λ p. planned p ≡ plan_of (facts_now t.now d) (session_now s.now) calls.Forbidden) }
+    ensures { (d : DriverAnswers) → d.request_end ≡ s.now.request_end → IsSessionStream s.now.requested → IfOk result (λ p. planned p ≡ plan_of (facts_now t.now d) (session_now s.now) calls.Forbidden) }
 {
     start(alloc, t, s, false, heads::forbidding(alloc)?)
 }
@@ -94,7 +95,7 @@ pub fn forbid(alloc: Global, t: &Transport, s: &SessionTable) -> Result<Plan, Ou
 /// The request is rejected, by status 404.
 #[tactic(auto, unfolding(wt_session_spec::specs::Plans::plan_of))]
 pub fn find_nothing(alloc: Global, t: &Transport, s: &SessionTable) -> Result<Plan, OutOfMemory>
-    ensures { (d : DriverFacts) → d.request_end ≡ s.now.request_end → IsSessionStream s.now.requested → IfOk result (λ p. planned p ≡ plan_of (facts_now t.now d) (session_now s.now) calls.NotFound) }
+    ensures { (d : DriverAnswers) → d.request_end ≡ s.now.request_end → IsSessionStream s.now.requested → IfOk result (λ p. planned p ≡ plan_of (facts_now t.now d) (session_now s.now) calls.NotFound) }
 {
     start(alloc, t, s, false, heads::not_found(alloc)?)
 }
@@ -102,7 +103,7 @@ pub fn find_nothing(alloc: Global, t: &Transport, s: &SessionTable) -> Result<Pl
 /// The request is rejected, by status 429.
 #[tactic(auto, unfolding(wt_session_spec::specs::Plans::plan_of))]
 pub fn refuse_for_now(alloc: Global, t: &Transport, s: &SessionTable) -> Result<Plan, OutOfMemory>
-    ensures { (d : DriverFacts) → d.request_end ≡ s.now.request_end → IsSessionStream s.now.requested → IfOk result (λ p. planned p ≡ plan_of (facts_now t.now d) (session_now s.now) calls.TooManyRequests) }
+    ensures { (d : DriverAnswers) → d.request_end ≡ s.now.request_end → IsSessionStream s.now.requested → IfOk result (λ p. planned p ≡ plan_of (facts_now t.now d) (session_now s.now) calls.TooManyRequests) }
 {
     start(alloc, t, s, false, heads::too_many_requests(alloc)?)
 }
@@ -128,7 +129,7 @@ fn request(
     walk: ResponseWalk,
     error: ConnectionError,
 ) -> Result<Plan, OutOfMemory>
-    ensures { (d : DriverFacts) → t.now.side ≡ sides.Client → d.driver_error ≡ error → d.response ≡ walk → IfOk result (λ p. planned p ≡ request_plan (facts_now t.now d) (local_bi t.now.side) head.now) }
+    ensures { (d : DriverAnswers) → t.now.side ≡ sides.Client → d.driver_error ≡ error → d.response ≡ walk → IfOk result (λ p. planned p ≡ request_plan (facts_now t.now d) (local_bi t.now.side) head.now) }
 {
     match request_session(t.side()) {
         Some(id) => handshake_plans::request(alloc, t, id, head, walk, error),
@@ -145,7 +146,7 @@ fn request_unless(
     walk: ResponseWalk,
     error: ConnectionError,
 ) -> Result<Plan, OutOfMemory>
-    ensures { (d : DriverFacts) → t.now.side ≡ sides.Client → d.driver_error ≡ error → d.response ≡ walk → IfOk result (λ p. planned p ≡ request_unless (facts_now t.now d) reserved.now head.now) }
+    ensures { (d : DriverAnswers) → t.now.side ≡ sides.Client → d.driver_error ≡ error → d.response ≡ walk → IfOk result (λ p. planned p ≡ request_unless (facts_now t.now d) reserved.now head.now) }
 {
     match reserved {
         Some(name) => handshake_plans::reserved(alloc, t, name),
@@ -163,7 +164,7 @@ fn connected(
     walk: ResponseWalk,
     error: ConnectionError,
 ) -> Result<Plan, OutOfMemory>
-    ensures { (d : DriverFacts) → t.now.side ≡ sides.Client → d.settings_came ≡ have_settings_come → d.driver_error ≡ error → d.response ≡ walk → IfOk result (λ p. planned p ≡ (if d.settings_came then request_unless (facts_now t.now d) reserved.now head.now else awaited (facts_now t.now d) d.driver_error)) }
+    ensures { (d : DriverAnswers) → t.now.side ≡ sides.Client → d.settings_came ≡ have_settings_come → d.driver_error ≡ error → d.response ≡ walk → IfOk result (λ p. planned p ≡ (if d.settings_came then request_unless (facts_now t.now d) reserved.now head.now else awaited (facts_now t.now d) d.driver_error)) }
 {
     if have_settings_come {
         request_unless(alloc, t, reserved, head, walk, error)
@@ -182,7 +183,7 @@ pub fn connect(
     walk: ResponseWalk,
     error: ConnectionError,
 ) -> Result<Plan, OutOfMemory>
-    ensures { (d : DriverFacts) → t.now.side ≡ sides.Client → d.settings_came ≡ have_settings_come → d.driver_error ≡ error → d.response ≡ walk → IfOk result (λ p. planned p ≡ continued_connect (facts_now t.now d) reserved.now head.now) }
+    ensures { (d : DriverAnswers) → t.now.side ≡ sides.Client → d.settings_came ≡ have_settings_come → d.driver_error ≡ error → d.response ≡ walk → IfOk result (λ p. planned p ≡ continued_connect (facts_now t.now d) reserved.now head.now) }
 {
     match t.datagram_fact() {
         Some(_) => connected(alloc, t, reserved, head, have_settings_come, walk, error),

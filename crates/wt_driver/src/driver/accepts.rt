@@ -65,6 +65,7 @@ impl Driver {
         ensures inbox { self.new.inbox ≡ self.old.inbox }
         ensures queue { self.new.queue ≡ self.old.queue }
         ensures settings { self.new.settings ≡ self.old.settings }
+        ensures has_given { self.new.has_given_settings ≡ self.old.has_given_settings }
     {
         remove_slot(&mut self.unis, 4, id);
         remove_slot(&mut self.bis, 1, id);
@@ -77,6 +78,7 @@ impl Driver {
         ensures state { self.new.state ≡ record self.old.state { is_open = self.new.inbox.transport.is_open } }
         ensures queue { self.new.queue ≡ self.old.queue }
         ensures settings { self.new.settings ≡ self.old.settings }
+        ensures has_given { self.new.has_given_settings ≡ self.old.has_given_settings }
     {
         if self.inbox.can_receive(id) {
             self.inbox.give_up(id);
@@ -89,6 +91,7 @@ impl Driver {
         ensures state { IsAmong 4 id self.old.state.unis → IsAmong 1 id self.old.state.bis → self.new.state ≡ record (release id self.old.state) { is_open = self.new.inbox.transport.is_open } }
         ensures queue { self.new.queue ≡ self.old.queue }
         ensures settings { self.new.settings ≡ self.old.settings }
+        ensures has_given { self.new.has_given_settings ≡ self.old.has_given_settings }
     {
         self.give_up(id);
         self.release(id);
@@ -98,6 +101,7 @@ impl Driver {
     fn pass_stream(&mut self, id: StreamId) -> Result<(), OutOfMemory>
         ensures log { (side : Side) (log : Log) (taken : ℕ) → Follows side self.old log taken → MayAct side log (passing id) → MayBeCalled side (Sent (passing id) ∷ log) (StreamPassed id)
             → OnOk result (Follows side self.new (pass_stream side log id) taken) }
+        ensures has_given { OnOk result (self.new.has_given_settings ≡ self.old.has_given_settings) }
     {
         let code = ErrorCode::BufferedStreamRejected.to_code();
         self.act(Action::StopOut { id, code })?;
@@ -108,6 +112,7 @@ impl Driver {
     fn give_stream(&mut self, id: StreamId) -> Result<(), OutOfMemory>
         ensures log { (side : Side) (log : Log) (taken : ℕ) → Follows side self.old log taken → MayBeCalled side log (StreamAccepted id)
             → OnOk result (Follows side self.new (log_and_flush side log (Called (StreamAccepted id))) taken) }
+        ensures has_given { OnOk result (self.new.has_given_settings ≡ self.old.has_given_settings) }
     {
         self.release(id);
         self.work()
@@ -130,6 +135,7 @@ impl Driver {
     ) -> Result<Option<StreamId>, OutOfMemory>
         ensures log { (side : Side) (log : Log) (taken : ℕ) → Follows side self.old log taken → OnOk result (Follows side self.new (take_due (log_streams side kind session) (suc looks) log).state taken) }
         ensures given { (side : Side) (log : Log) (taken : ℕ) → Follows side self.old log taken → IfOk result (λ given. given ≡ (take_due (log_streams side kind session) (suc looks) log).given) }
+        ensures has_given { OnOk result (self.new.has_given_settings ≡ self.old.has_given_settings) }
     {
         let mut left = looks;
         loop {
@@ -167,6 +173,7 @@ impl Driver {
         ensures log { (side : Side) (log : Log) (taken : ℕ) → Follows side self.old log taken → OnOk result (Follows side self.new (accepted side (peer_uni side) log session).state taken) }
         ensures given { (side : Side) (log : Log) (taken : ℕ) → Follows side self.old log taken → IfOk result (λ p. given_by p ≡ (accepted side (peer_uni side) log session).given) }
         ensures nothing { IfOk result (λ p. given_by p ≡ None → p ≡ ended_or_pending (result_of self.new.state.is_open self.new.state.progress.ending)) }
+        ensures has_given { OnOk result (self.new.has_given_settings ≡ self.old.has_given_settings) }
     {
         let kind = peer_uni(self.inbox.side());
         let looks = self.inbox.peer_unis();
@@ -184,6 +191,7 @@ impl Driver {
         ensures log { (side : Side) (log : Log) (taken : ℕ) → Follows side self.old log taken → OnOk result (Follows side self.new (accepted side (peer_bi side) log session).state taken) }
         ensures given { (side : Side) (log : Log) (taken : ℕ) → Follows side self.old log taken → IfOk result (λ p. given_by p ≡ (accepted side (peer_bi side) log session).given) }
         ensures nothing { IfOk result (λ p. given_by p ≡ None → p ≡ ended_or_pending (result_of self.new.state.is_open self.new.state.progress.ending)) }
+        ensures has_given { OnOk result (self.new.has_given_settings ≡ self.old.has_given_settings) }
     {
         let kind = peer_bi(self.inbox.side());
         let looks = self.inbox.peer_bis();
@@ -234,6 +242,7 @@ impl Driver {
         ensures piece { IfOk result (λ piece. piece ≡ front_of self.old.queue) }
         ensures log { (side : Side) (log : Log) (taken : ℕ) (r : CallRecord) → Follows side self.old log taken → settles_datagram r ≡ true → MayBeCalled side log r
             → OnOk result (Follows side self.new (log_and_flush side log (Called r)) taken) }
+        ensures has_given { OnOk result (self.new.has_given_settings ≡ self.old.has_given_settings) }
     {
         let piece = self.take_front()?;
         self.work()?;
@@ -245,6 +254,8 @@ impl Driver {
         ensures log { (side : Side) (log : Log) (taken : ℕ) → Follows side self.old log taken → OnOk result (Follows side self.new (received side log session).state taken) }
         ensures given { (side : Side) (log : Log) (taken : ℕ) → Follows side self.old log taken → IfOk result (λ piece. payload_in (read_datagram piece) ≡ (received side log session).given) }
         ensures nothing { IfOk result (λ piece. payload_in (read_datagram piece) ≡ None → piece ≡ None) }
+        ensures own { IfOk result (λ given. (piece : List ℕ) → given ≡ Some piece → is_own session (read_datagram given) ≡ Some true) }
+        ensures has_given { OnOk result (self.new.has_given_settings ≡ self.old.has_given_settings) }
     {
         let mut left = self.queue.len();
         loop {
@@ -270,6 +281,8 @@ impl Driver {
         ensures log { (side : Side) (log : Log) (taken : ℕ) → Follows side self.old log taken → OnOk result (Follows side self.new (received side log session).state taken) }
         ensures given { (side : Side) (log : Log) (taken : ℕ) → Follows side self.old log taken → IfOk result (λ p. payload_by p ≡ (received side log session).given) }
         ensures nothing { IfOk result (λ p. payload_by p ≡ None → p ≡ ended_or_pending (result_of self.new.state.is_open self.new.state.progress.ending)) }
+        ensures own { IfOk result (λ p. (piece : List ℕ) → given_by p ≡ Some piece → is_own session (read_datagram (given_by p)) ≡ Some true) }
+        ensures has_given { OnOk result (self.new.has_given_settings ≡ self.old.has_given_settings) }
     {
         match self.receive(session)? {
             Some(piece) => Ok(Poll::Ready(Ok(piece))),

@@ -1,6 +1,7 @@
 //! Turns of the transport.
 ghost use Rattle.std.specs.Prelude.{◌≡◌, ◌*◌, ◌+◌, ◌++◌, ◌∷◌, [], IfOk, IsTrue, List, OnOk, Some, false, true, ℕ};
-ghost use Rattle.wt_driver.specs.Arriving.{EventTaken, arrived, event_of, is_call};
+ghost use Rattle.wt_driver.specs.Arriving.{EventTaken, arrived};
+ghost use Rattle.wt_spec.specs.Turns.{event_of, is_call};
 ghost use Rattle.wt_driver.specs.Tie.{Follows};
 ghost use Rattle.wt_inbox.specs.Stage.{Refines, Stage};
 ghost use Rattle.wt_seam_spec.specs.Arrivals.{fits, log_turn};
@@ -91,6 +92,7 @@ impl Driver {
         ensures inbox { OnOk result (self.new.inbox ≡ self.old.inbox) }
         ensures log { (side : Side) (log : Log) (stage : ℕ → Stage) (untaken : List Action) → Refines side self.old.inbox log stage untaken → is_open log ≡ true
             → OnOk result (self.new ≡ arrived (transport_view side log) (event_of turn.now) self.old) }
+        ensures has_given { OnOk result (self.new.has_given_settings ≡ self.old.has_given_settings) }
     {
         match turn {
             Turn::PeerUni => self.open_peer_uni(),
@@ -105,6 +107,7 @@ impl Driver {
         ensures log { (side : Side) (log : Log) (stage : ℕ → Stage) (untaken : List Action) → Refines side self.old.inbox log stage untaken → is_open log ≡ true
             → OnOk result (self.new ≡ arrived (transport_view side log) (event_of turn.now) self.old) }
         ensures late { OnOk result (self.old.state.is_open ≡ false → self.new ≡ self.old) }
+        ensures has_given { OnOk result (self.new.has_given_settings ≡ self.old.has_given_settings) }
     {
         if self.inbox.is_open() {
             self.note_arrival(turn)?;
@@ -119,6 +122,7 @@ impl Driver {
         ensures state { OnOk result (self.new.state ≡ record self.old.state { is_open = self.new.inbox.transport.is_open }) }
         ensures queue { OnOk result (self.new.queue ≡ self.old.queue) }
         ensures settings { OnOk result (self.new.settings ≡ self.old.settings) }
+        ensures has_given { OnOk result (self.new.has_given_settings ≡ self.old.has_given_settings) }
     {
         self.inbox.take(turn)
     }
@@ -127,6 +131,7 @@ impl Driver {
     fn note_turn(&mut self, turn: &Turn) -> Result<(), OutOfMemory>
         requires { IsTrue (fits_now self.old.inbox.transport turn.now) }
         ensures log { (side : Side) (log : Log) (taken : ℕ) (e : Event) → Follows side self.old log taken → event_of turn.now ≡ Some e → OnOk result (EventTaken side log e self.new taken) }
+        ensures has_given { OnOk result (self.new.has_given_settings ≡ self.old.has_given_settings) }
     {
         self.note_arrival_while_open(turn)?;
         self.record_turn(turn)
@@ -136,6 +141,7 @@ impl Driver {
     fn take_event(&mut self, turn: &Turn) -> Result<(), OutOfMemory>
         requires { IsTrue (fits_now self.old.inbox.transport turn.now) }
         ensures log { (side : Side) (log : Log) (taken : ℕ) (e : Event) → Follows side self.old log taken → event_of turn.now ≡ Some e → OnOk result (Follows side self.new (log_after side log turn.now) taken) }
+        ensures has_given { OnOk result (self.new.has_given_settings ≡ self.old.has_given_settings) }
     {
         self.note_turn(turn)?;
         self.work()
@@ -148,6 +154,7 @@ impl Driver {
         ensures state { OnOk result (self.new.state ≡ record self.old.state { is_open = self.new.inbox.transport.is_open }) }
         ensures queue { OnOk result (self.new.queue ≡ self.old.queue) }
         ensures settings { OnOk result (self.new.settings ≡ self.old.settings) }
+        ensures has_given { OnOk result (self.new.has_given_settings ≡ self.old.has_given_settings) }
     {
         if self.inbox.bytes_fit(id) {
             self.inbox.take_bytes(id, &[byte])?;
@@ -159,6 +166,7 @@ impl Driver {
     fn take_byte(&mut self, id: StreamId, byte: u8) -> Result<(), OutOfMemory>
         ensures log { (side : Side) (log : Log) (taken : ℕ) → Follows side self.old log taken → fits side log (turns.Bytes id (byte ∷ [])) ≡ true
             → OnOk result (Follows side self.new (receive side log id (byte ∷ [])) taken) }
+        ensures has_given { OnOk result (self.new.has_given_settings ≡ self.old.has_given_settings) }
     {
         self.note_byte(id, byte)?;
         self.work()
@@ -168,6 +176,7 @@ impl Driver {
     fn take_bytes(&mut self, id: StreamId, bytes: &[u8]) -> Result<(), OutOfMemory>
         ensures log { (side : Side) (log : Log) (taken : ℕ) → Follows side self.old log taken → fits side log (turns.Bytes id bytes.now) ≡ true
             → OnOk result (Follows side self.new (receive side log id bytes.now) taken) }
+        ensures has_given { OnOk result (self.new.has_given_settings ≡ self.old.has_given_settings) }
     {
         let mut at = 0;
         while at < bytes.len() {
@@ -181,6 +190,7 @@ impl Driver {
     pub fn turn(&mut self, turn: &Turn) -> Result<(), OutOfMemory>
         requires { IsTrue (fits_now self.old.inbox.transport turn.now) }
         ensures log { (side : Side) (log : Log) (taken : ℕ) → Follows side self.old log taken → is_call turn.now ≡ false → OnOk result (Follows side self.new (log_after side log turn.now) taken) }
+        ensures has_given { OnOk result (self.new.has_given_settings ≡ self.old.has_given_settings) }
     {
         match turn {
             Turn::Bytes { id, piece } => self.take_bytes(*id, piece.as_slice()),

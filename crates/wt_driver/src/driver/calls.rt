@@ -1,6 +1,6 @@
 //! The other calls: the handshake's, streams of this end, the end.
 ghost use Rattle.std.specs.Prelude.{◌≡◌, ◌≤◌, ◌+◌, ◌∷◌, [], List, None, Some, IfOk, OnOk, drop, false, is_some, length, true, ℕ, ◌||◌};
-ghost use Rattle.wt_driver_spec.specs.Step.{deliver};
+ghost use Rattle.wt_driver_spec.specs.Step.{remove_request};
 ghost use Rattle.wt_driver_spec.specs.Asking.{AwaitsResponse, MayBeCalled, SparesControl};
 ghost use Rattle.wt_seam_spec.specs.Acting.{MayAct};
 ghost use Rattle.wt_turn.specs.Records.{record_of};
@@ -11,6 +11,7 @@ ghost use Rattle.wt_seam_spec.specs.Reports.{end_of};
 ghost use Rattle.wt_seam_spec.specs.Joined.{joined, newest_first};
 ghost use Rattle.wt_seam_spec.specs.Outgoing.{if_open};
 ghost use Rattle.wt_seam_spec.specs.Streams.{can_send, contents};
+ghost use Rattle.wt_spec.specs.Connection.{close_connection};
 ghost use Rattle.wt_spec.specs.Driver.{log_and_flush};
 ghost use Rattle.wt_turn.specs.Log.{Called, Log, actions_of, events_of, PrioritySet, ResetUnsent, Sent, is_open, with_actions};
 ghost use Rattle.wt_turn.specs.declared.action.Action.{Action};
@@ -19,7 +20,8 @@ ghost use Rattle.wt_wire.specs.declared.side.Side.{Side};
 ghost use Rattle.wt_wire.specs.declared.side.Side.TheVariants.{Client, Server};
 ghost use Rattle.wt_driver.specs.DriverValue.{with_state};
 ghost use Rattle.wt_driver.specs.PeerSettings.{peer_settings, unless_given};
-ghost use Rattle.wt_driver.specs.Results.{due_settings, error_of, requests_now, result_of, settings_or};
+ghost use Rattle.wt_driver.specs.Results.{due_settings, error_of, result_of, settings_or};
+ghost use Rattle.wt_driver_spec.specs.DriverState.{requests_now};
 ghost use Rattle.wt_dispatch.specs.Requests.{first_request, request_as};
 
 use super::Driver;
@@ -77,10 +79,20 @@ impl Driver {
         }
     }
 
-    /// The application, the endpoint or the handshake closes the connection where it is open. The moment
-    /// of the call comes after it.
+    /// The application or the endpoint closes the connection where it is open, and the work of that
+    /// moment is done.
     pub fn close(&mut self, code: VarInt, reason: Piece) -> Result<(), OutOfMemory>
+        ensures log { (side : Side) (log : Log) (taken : ℕ) → Follows side self.old log taken → OnOk result (Follows side self.new (close_connection side log code reason).log taken) }
+        ensures has_given { OnOk result (self.new.has_given_settings ≡ self.old.has_given_settings) }
+    {
+        self.close_if_open(code, reason)?;
+        self.called(&Record::Polled)
+    }
+
+    /// A close goes out where the connection is open; the moment of the call comes after it.
+    fn close_if_open(&mut self, code: VarInt, reason: Piece) -> Result<(), OutOfMemory>
         ensures log { (side : Side) (log : Log) (taken : ℕ) → Follows side self.old log taken → OnOk result (Follows side self.new (with_actions (if_open log (actions.Close code reason)) log) taken) }
+        ensures has_given { OnOk result (self.new.has_given_settings ≡ self.old.has_given_settings) }
     {
         self.put_close(code, reason)
     }
@@ -91,6 +103,7 @@ impl Driver {
         ensures state { OnOk result (self.new.state ≡ record self.old.state { is_open = self.new.inbox.transport.is_open }) }
         ensures queue { OnOk result (self.new.queue ≡ self.old.queue) }
         ensures settings { OnOk result (self.new.settings ≡ self.old.settings) }
+        ensures has_given { OnOk result (self.new.has_given_settings ≡ self.old.has_given_settings) }
     {
         self.inbox.close(code, reason)
     }
@@ -99,6 +112,7 @@ impl Driver {
     pub fn take_actions(&mut self) -> Actions
         ensures actions { (side : Side) (log : Log) (taken : ℕ) → Follows side self.old log taken → result ≡ joined (untaken_since taken log) }
         ensures log { (side : Side) (log : Log) (taken : ℕ) → Follows side self.old log taken → Follows side self.new log (length (actions_of log)) }
+        ensures has_given { self.new.has_given_settings ≡ self.old.has_given_settings }
     {
         self.inbox.take_actions()
     }
@@ -108,6 +122,7 @@ impl Driver {
     /// Takes in what a call did.
     fn note_call(&mut self, call: &Record) -> Result<(), OutOfMemory>
         ensures log { (side : Side) (log : Log) (taken : ℕ) → Follows side self.old log taken → MayBeCalled side log (record_of call.now) → OnOk result (TakenIn side log (Called (record_of call.now)) self.new taken) }
+        ensures has_given { OnOk result (self.new.has_given_settings ≡ self.old.has_given_settings) }
     {
         match call {
             Record::RequestDelivered(id) => self.deliver(*id),
@@ -132,6 +147,7 @@ impl Driver {
         ensures state { OnOk result (self.new.state ≡ record self.old.state { is_open = self.new.inbox.transport.is_open }) }
         ensures queue { OnOk result (self.new.queue ≡ self.old.queue) }
         ensures settings { OnOk result (self.new.settings ≡ self.old.settings) }
+        ensures has_given { OnOk result (self.new.has_given_settings ≡ self.old.has_given_settings) }
     {
         reset(&mut self.inbox, id, code)
     }
@@ -143,6 +159,7 @@ impl Driver {
         ensures state { self.new.state ≡ record self.old.state { is_open = self.new.inbox.transport.is_open } }
         ensures queue { self.new.queue ≡ self.old.queue }
         ensures settings { self.new.settings ≡ self.old.settings }
+        ensures has_given { self.new.has_given_settings ≡ self.old.has_given_settings }
     {
         if count as u64 <= self.inbox.unread(id) {
             self.inbox.consume(id, count);
@@ -150,7 +167,7 @@ impl Driver {
     }
 
     fn deliver(&mut self, id: StreamId)
-        ensures { self.new ≡ with_state self.old (deliver id self.old.state) }
+        ensures { self.new ≡ with_state self.old (remove_request id self.old.state) }
     {
         self.dispatched.deliver(id);
     }
@@ -163,6 +180,7 @@ impl Driver {
         ensures state { OnOk result (self.new.state ≡ record self.old.state { is_open = self.new.inbox.transport.is_open }) }
         ensures queue { OnOk result (self.new.queue ≡ self.old.queue) }
         ensures settings { OnOk result (self.new.settings ≡ self.old.settings) }
+        ensures has_given { OnOk result (self.new.has_given_settings ≡ self.old.has_given_settings) }
     {
         if self.inbox.side() == Side::Client {
             let _response = self.inbox.release_response(id)?;
@@ -184,6 +202,7 @@ impl Driver {
         ensures state { OnOk result (self.new.state ≡ record self.old.state { session = Some (id, at); is_open = self.new.inbox.transport.is_open }) }
         ensures queue { OnOk result (self.new.queue ≡ self.old.queue) }
         ensures settings { OnOk result (self.new.settings ≡ self.old.settings) }
+        ensures has_given { OnOk result (self.new.has_given_settings ≡ self.old.has_given_settings) }
     {
         self.pass_response(id)?;
         self.set_session(id, at);
@@ -196,6 +215,7 @@ impl Driver {
         ensures state { self.new.state ≡ record self.old.state { is_open = self.new.inbox.transport.is_open } }
         ensures queue { self.new.queue ≡ self.old.queue }
         ensures settings { self.new.settings ≡ self.old.settings }
+        ensures has_given { self.new.has_given_settings ≡ self.old.has_given_settings }
     {
         if self.inbox.can_send(id) {
             self.inbox.set_priority(id, priority);
@@ -207,6 +227,7 @@ impl Driver {
     pub fn called(&mut self, call: &Record) -> Result<(), OutOfMemory>
         ensures log { (side : Side) (log : Log) (taken : ℕ) → Follows side self.old log taken → MayBeCalled side log (record_of call.now)
             → OnOk result (Follows side self.new (log_and_flush side log (Called (record_of call.now))) taken) }
+        ensures has_given { OnOk result (self.new.has_given_settings ≡ self.old.has_given_settings) }
     {
         self.note_call(call)?;
         self.work()
@@ -220,6 +241,7 @@ impl Driver {
         ensures state { OnOk result (self.new.state ≡ record self.old.state { is_open = self.new.inbox.transport.is_open }) }
         ensures queue { OnOk result (self.new.queue ≡ self.old.queue) }
         ensures settings { OnOk result (self.new.settings ≡ self.old.settings) }
+        ensures has_given { OnOk result (self.new.has_given_settings ≡ self.old.has_given_settings) }
     {
         act(&mut self.inbox, action)
     }
@@ -227,6 +249,7 @@ impl Driver {
     /// An action of a call goes out.
     pub fn act(&mut self, action: Action) -> Result<(), OutOfMemory>
         ensures log { (side : Side) (log : Log) (taken : ℕ) → Follows side self.old log taken → MayAct side log action → SparesControl side log action → OnOk result (Follows side self.new (Sent action ∷ log) taken) }
+        ensures has_given { OnOk result (self.new.has_given_settings ≡ self.old.has_given_settings) }
     {
         self.put_out(action)
     }
@@ -241,6 +264,7 @@ impl Driver {
         ensures state { OnOk result (self.new.state ≡ self.old.state) }
         ensures queue { OnOk result (self.new.queue ≡ self.old.queue) }
         ensures settings { OnOk result (self.new.settings ≡ self.old.settings) }
+        ensures has_given { OnOk result (self.new.has_given_settings ≡ self.old.has_given_settings) }
     {
         self.inbox.response(id)
     }
@@ -252,6 +276,7 @@ impl Driver {
         ensures state { OnOk result (self.new.state ≡ self.old.state) }
         ensures queue { OnOk result (self.new.queue ≡ self.old.queue) }
         ensures settings { OnOk result (self.new.settings ≡ self.old.settings) }
+        ensures has_given { OnOk result (self.new.has_given_settings ≡ self.old.has_given_settings) }
     {
         self.read_response(id)
     }

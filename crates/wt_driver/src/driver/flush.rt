@@ -207,6 +207,7 @@ impl Driver {
         ensures queue { OnOk result (self.new.queue ≡ self.old.queue) }
         ensures settings { OnOk result (self.new.settings ≡ self.old.settings) }
         ensures open { OnOk result (self.new.state.is_open ≡ self.new.inbox.transport.is_open) }
+        ensures has_given { OnOk result (self.new.has_given_settings ≡ self.old.has_given_settings) }
     {
         flush(
             &mut self.inbox,

@@ -54,6 +54,7 @@ impl Driver {
         ensures log { (side : Side) (log : Log) (stage : ℕ → Stage) (untaken : List Action) → Refines side self.old.inbox log stage untaken → is_open log ≡ true
             → AllAwait halves.Uni stage self.old.state.unis → AreDistinct self.old.state.unis → IsBounded 4 0 self.old.state.unis
             → OnOk result (Moves side log untaken self.old self.new (uni_stages (transport_view side log) self.old.state stage) (scan_uni_slots (transport_view side log) self.old.state) self.old.settings) }
+        ensures has_given { OnOk result (self.new.has_given_settings ≡ self.old.has_given_settings) }
     {
         scan(
             &mut self.inbox,
@@ -68,6 +69,7 @@ impl Driver {
         ensures log { (side : Side) (log : Log) (stage : ℕ → Stage) (untaken : List Action) → Refines side self.old.inbox log stage untaken → is_open log ≡ true
             → AllAwait halves.Bi stage self.old.state.bis → AreDistinct self.old.state.bis → IsBounded 1 0 self.old.state.bis
             → OnOk result (Moves side log untaken self.old self.new (bi_stages (transport_view side log) self.old.state stage) (scan_bi_slots (transport_view side log) self.old.state) self.old.settings) }
+        ensures has_given { OnOk result (self.new.has_given_settings ≡ self.old.has_given_settings) }
     {
         scan(
             &mut self.inbox,
@@ -106,6 +108,7 @@ impl Driver {
     fn check_datagram(&mut self) -> Result<(), OutOfMemory>
         ensures log { (side : Side) (log : Log) (stage : ℕ → Stage) (untaken : List Action) → Refines side self.old.inbox log stage untaken → is_open log ≡ true → HasDatagram side log self.old
             → OnOk result (self.new ≡ with_state self.old (record self.old.state { progress = datagram_checked (transport_view side log) self.old.state.datagrams self.old.state.progress })) }
+        ensures has_given { OnOk result (self.new.has_given_settings ≡ self.old.has_given_settings) }
     {
         if self.progress.goes_on() {
             let may_dequeue = self.may_dequeue_datagram();
@@ -126,6 +129,7 @@ impl Driver {
         ensures log { (side : Side) (log : Log) (stage : ℕ → Stage) (untaken : List Action) (at : ℕ) → Refines side self.old.inbox log stage untaken → session_offset (stage id) ≡ Some at
             → OnOk result (Moves side log untaken self.old self.new (with_stage stage id Anywhere)
             (record self.old.state { progress = session_read (drop at (contents log id)) (end_of (events_of log) id) self.old.state.progress }) self.old.settings) }
+        ensures has_given { OnOk result (self.new.has_given_settings ≡ self.old.has_given_settings) }
     {
         let (walk, by_capsule) = self.inbox.release_session(id)?;
         self.note_session(walk, by_capsule);
@@ -137,6 +141,7 @@ impl Driver {
             → IfOk result (λ so. so ≡ is_over (session_walk_of (drop at (contents log id)) (end_of (events_of log) id))) }
         ensures log { (side : Side) (log : Log) (stage : ℕ → Stage) (untaken : List Action) (at : ℕ) → Refines side self.old.inbox log stage untaken → session_offset (stage id) ≡ Some at
             → OnOk result (Moves side log untaken self.old self.new (with_stage stage id (SessionBody at)) self.old.state self.old.settings) }
+        ensures has_given { OnOk result (self.new.has_given_settings ≡ self.old.has_given_settings) }
     {
         self.inbox.has_session_end(id)
     }
@@ -145,6 +150,7 @@ impl Driver {
         ensures log { (side : Side) (log : Log) (stage : ℕ → Stage) (untaken : List Action) (at : ℕ) → Refines side self.old.inbox log stage untaken → session_offset (stage id) ≡ Some at
             → OnOk result (Moves side log untaken self.old self.new (with_stage stage id (session_stage (is_over (session_walk_of (drop at (contents log id)) (end_of (events_of log) id))) at))
             (record self.old.state { progress = session_read (drop at (contents log id)) (end_of (events_of log) id) self.old.state.progress }) self.old.settings) }
+        ensures has_given { OnOk result (self.new.has_given_settings ≡ self.old.has_given_settings) }
     {
         let is_over = self.has_session_end(id)?;
         if is_over {
@@ -157,6 +163,7 @@ impl Driver {
         ensures log { (side : Side) (log : Log) (stage : ℕ → Stage) (untaken : List Action) → Refines side self.old.inbox log stage untaken → WalkFrom session_offset stage session
             → OnOk result (Moves side log untaken self.old self.new (session_stages (transport_view side log) session stage)
             (record self.old.state { progress = check_session (transport_view side log) session self.old.state.progress }) self.old.settings) }
+        ensures has_given { OnOk result (self.new.has_given_settings ≡ self.old.has_given_settings) }
     {
         match session {
             None => Ok(()),
@@ -203,6 +210,7 @@ impl Driver {
         ensures log { (side : Side) (log : Log) (stage : ℕ → Stage) (untaken : List Action) → Refines side self.old.inbox log stage untaken → (self.old.state.progress.ending ≡ None → WalkFrom session_offset stage self.old.state.session)
             → OnOk result (Moves side log untaken self.old self.new (unless_ended_stage self.old.state.progress.ending (session_stages (transport_view side log) self.old.state.session stage) stage)
             (record self.old.state { progress = unless_ended self.old.state.progress.ending (check_session (transport_view side log) self.old.state.session) self.old.state.progress }) self.old.settings) }
+        ensures has_given { OnOk result (self.new.has_given_settings ≡ self.old.has_given_settings) }
     {
         let session = self.session();
         let goes_on = self.goes_on();
@@ -216,6 +224,7 @@ impl Driver {
     fn check_local_control(&mut self)
         ensures log { (side : Side) (log : Log) (stage : ℕ → Stage) (untaken : List Action) → Refines side self.old.inbox log stage untaken
             → self.new ≡ with_state self.old (record self.old.state { progress = unless_ended self.old.state.progress.ending (critical_if (transport_view side log).control_stopped) self.old.state.progress }) }
+        ensures has_given { self.new.has_given_settings ≡ self.old.has_given_settings }
     {
         let is_stopped = self.inbox.control_stopped();
         self.progress.fault_unless_ended(is_stopped);
@@ -226,6 +235,7 @@ impl Driver {
         ensures state { self.new.state ≡ record self.old.state { progress = control_read walk self.old.state.progress } }
         ensures queue { self.new.queue ≡ self.old.queue }
         ensures settings { self.new.settings ≡ option_or walk.settings self.old.settings }
+        ensures has_given { self.new.has_given_settings ≡ self.old.has_given_settings }
     {
         if walk.settings.is_some() {
             self.settings = walk.settings;
@@ -238,6 +248,7 @@ impl Driver {
             → OnOk result (Moves side log untaken self.old self.new (with_stage stage id (ControlBody at))
             (record self.old.state { progress = control_read (control_walk_of (drop at (contents log id)) (end_of (events_of log) id)) self.old.state.progress })
             (option_or (control_walk_of (drop at (contents log id)) (end_of (events_of log) id)).settings self.old.settings)) }
+        ensures has_given { OnOk result (self.new.has_given_settings ≡ self.old.has_given_settings) }
     {
         match self.inbox.control_walk(id) {
             Ok(walk) => {
@@ -253,6 +264,7 @@ impl Driver {
             → OnOk result (Moves side log untaken self.old self.new (control_stages control stage)
             (record self.old.state { progress = check_control (transport_view side log) control self.old.state.progress })
             (option_or (settings_read (transport_view side log) control) self.old.settings)) }
+        ensures has_given { OnOk result (self.new.has_given_settings ≡ self.old.has_given_settings) }
     {
         match control {
             None => Ok(()),
@@ -269,6 +281,7 @@ impl Driver {
             → OnOk result (Moves side log untaken self.old self.new (unless_ended_stage self.old.state.progress.ending (control_stages self.old.state.dispatched.control stage) stage)
             (record self.old.state { progress = unless_ended self.old.state.progress.ending (check_control (transport_view side log) self.old.state.dispatched.control) self.old.state.progress })
             (settings_noted (transport_view side log) self.old.state self.old.settings)) }
+        ensures has_given { OnOk result (self.new.has_given_settings ≡ self.old.has_given_settings) }
     {
         let control = self.control();
         let goes_on = self.goes_on();
@@ -281,6 +294,7 @@ impl Driver {
     fn check_end(&mut self, id: StreamId)
         ensures log { (side : Side) (log : Log) (stage : ℕ → Stage) (untaken : List Action) → Refines side self.old.inbox log stage untaken
             → self.new ≡ with_state self.old (record self.old.state { progress = unless_ended self.old.state.progress.ending (critical_if (not (is_running ((transport_view side log).end id)))) self.old.state.progress }) }
+        ensures has_given { self.new.has_given_settings ≡ self.old.has_given_settings }
     {
         let is_ended = !is_running(self.inbox.end(id));
         self.progress.fault_unless_ended(is_ended);
@@ -290,6 +304,7 @@ impl Driver {
     fn check_qpack(&mut self, stream: Option<(StreamId, usize)>)
         ensures log { (side : Side) (log : Log) (stage : ℕ → Stage) (untaken : List Action) → Refines side self.old.inbox log stage untaken
             → self.new ≡ with_state self.old (record self.old.state { progress = unless_ended self.old.state.progress.ending (check_qpack (transport_view side log) stream) self.old.state.progress }) }
+        ensures has_given { self.new.has_given_settings ≡ self.old.has_given_settings }
     {
         match stream {
             None => {}
@@ -303,6 +318,7 @@ impl Driver {
     fn check_encoder(&mut self)
         ensures log { (side : Side) (log : Log) (stage : ℕ → Stage) (untaken : List Action) → Refines side self.old.inbox log stage untaken
             → self.new ≡ with_state self.old (record self.old.state { progress = unless_ended self.old.state.progress.ending (check_qpack (transport_view side log) self.old.state.dispatched.encoder) self.old.state.progress }) }
+        ensures has_given { self.new.has_given_settings ≡ self.old.has_given_settings }
     {
         let encoder = self.encoder();
         self.check_qpack(encoder);
@@ -311,6 +327,7 @@ impl Driver {
     fn check_decoder(&mut self)
         ensures log { (side : Side) (log : Log) (stage : ℕ → Stage) (untaken : List Action) → Refines side self.old.inbox log stage untaken
             → self.new ≡ with_state self.old (record self.old.state { progress = unless_ended self.old.state.progress.ending (check_qpack (transport_view side log) self.old.state.dispatched.decoder) self.old.state.progress }) }
+        ensures has_given { self.new.has_given_settings ≡ self.old.has_given_settings }
     {
         let decoder = self.decoder();
         self.check_qpack(decoder);
@@ -322,6 +339,7 @@ impl Driver {
             → MayCheck (transport_view side log) self.old.state stage
             → OnOk result (Moves side log untaken self.old self.new (check_stages (transport_view side log) self.old.state stage) (run_checks (transport_view side log) self.old.state)
             (settings_checked (transport_view side log) self.old.state self.old.settings)) }
+        ensures has_given { OnOk result (self.new.has_given_settings ≡ self.old.has_given_settings) }
     {
         self.check_datagram()?;
         self.check_session()?;
@@ -344,6 +362,7 @@ impl Driver {
             → MayScan (transport_view side log) self.old.state stage
             → OnOk result (Moves side log untaken self.old self.new (scanned_stages (transport_view side log) self.old.state stage) (scan_state (transport_view side log) self.old.state)
             (settings_scanned (transport_view side log) self.old.state self.old.settings)) }
+        ensures has_given { OnOk result (self.new.has_given_settings ≡ self.old.has_given_settings) }
     {
         self.begin_scan();
         self.scan_unis()?;
@@ -355,6 +374,7 @@ impl Driver {
     pub(super) fn work(&mut self) -> Result<(), OutOfMemory>
         ensures log { (side : Side) (log : Log) (m : Entry) (taken : ℕ) → TakenIn side log m self.old taken → OnOk result (Follows side self.new (log_and_flush side log m) taken) }
         ensures closed { OnOk result (self.old.state.is_open ≡ false → self.new ≡ self.old) }
+        ensures has_given { OnOk result (self.new.has_given_settings ≡ self.old.has_given_settings) }
     {
         if self.inbox.is_open() {
             self.scan()?;

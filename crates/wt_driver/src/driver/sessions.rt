@@ -47,6 +47,7 @@ impl Driver {
         ensures given { IfOk result (λ p. given_by p ≡ first_request self.old.state.dispatched.requests) }
         ensures nothing { IfOk result (λ p. given_by p ≡ None → p ≡ ended_or_pending (result_of self.old.state.is_open self.old.state.progress.ending)) }
         ensures log { (side : Side) (log : Log) (taken : ℕ) → Follows side self.old log taken → OnOk result (Follows side self.new (first_given side log (queued side log)) taken) }
+        ensures has_given { OnOk result (self.new.has_given_settings ≡ self.old.has_given_settings) }
     {
         match self.copied_request()? {
             Some(asked) => {
@@ -66,6 +67,7 @@ impl Driver {
         ensures state { OnOk result (self.new.state ≡ record self.old.state { is_open = self.new.inbox.transport.is_open }) }
         ensures queue { OnOk result (self.new.queue ≡ self.old.queue) }
         ensures settings { OnOk result (self.new.settings ≡ self.old.settings) }
+        ensures has_given { OnOk result (self.new.has_given_settings ≡ self.old.has_given_settings) }
     {
         self.inbox.open_bi()
     }
@@ -75,6 +77,7 @@ impl Driver {
     pub fn open_session(&mut self) -> Result<Result<Option<StreamId>, DriverError>, OutOfMemory>
         ensures answer { (side : Side) (log : Log) (taken : ℕ) → Follows side self.old log taken → IfOk result (λ r. r ≡ opened_answer (is_open log) (opened_id side log (local_bi side))) }
         ensures log { (side : Side) (log : Log) (taken : ℕ) → Follows side self.old log taken → OnOk result (Follows side self.new (with_actions (opening side log (local_bi side)) log) taken) }
+        ensures has_given { OnOk result (self.new.has_given_settings ≡ self.old.has_given_settings) }
     {
         let is_open = self.is_open();
         let opened = self.open_bi()?;
@@ -92,6 +95,7 @@ impl Driver {
         ensures log { (side : Side) (log : Log) (taken : ℕ) → Follows side self.old log taken → is_open log ≡ true → (may_register log ≡ true → MayBeCalled side log (SessionEstablished id at))
             → OnOk result (Follows side self.new (registered side log id at) taken) }
         ensures further { OnOk result (is_some self.old.state.session ≡ true → self.new ≡ self.old) }
+        ensures has_given { OnOk result (self.new.has_given_settings ≡ self.old.has_given_settings) }
     {
         match self.session() {
             None => self.called(&Record::SessionEstablished(id, at)),
@@ -111,6 +115,7 @@ impl Driver {
             → OnOk result (Follows side self.new (registered side log id at) taken) }
         ensures further { OnOk result (is_some self.old.state.session ≡ true → self.new ≡ self.old) }
         ensures late { OnOk result (self.old.state.is_open ≡ false → self.new ≡ self.old) }
+        ensures has_given { OnOk result (self.new.has_given_settings ≡ self.old.has_given_settings) }
     {
         match self.result()? {
             Some(error) => Ok(Err(error)),

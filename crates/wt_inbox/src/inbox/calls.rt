@@ -1,5 +1,5 @@
 //! Turns of the transport, and what goes out.
-ghost use Rattle.std.specs.Prelude.{◌≡◌, ◌==◌, ◌∷◌, ◌&&◌, ℕ, List, Bool, [], IfOk, IsTrue, OnErr, OnOk, length, min, not, false, true};
+ghost use Rattle.std.specs.Prelude.{◌≡◌, ◌==◌, ◌≤◌, ◌+◌, ◌∷◌, ◌&&◌, ℕ, List, Bool, [], Some, IfOk, IsTrue, OnErr, OnOk, length, min, not, false, true};
 ghost use Rattle.wt_turn.specs.Log.{Called, Log, PrioritySet, Sent, with_actions};
 ghost use Rattle.wt_turn.specs.declared.action.Action.{Action};
 ghost use Rattle.wt_wire.specs.declared.side.Side.{Side};
@@ -7,10 +7,10 @@ ghost use Rattle.wt_seam_spec.specs.Arrivals.{log_turn};
 ghost use Rattle.wt_seam_spec.specs.Joined.{joined, newest_first};
 ghost use Rattle.wt_seam_spec.specs.Outgoing.{credit_left, if_open, opened_id, opening, reset_entry, sending};
 ghost use Rattle.wt_seam_spec.specs.Streams.{local_bi, local_uni};
-ghost use Rattle.wt_seam.specs.Step.{after_bytes, after_close, after_dial, after_finish, after_give_up, after_opening, after_priority, after_reset, after_send, after_stop, after_turn, can_receive_now, can_send_now, covered_now, fits_now, may_receive_now, may_send_now, opened_id_now, with_action};
+ghost use Rattle.wt_seam.specs.Step.{after_bytes, after_close, after_consume, after_dial, after_finish, after_give_up, after_opening, after_priority, after_reset, after_send, after_stop, after_turn, can_receive_now, can_send_now, covered_now, fits_now, may_receive_now, may_send_now, opened_id_now, unread_now, with_action};
 ghost use Rattle.wt_inbox.specs.Quiet.{quiet};
 ghost use Rattle.wt_inbox.specs.State.{SameAt, with_transport};
-ghost use Rattle.wt_inbox.specs.Stage.{Refines, Stage, with_stage};
+ghost use Rattle.wt_inbox.specs.Stage.{Refines, Stage, body_offset, with_stage};
 
 use super::Inbox;
 use wt_turn::action::{Action, Actions};
@@ -169,5 +169,16 @@ impl Inbox {
         ensures log { (side : Side) (log : Log) (stage : ℕ → Stage) (untaken : List Action) → Refines side self.old log stage untaken → Refines side self.new log (with_stage stage id Stage.GivenUp) untaken }
     {
         self.transport.give_up(id);
+    }
+
+    /// Reads so many bytes of a stream.
+    pub fn consume(&mut self, id: StreamId, count: usize)
+        requires { count ≤ length (unread_now self.old.transport id) }
+        ensures now { self.new ≡ with_transport self.old (after_consume self.old.transport id count) }
+        ensures others { (k : ℕ) → (id == k) ≡ false → SameAt self.old self.new k }
+        ensures quiet { quiet self.new.transport ≡ quiet self.old.transport }
+        ensures log { (side : Side) (log : Log) (stage : ℕ → Stage) (untaken : List Action) → Refines side self.old log stage untaken → (offset : ℕ) → body_offset (stage id) ≡ Some offset → Refines side self.new log (with_stage stage id (Stage.Body (offset + count))) untaken }
+    {
+        self.transport.consume(id, count);
     }
 }

@@ -5,11 +5,11 @@ ghost use Rattle.wt_turn.specs.declared.action.Action.{Action};
 ghost use Rattle.wt_wire.specs.declared.side.Side.{Side};
 ghost use Rattle.wt_message.specs.FixedBytes.{local_control_bytes};
 ghost use Rattle.wt_seam_spec.specs.Streams.{can_receive, can_send, contents, local_uni, peer_bi, peer_count, peer_uni};
-ghost use Rattle.wt_seam_spec.specs.Reports.{credit, datagram_fact, end_of, is_acknowledged, is_connected, loss_of, stop_of, unis_allowed};
-ghost use Rattle.wt_seam_spec.specs.Sent.{is_finished, is_reset, sent_on};
+ghost use Rattle.wt_seam_spec.specs.Reports.{credit, datagram_fact, end_of, is_connected, loss_of, stop_of, unis_allowed};
+ghost use Rattle.wt_seam_spec.specs.Sent.{sent_on};
 ghost use Rattle.wt_seam_spec.specs.Arrivals.{fits};
 ghost use Rattle.wt_seam_spec.specs.Outgoing.{may_send};
-ghost use Rattle.wt_seam.specs.Step.{can_receive_now, can_send_now, credit_now, end_now, fits_now, is_acknowledged_now, is_finished_now, is_reset_now, may_receive_now, may_send_now, sent_now, stop_now, unread_now};
+ghost use Rattle.wt_seam.specs.Step.{can_receive_now, can_send_now, credit_now, end_now, fits_now, may_receive_now, may_send_now, sent_now, stop_now, unread_now};
 ghost use Rattle.wt_inbox.specs.State.{control_credit_now, control_stopped_now, may_open_uni_now, peer_bis_now, peer_unis_now, ready_now};
 ghost use Rattle.wt_inbox.specs.Stage.{Refines, Stage, body_offset};
 
@@ -145,30 +145,6 @@ impl Inbox {
         ensures log { (side : Side) (log : Log) (stage : ℕ → Stage) (untaken : List Action) → Refines side self.now log stage untaken → result ≡ stop_of (events_of log) id }
     {
         self.transport.stop_code(id)
-    }
-
-    /// Whether this end finished its half (RFC 9000, section 3.1).
-    pub fn is_finished(&self, id: StreamId) -> bool
-        ensures now { result ≡ is_finished_now self.now.transport id }
-        ensures log { (side : Side) (log : Log) (stage : ℕ → Stage) (untaken : List Action) → Refines side self.now log stage untaken → result ≡ is_finished (actions_of log) id }
-    {
-        self.transport.is_finished(id)
-    }
-
-    /// Whether this end reset its half (RFC 9000, section 3.1).
-    pub fn is_reset(&self, id: StreamId) -> bool
-        ensures now { result ≡ is_reset_now self.now.transport id }
-        ensures log { (side : Side) (log : Log) (stage : ℕ → Stage) (untaken : List Action) → Refines side self.now log stage untaken → result ≡ is_reset log id }
-    {
-        self.transport.is_reset(id)
-    }
-
-    /// Whether all of this end's finished half was acknowledged (RFC 9000, section 3.1).
-    pub fn is_acknowledged(&self, id: StreamId) -> bool
-        ensures now { result ≡ is_acknowledged_now self.now.transport id }
-        ensures log { (side : Side) (log : Log) (stage : ℕ → Stage) (untaken : List Action) → Refines side self.now log stage untaken → result ≡ is_acknowledged (events_of log) id }
-    {
-        self.transport.is_acknowledged(id)
     }
 
     /// How many unidirectional streams the peer opened.

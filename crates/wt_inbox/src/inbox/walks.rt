@@ -1,5 +1,5 @@
 //! What streams say: verdicts of headers, responses, the control stream, the end of a session.
-ghost use Rattle.std.specs.Prelude.{◌≡◌, ◌==◌, ℕ, List, Bool, [], Some, None, IfOk, OnOk, drop, false, true};
+ghost use Rattle.std.specs.Prelude.{◌≡◌, ◌==◌, ◌+◌, ◌-◌, ℕ, List, Bool, [], Some, None, IfOk, OnOk, drop, false, if◌then◌else◌, true};
 ghost use Rattle.wt_turn.specs.Log.{Log, events_of};
 ghost use Rattle.wt_turn.specs.declared.action.Action.{Action};
 ghost use Rattle.wt_wire.specs.declared.side.Side.{Side};
@@ -12,10 +12,10 @@ ghost use Rattle.wt_proto.specs.SessionWalk.{is_over, session_unfinished, sessio
 ghost use Rattle.wt_proto.specs.ResponseWalk.{is_answered, response_unfinished, response_walk_of};
 ghost use Rattle.wt_seam_spec.specs.Streams.{contents};
 ghost use Rattle.wt_seam_spec.specs.Reports.{end_of};
-ghost use Rattle.wt_inbox.specs.Kept.{reading_of};
+ghost use Rattle.wt_inbox.specs.Kept.{is_kept, reading_of};
 ghost use Rattle.wt_inbox.specs.Moves.{BiPulled, BiTaken, ControlPulled, ResponsePulled, ResponseTaken, SessionPulled, SessionTaken, UniPulled, UniTaken};
 ghost use Rattle.wt_inbox.specs.Quiet.{quiet};
-ghost use Rattle.wt_inbox.specs.State.{SameAt, bi_verdict_now, control_now, is_over_by_bytes, response_now, session_now, uni_verdict_now};
+ghost use Rattle.wt_inbox.specs.State.{SameAt, bi_verdict_now, control_now, is_over_by_bytes, readers_now, response_now, session_now, uni_verdict_now};
 ghost use Rattle.wt_inbox.specs.Stage.{Refines, Stage, awaits_bi, awaits_response, awaits_uni, control_offset, session_offset, stage_from, verdict_offset, with_stage};
 ghost use Rattle.wt_proto.specs.ResponseWalk.{response_offset};
 
@@ -40,6 +40,8 @@ impl Inbox {
         ensures same { OnOk result ((k : ℕ) → uni_verdict_now self.new k ≡ uni_verdict_now self.old k) }
         ensures others { OnOk result ((k : ℕ) → (id == k) ≡ false → SameAt self.old self.new k) }
         ensures quiet { OnOk result (quiet self.new.transport ≡ quiet self.old.transport) }
+        ensures kept { OnOk result (is_kept self.new.unis id ≡ true) }
+        ensures readers { OnOk result (readers_now self.new ≡ (if is_kept self.old.unis id then readers_now self.old else readers_now self.old + 1)) }
         ensures log_answer { (side : Side) (log : Log) (stage : ℕ → Stage) (untaken : List Action) → Refines side self.old log stage untaken → awaits_uni (stage id) ≡ true → IfOk result (λ so. so ≡ is_final (uni_verdict_of (contents log id) (end_of (events_of log) id))) }
         ensures log { (side : Side) (log : Log) (stage : ℕ → Stage) (untaken : List Action) → Refines side self.old log stage untaken → awaits_uni (stage id) ≡ true → OnOk result (Refines side self.new log (with_stage stage id Stage.UniHeader) untaken) }
     {
@@ -53,6 +55,8 @@ impl Inbox {
         ensures now { IfOk result (λ outcome. outcome ≡ uni_verdict_now self.old id) }
         ensures others { OnOk result ((k : ℕ) → (id == k) ≡ false → SameAt self.old self.new k) }
         ensures quiet { OnOk result (quiet self.new.transport ≡ quiet self.old.transport) }
+        ensures gone { OnOk result (is_kept self.new.unis id ≡ false) }
+        ensures readers { OnOk result (readers_now self.new ≡ (if is_kept self.old.unis id then readers_now self.old - 1 else readers_now self.old)) }
         ensures log_answer { (side : Side) (log : Log) (stage : ℕ → Stage) (untaken : List Action) → Refines side self.old log stage untaken → awaits_uni (stage id) ≡ true → IfOk result (λ outcome. outcome ≡ uni_verdict_of (contents log id) (end_of (events_of log) id)) }
         ensures log { (side : Side) (log : Log) (stage : ℕ → Stage) (untaken : List Action) → Refines side self.old log stage untaken → awaits_uni (stage id) ≡ true → OnOk result (Refines side self.new log (with_stage stage id (stage_from (verdict_offset (uni_verdict_of (contents log id) (end_of (events_of log) id))))) untaken) }
     {
@@ -68,6 +72,8 @@ impl Inbox {
         ensures same { OnOk result ((k : ℕ) → bi_verdict_now self.new k ≡ bi_verdict_now self.old k) }
         ensures others { OnOk result ((k : ℕ) → (id == k) ≡ false → SameAt self.old self.new k) }
         ensures quiet { OnOk result (quiet self.new.transport ≡ quiet self.old.transport) }
+        ensures kept { OnOk result (is_kept self.new.bis id ≡ true) }
+        ensures readers { OnOk result (readers_now self.new ≡ (if is_kept self.old.bis id then readers_now self.old else readers_now self.old + 1)) }
         ensures log_answer { (side : Side) (log : Log) (stage : ℕ → Stage) (untaken : List Action) → Refines side self.old log stage untaken → awaits_bi (stage id) ≡ true → IfOk result (λ so. so ≡ is_final (bi_verdict_of (contents log id) (end_of (events_of log) id))) }
         ensures log { (side : Side) (log : Log) (stage : ℕ → Stage) (untaken : List Action) → Refines side self.old log stage untaken → awaits_bi (stage id) ≡ true → OnOk result (Refines side self.new log (with_stage stage id Stage.BiHeader) untaken) }
     {
@@ -81,6 +87,8 @@ impl Inbox {
         ensures now { IfOk result (λ outcome. outcome ≡ bi_verdict_now self.old id) }
         ensures others { OnOk result ((k : ℕ) → (id == k) ≡ false → SameAt self.old self.new k) }
         ensures quiet { OnOk result (quiet self.new.transport ≡ quiet self.old.transport) }
+        ensures gone { OnOk result (is_kept self.new.bis id ≡ false) }
+        ensures readers { OnOk result (readers_now self.new ≡ (if is_kept self.old.bis id then readers_now self.old - 1 else readers_now self.old)) }
         ensures log_answer { (side : Side) (log : Log) (stage : ℕ → Stage) (untaken : List Action) → Refines side self.old log stage untaken → awaits_bi (stage id) ≡ true → IfOk result (λ outcome. outcome ≡ bi_verdict_of (contents log id) (end_of (events_of log) id)) }
         ensures log { (side : Side) (log : Log) (stage : ℕ → Stage) (untaken : List Action) → Refines side self.old log stage untaken → awaits_bi (stage id) ≡ true → OnOk result (Refines side self.new log (with_stage stage id (stage_from (verdict_offset (bi_verdict_of (contents log id) (end_of (events_of log) id))))) untaken) }
     {
@@ -96,6 +104,8 @@ impl Inbox {
         ensures same { OnOk result ((k : ℕ) → response_now self.new k ≡ response_now self.old k) }
         ensures others { OnOk result ((k : ℕ) → (id == k) ≡ false → SameAt self.old self.new k) }
         ensures quiet { OnOk result (quiet self.new.transport ≡ quiet self.old.transport) }
+        ensures kept { OnOk result (is_kept self.new.responses id ≡ true) }
+        ensures readers { OnOk result (readers_now self.new ≡ (if is_kept self.old.responses id then readers_now self.old else readers_now self.old + 1)) }
         ensures log_answer { (side : Side) (log : Log) (stage : ℕ → Stage) (untaken : List Action) → Refines side self.old log stage untaken → awaits_response (stage id) ≡ true → IfOk result (λ so. so ≡ is_answered (response_walk_of (contents log id) (end_of (events_of log) id))) }
         ensures log { (side : Side) (log : Log) (stage : ℕ → Stage) (untaken : List Action) → Refines side self.old log stage untaken → awaits_response (stage id) ≡ true → OnOk result (Refines side self.new log (with_stage stage id Stage.ResponseHead) untaken) }
     {
@@ -110,6 +120,8 @@ impl Inbox {
         ensures same { OnOk result ((k : ℕ) → response_now self.new k ≡ response_now self.old k) }
         ensures others { OnOk result ((k : ℕ) → (id == k) ≡ false → SameAt self.old self.new k) }
         ensures quiet { OnOk result (quiet self.new.transport ≡ quiet self.old.transport) }
+        ensures kept { OnOk result (is_kept self.new.responses id ≡ true) }
+        ensures readers { OnOk result (readers_now self.new ≡ (if is_kept self.old.responses id then readers_now self.old else readers_now self.old + 1)) }
         ensures log_answer { (side : Side) (log : Log) (stage : ℕ → Stage) (untaken : List Action) → Refines side self.old log stage untaken → awaits_response (stage id) ≡ true → IfOk result (λ outcome. outcome ≡ response_walk_of (contents log id) (end_of (events_of log) id)) }
         ensures log { (side : Side) (log : Log) (stage : ℕ → Stage) (untaken : List Action) → Refines side self.old log stage untaken → awaits_response (stage id) ≡ true → OnOk result (Refines side self.new log (with_stage stage id Stage.ResponseHead) untaken) }
     {
@@ -123,6 +135,8 @@ impl Inbox {
         ensures now { IfOk result (λ outcome. outcome ≡ response_now self.old id) }
         ensures others { OnOk result ((k : ℕ) → (id == k) ≡ false → SameAt self.old self.new k) }
         ensures quiet { OnOk result (quiet self.new.transport ≡ quiet self.old.transport) }
+        ensures gone { OnOk result (is_kept self.new.responses id ≡ false) }
+        ensures readers { OnOk result (readers_now self.new ≡ (if is_kept self.old.responses id then readers_now self.old - 1 else readers_now self.old)) }
         ensures log_answer { (side : Side) (log : Log) (stage : ℕ → Stage) (untaken : List Action) → Refines side self.old log stage untaken → awaits_response (stage id) ≡ true → IfOk result (λ outcome. outcome ≡ response_walk_of (contents log id) (end_of (events_of log) id)) }
         ensures log { (side : Side) (log : Log) (stage : ℕ → Stage) (untaken : List Action) → Refines side self.old log stage untaken → awaits_response (stage id) ≡ true → OnOk result (Refines side self.new log (with_stage stage id (stage_from (response_offset (response_walk_of (contents log id) (end_of (events_of log) id))))) untaken) }
     {
@@ -138,6 +152,8 @@ impl Inbox {
         ensures same { OnOk result ((k : ℕ) → control_now self.new k ≡ control_now self.old k) }
         ensures others { OnOk result ((k : ℕ) → (id == k) ≡ false → SameAt self.old self.new k) }
         ensures quiet { OnOk result (quiet self.new.transport ≡ quiet self.old.transport) }
+        ensures kept { OnOk result (is_kept self.new.controls id ≡ true) }
+        ensures readers { OnOk result (readers_now self.new ≡ (if is_kept self.old.controls id then readers_now self.old else readers_now self.old + 1)) }
         ensures log_answer { (side : Side) (log : Log) (stage : ℕ → Stage) (untaken : List Action) → Refines side self.old log stage untaken → (at : ℕ) → control_offset (stage id) ≡ Some at → IfOk result (λ walk. walk ≡ control_walk_of (drop at (contents log id)) (end_of (events_of log) id)) }
         ensures log { (side : Side) (log : Log) (stage : ℕ → Stage) (untaken : List Action) → Refines side self.old log stage untaken → (at : ℕ) → control_offset (stage id) ≡ Some at → OnOk result (Refines side self.new log (with_stage stage id (Stage.ControlBody at)) untaken) }
     {
@@ -154,6 +170,8 @@ impl Inbox {
         ensures same_over { OnOk result ((k : ℕ) → is_over_by_bytes self.new k ≡ is_over_by_bytes self.old k) }
         ensures others { OnOk result ((k : ℕ) → (id == k) ≡ false → SameAt self.old self.new k) }
         ensures quiet { OnOk result (quiet self.new.transport ≡ quiet self.old.transport) }
+        ensures kept { OnOk result (is_kept self.new.sessions id ≡ true) }
+        ensures readers { OnOk result (readers_now self.new ≡ (if is_kept self.old.sessions id then readers_now self.old else readers_now self.old + 1)) }
         ensures log_answer { (side : Side) (log : Log) (stage : ℕ → Stage) (untaken : List Action) → Refines side self.old log stage untaken → (at : ℕ) → session_offset (stage id) ≡ Some at → IfOk result (λ so. so ≡ is_over (session_walk_of (drop at (contents log id)) (end_of (events_of log) id))) }
         ensures log { (side : Side) (log : Log) (stage : ℕ → Stage) (untaken : List Action) → Refines side self.old log stage untaken → (at : ℕ) → session_offset (stage id) ≡ Some at → OnOk result (Refines side self.new log (with_stage stage id (Stage.SessionBody at)) untaken) }
     {
@@ -166,6 +184,8 @@ impl Inbox {
         ensures now { IfOk result (λ end. (end.0 ≡ session_now self.old id) × (end.1 ≡ is_over_by_bytes self.old id)) }
         ensures others { OnOk result ((k : ℕ) → (id == k) ≡ false → SameAt self.old self.new k) }
         ensures quiet { OnOk result (quiet self.new.transport ≡ quiet self.old.transport) }
+        ensures gone { OnOk result (is_kept self.new.sessions id ≡ false) }
+        ensures readers { OnOk result (readers_now self.new ≡ (if is_kept self.old.sessions id then readers_now self.old - 1 else readers_now self.old)) }
         ensures log_answer { (side : Side) (log : Log) (stage : ℕ → Stage) (untaken : List Action) → Refines side self.old log stage untaken → (at : ℕ) → session_offset (stage id) ≡ Some at → IfOk result (λ end. (end.0 ≡ session_walk_of (drop at (contents log id)) (end_of (events_of log) id)) × (end.1 ≡ is_over (session_walk_of (drop at (contents log id)) Running))) }
         ensures log { (side : Side) (log : Log) (stage : ℕ → Stage) (untaken : List Action) → Refines side self.old log stage untaken → (at : ℕ) → session_offset (stage id) ≡ Some at → OnOk result (Refines side self.new log (with_stage stage id Stage.Anywhere) untaken) }
     {

@@ -1,7 +1,8 @@
 use Rattle.std.proofs.Common.{◌≡◌, IfOk, refl, rules, subst, sym, w32}
 use Rattle.std.proofs.Math.Facts.{to_z-of_z}
 use Rattle.std.specs.Prelude.{FitsSigned, ℤ}
-use Rattle.wt_plan.specs.DriverAnswers.{answers_now, requests_now}
+use Rattle.wt_plan.specs.DriverAnswers.{answers_now}
+use Rattle.wt_driver_spec.specs.DriverState.{requests_now}
 use Rattle.wt_plan.specs.FactsNow.{facts_now}
 use Rattle.wt_plan.specs.Planned.{planned}
 use Rattle.wt_plan.specs.Tells.{session_now}

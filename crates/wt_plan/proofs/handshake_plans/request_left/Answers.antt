@@ -6,13 +6,13 @@ use Rattle.wt_session_spec.specs.Plan.{Plan}
 use Rattle.wt_turn.specs.declared.action.Action.{Action}
 use Rattle.wt_session_spec.specs.HandshakePlans.{HeadProgress, actions_of_head, head_actions, head_progress, progress_of, request_sent, response_read}
 use Rattle.wt_spec.specs.Effect.{is_empty}
-use Rattle.wt_plan.specs.FactsNow.{DriverFacts, facts_now, sending_now}
+use Rattle.wt_plan.specs.FactsNow.{DriverAnswers, facts_now, sending_now}
 use Rattle.wt_plan.specs.Heads.{progress_as}
 use Rattle.wt_plan.specs.Planned.{planned}
 use Rattle.wt_plan.proofs.handshake_plans.request_left.Goals as goal
 
 -- the request, of which something is left
-abbrev request_left_by : TransportState → DriverFacts → ℕ → List Action → List ℕ → Plan
+abbrev request_left_by : TransportState → DriverAnswers → ℕ → List Action → List ℕ → Plan
 request_left_by t d id own left = request_sent (progress_of (facts_now t d) id left) (facts_now t d) id own (actions_of_head (facts_now t d) id left)
 
 pub returns-then-is_empty : goal.returns-then-is_empty

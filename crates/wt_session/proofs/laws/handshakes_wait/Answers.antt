@@ -1,5 +1,11 @@
-use Rattle.wt_session.proofs.Stays.{connect-stays, request-stays, response-stays}
+use Rattle.wt_session.proofs.Stays.{connect-stays, request-stays, response-stays, wait-starts, wait-stays}
 use Rattle.wt_session.proofs.laws.handshakes_wait.Goals as goal
+
+pub returns-clause-starts : goal.returns-clause-starts
+returns-clause-starts c = λ turn l. wait-starts turn l
+
+pub returns-clause-wait : goal.returns-clause-wait
+returns-clause-wait c = λ side log turn l n m. wait-stays side log turn n l m
 
 pub returns-clause-request : goal.returns-clause-request
 returns-clause-request c = λ side log turn request r l n u. request-stays side log turn n r l request u

@@ -1,11 +1,15 @@
 use Rattle.std.proofs.Common.{◌≡◌, [], length, take}
+use Rattle.wt_driver_spec.specs.Dequeued.{StreamsDequeued}
 use Rattle.wt_laws.specs.Datagrams.{DatagramTold}
 use Rattle.wt_laws.specs.Ended.{EndingGoesOut}
 use Rattle.wt_laws.specs.GivenOnce.{GivenOnce}
 use Rattle.wt_laws.specs.Laws.{DatagramsInOrder, HeadersOut, NothingAfterEnd, OneSession, OpenExactly, ReadsFromStart, ReadsInOrder, ReplyHasCause, RequestTold, SendsAll, SendsEnd, SendsInOrder, SessionStreamOut, SessionTold, SessionsRightly, SettingsOut, StreamsAcceptedRightly, TakenGoesOut, WithinCredit}
+use Rattle.wt_laws.specs.LeavesRecord.{LeavesRecord}
 use Rattle.wt_laws.specs.Left.{PendingExactly}
+use Rattle.wt_laws.specs.OpenedInOrder.{OpenedInOrder}
 use Rattle.wt_laws.specs.Reachable.{AllLawful}
 use Rattle.wt_laws.specs.Runs.{DoneAtOnce}
+use Rattle.wt_laws.specs.Telling.{TellingArrives}
 use Rattle.wt_laws.specs.TurnCauses.{ActionsWentOut, EntriesHaveCauses, ReplyIsRecorded}
 use Rattle.wt_spec.specs.Answers.{answers_to}
 use Rattle.wt_trace.proofs.LawsHold.{laws}
@@ -89,6 +93,12 @@ returns-clause-actions c = answered c.args.side c.args.turns.now _ (Throughout c
 pub returns-clause-entries : goal.returns-clause-entries
 returns-clause-entries c = answered c.args.side c.args.turns.now _ (AtEachTurn c.args.side (EntriesHaveCauses c.args.side) c.args.turns.now) c.run_turns.ensures.trace (laws c.args.side c.args.turns.now).entries
 
+pub returns-clause-telling : goal.returns-clause-telling
+returns-clause-telling c = answered c.args.side c.args.turns.now _ (AtEachTurn c.args.side (TellingArrives c.args.side) c.args.turns.now) c.run_turns.ensures.trace (laws c.args.side c.args.turns.now).telling
+
+pub returns-clause-left : goal.returns-clause-left
+returns-clause-left c = answered c.args.side c.args.turns.now _ (AtEachTurn c.args.side (LeavesRecord c.args.side) c.args.turns.now) c.run_turns.ensures.trace (laws c.args.side c.args.turns.now).left
+
 pub returns-clause-events : goal.returns-clause-events
 returns-clause-events c = answered c.args.side c.args.turns.now _ (AtEachTurn c.args.side (DoneAtOnce c.args.side) c.args.turns.now) c.run_turns.ensures.trace (laws c.args.side c.args.turns.now).events
 
@@ -103,6 +113,9 @@ returns-clause-endings c = answered c.args.side c.args.turns.now _ (AtEachTurn c
 
 pub returns-clause-driver : goal.returns-clause-driver
 returns-clause-driver c = answered c.args.side c.args.turns.now _ (Throughout c.args.side (DriverIsRead c.args.side) c.args.turns.now) c.run_turns.ensures.trace (laws c.args.side c.args.turns.now).driver
+
+pub returns-clause-dequeued : goal.returns-clause-dequeued
+returns-clause-dequeued c = answered c.args.side c.args.turns.now _ (Throughout c.args.side (StreamsDequeued c.args.side) c.args.turns.now) c.run_turns.ensures.trace (laws c.args.side c.args.turns.now).dequeued
 
 pub returns-clause-result_stays : goal.returns-clause-result_stays
 returns-clause-result_stays c = answered c.args.side c.args.turns.now _ (AtEachTurn c.args.side (ResultStaysAfterEnd c.args.side) c.args.turns.now) c.run_turns.ensures.trace (laws c.args.side c.args.turns.now).result_stays
@@ -145,6 +158,9 @@ returns-clause-credit c = answered c.args.side c.args.turns.now _ (Throughout c.
 
 pub returns-clause-taken : goal.returns-clause-taken
 returns-clause-taken c = answered c.args.side c.args.turns.now _ (Throughout c.args.side (TakenGoesOut c.args.side) c.args.turns.now) c.run_turns.ensures.trace (laws c.args.side c.args.turns.now).taken
+
+pub returns-clause-opened_in_order : goal.returns-clause-opened_in_order
+returns-clause-opened_in_order c = answered c.args.side c.args.turns.now _ (Throughout c.args.side OpenedInOrder c.args.turns.now) c.run_turns.ensures.trace (laws c.args.side c.args.turns.now).opened_in_order
 
 pub returns-clause-cutting : goal.returns-clause-cutting
 returns-clause-cutting c = answered c.args.side c.args.turns.now _ (MayBeCut c.args.side c.args.turns.now) c.run_turns.ensures.trace (laws c.args.side c.args.turns.now).cutting

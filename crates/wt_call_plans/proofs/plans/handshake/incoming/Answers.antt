@@ -1,5 +1,6 @@
 use Rattle.std.proofs.Common.{◌∙◌, sym}
-use Rattle.wt_plan.specs.DriverAnswers.{answers_now, requests_now}
+use Rattle.wt_plan.specs.DriverAnswers.{answers_now}
+use Rattle.wt_driver_spec.specs.DriverState.{requests_now}
 use Rattle.wt_plan.specs.FactsNow.{facts_now}
 use Rattle.wt_plan.specs.Planned.{planned}
 use Rattle.wt_call_plans.proofs.Handshakes.{delivered_first, delivered_none}

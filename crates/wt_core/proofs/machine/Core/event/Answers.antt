@@ -1,5 +1,5 @@
 use Rattle.std.proofs.Common.{length}
-use Rattle.wt_core.proofs.Refining.{driver_of, fits_event, fits_lawful, fits_no_call, session_of}
+use Rattle.wt_core.proofs.Refining.{driver_of, fits_event, fits_lawful, session_of}
 use Rattle.wt_core.proofs.machine.Core.event.Goals as goal
 use Rattle.wt_turn.specs.Log.{actions_of}
 
@@ -12,4 +12,4 @@ pub returns-clause-session : goal.returns-clause-session
 returns-clause-session c = λ log r f.
     let k = c.args.self.now in
     let turn = c.args.turn.now in
-    c.note_event.ensures.log k.side log turn (session_of k _ log c.self.view_is r) r.reached (fits_no_call k.side log turn f) (fits_lawful k.side log turn f)
+    c.note_event.ensures.log k.side log turn (session_of k _ log c.self.view_is r) r.reached (fits_event k.side log turn f) (fits_lawful k.side log turn f)

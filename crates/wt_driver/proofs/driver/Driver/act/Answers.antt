@@ -3,9 +3,7 @@ use Rattle.wt_driver.proofs.Turning.{on-four}
 use Rattle.wt_driver.specs.Tie.{untaken_since}
 use Rattle.wt_driver.proofs.driver.Driver.act.Goals as goal
 
-pub returns : goal.returns
-returns c = record {
-  log = λ side log taken f may spares.
-      on-four c.put_out.result (λ r s q k. acted-follows side log c.args.action spares taken c.args.self.now c.put_out.new.self f r s q k)
-      (c.put_out.ensures.log side log f.refines.stage (untaken_since taken log) f.refines.inbox may) c.put_out.ensures.state c.put_out.ensures.queue c.put_out.ensures.settings;
-}
+pub returns-clause-log : goal.returns-clause-log
+returns-clause-log c = λ side log taken f may spares.
+    on-four c.put_out.result (λ r s q k. acted-follows side log c.args.action spares taken c.args.self.now c.put_out.new.self f r s q k)
+    (c.put_out.ensures.log side log f.refines.stage (untaken_since taken log) f.refines.inbox may) c.put_out.ensures.state c.put_out.ensures.queue c.put_out.ensures.settings

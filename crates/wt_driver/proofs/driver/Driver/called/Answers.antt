@@ -1,8 +1,11 @@
+use Rattle.std.proofs.Common.{◌∙◌}
+use Rattle.wt_driver.proofs.Moved.{on_ok}
 use Rattle.wt_turn.specs.Records.{record_of}
 use Rattle.wt_turn.specs.Log.{Called}
 use Rattle.wt_driver.proofs.driver.Driver.called.Goals as goal
 
-pub returns : goal.returns
-returns c = record {
-  log = λ side log taken f a. c.work.ensures.log side log (Called (record_of c.args.call.now)) taken (c.in_ok-note_call.ensures.log side log taken f a);
-}
+pub returns-clause-log : goal.returns-clause-log
+returns-clause-log c = λ side log taken f a. c.work.ensures.log side log (Called (record_of c.args.call.now)) taken (c.in_ok-note_call.ensures.log side log taken f a)
+
+pub returns-clause-has_given : goal.returns-clause-has_given
+returns-clause-has_given c = on_ok c.work.result (λ e. e ∙ c.in_ok-note_call.ensures.has_given) c.work.ensures.has_given

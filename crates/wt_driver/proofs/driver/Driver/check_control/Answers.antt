@@ -11,21 +11,17 @@ use Rattle.wt_spec.specs.Driver.{transport_view}
 use Rattle.wt_spec.specs.Scan.{check_control}
 use Rattle.wt_driver.proofs.driver.Driver.check_control.Goals as goal
 
-pub returns-in_ok-walk_control : goal.returns-in_ok-walk_control
-returns-in_ok-walk_control c = record {
-  log = λ side log stage untaken r w.
-      let d = c.args.self.now in
-      let m = c.in_ok-walk_control.ensures.log side log stage untaken r (subst (WalkFrom control_offset stage) (sym c.control-control.ensures) w) in
-      let kept = option_or (settings_read (transport_view side log) d.state.dispatched.control) d.settings in
-      with-settings side log untaken d c.walk_control.new.self _ _ kept _ (sym (unless-open d.state.progress.ending (λ k. option_or (settings_read (transport_view side log) d.state.dispatched.control) k) d.settings (c.goes_on-goes_on.ensures.0 c.if-goes_on.true)))
-      (open-moves side log untaken d.state.progress.ending d c.walk_control.new.self stage (control_stages d.state.dispatched.control stage) (check_control (transport_view side log) d.state.dispatched.control) kept (c.goes_on-goes_on.ensures.0 c.if-goes_on.true)
-      (subst (λ (z : Option (ℕ × ℕ)). Moves side log untaken d c.walk_control.new.self (control_stages z stage) (record d.state { progress = check_control (transport_view side log) z d.state.progress }) (option_or (settings_read (transport_view side log) z) d.settings)) c.control-control.ensures m));
-}
+pub returns-in_ok-walk_control-clause-log : goal.returns-in_ok-walk_control-clause-log
+returns-in_ok-walk_control-clause-log c = λ side log stage untaken r w.
+    let d = c.args.self.now in
+    let m = c.in_ok-walk_control.ensures.log side log stage untaken r (subst (WalkFrom control_offset stage) (sym c.control-control.ensures) w) in
+    let kept = option_or (settings_read (transport_view side log) d.state.dispatched.control) d.settings in
+    with-settings side log untaken d c.walk_control.new.self _ _ kept _ (sym (unless-open d.state.progress.ending (λ k. option_or (settings_read (transport_view side log) d.state.dispatched.control) k) d.settings (c.goes_on-goes_on.ensures.0 c.if-goes_on.true)))
+    (open-moves side log untaken d.state.progress.ending d c.walk_control.new.self stage (control_stages d.state.dispatched.control stage) (check_control (transport_view side log) d.state.dispatched.control) kept (c.goes_on-goes_on.ensures.0 c.if-goes_on.true)
+    (subst (λ (z : Option (ℕ × ℕ)). Moves side log untaken d c.walk_control.new.self (control_stages z stage) (record d.state { progress = check_control (transport_view side log) z d.state.progress }) (option_or (settings_read (transport_view side log) z) d.settings)) c.control-control.ensures m))
 
-pub returns-else-goes_on : goal.returns-else-goes_on
-returns-else-goes_on c = record {
-  log = λ side log stage untaken r w.
-      let d = c.args.self.now in
-      with-settings side log untaken d d _ _ d.settings _ (sym (unless-over d.state.progress.ending (λ k. option_or (settings_read (transport_view side log) d.state.dispatched.control) k) d.settings (λ none. true≢false (sym (c.goes_on-goes_on.ensures.1 none) ∙ c.if-goes_on.false))))
-      (ended-moves side log untaken d.state.progress.ending d stage (control_stages d.state.dispatched.control stage) (check_control (transport_view side log) d.state.dispatched.control) (λ none. true≢false (sym (c.goes_on-goes_on.ensures.1 none) ∙ c.if-goes_on.false)) r);
-}
+pub returns-else-goes_on-clause-log : goal.returns-else-goes_on-clause-log
+returns-else-goes_on-clause-log c = λ side log stage untaken r w.
+    let d = c.args.self.now in
+    with-settings side log untaken d d _ _ d.settings _ (sym (unless-over d.state.progress.ending (λ k. option_or (settings_read (transport_view side log) d.state.dispatched.control) k) d.settings (λ none. true≢false (sym (c.goes_on-goes_on.ensures.1 none) ∙ c.if-goes_on.false))))
+    (ended-moves side log untaken d.state.progress.ending d stage (control_stages d.state.dispatched.control stage) (check_control (transport_view side log) d.state.dispatched.control) (λ none. true≢false (sym (c.goes_on-goes_on.ensures.1 none) ∙ c.if-goes_on.false)) r)

@@ -5,10 +5,8 @@ use Rattle.wt_spec.specs.Driver.{transport_view}
 use Rattle.wt_spec.specs.Scan.{check_qpack, unless_ended}
 use Rattle.wt_driver.proofs.driver.Driver.check_decoder.Goals as goal
 
-pub returns : goal.returns
-returns c = record {
-  log = λ side log stage untaken r.
-      let d = c.args.self.now in
-      subst (λ (z : Option (ℕ × ℕ)). c.check_qpack.new.self ≡ with_state d (record d.state { progress = unless_ended d.state.progress.ending (check_qpack (transport_view side log) z) d.state.progress }))
-      c.decoder-decoder.ensures (c.check_qpack.ensures.log side log stage untaken r);
-}
+pub returns-clause-log : goal.returns-clause-log
+returns-clause-log c = λ side log stage untaken r.
+    let d = c.args.self.now in
+    subst (λ (z : Option (ℕ × ℕ)). c.check_qpack.new.self ≡ with_state d (record d.state { progress = unless_ended d.state.progress.ending (check_qpack (transport_view side log) z) d.state.progress }))
+    c.decoder-decoder.ensures (c.check_qpack.ensures.log side log stage untaken r)

@@ -1,11 +1,16 @@
-use Rattle.wt_driver.proofs.Acting.{closed-follows}
-use Rattle.wt_driver.proofs.Turning.{on-four}
-use Rattle.wt_driver.specs.Tie.{untaken_since}
+use Rattle.std.proofs.Common.{◌∙◌}
+use Rattle.wt_driver.proofs.Moved.{on_ok}
+use Rattle.wt_driver.proofs.AcceptUses.{may-poll}
+use Rattle.wt_seam_spec.specs.Outgoing.{if_open}
+use Rattle.wt_turn.specs.Log.{with_actions}
+use Rattle.wt_turn.specs.declared.action.Action.TheVariants as actions
 use Rattle.wt_driver.proofs.driver.Driver.close.Goals as goal
 
-pub returns : goal.returns
-returns c = record {
-  log = λ side log taken f.
-      on-four c.put_close.result (λ r s q k. closed-follows side log taken c.args.self.now c.put_close.new.self c.args.code c.args.reason f r s q k)
-      (c.put_close.ensures.log side log f.refines.stage (untaken_since taken log) f.refines.inbox) c.put_close.ensures.state c.put_close.ensures.queue c.put_close.ensures.settings;
-}
+pub returns-clause-log : goal.returns-clause-log
+returns-clause-log c = λ side log taken f.
+    let closed = with_actions (if_open log (actions.Close c.args.code c.args.reason)) log in
+    let g = c.in_ok-close_if_open.ensures.log side log taken f in
+    c.called.ensures.log side closed taken g (may-poll side closed taken c.close_if_open.new.self g)
+
+pub returns-clause-has_given : goal.returns-clause-has_given
+returns-clause-has_given c = on_ok c.called.result (λ e. e ∙ c.in_ok-close_if_open.ensures.has_given) c.called.ensures.has_given

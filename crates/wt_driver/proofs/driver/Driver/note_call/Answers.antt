@@ -10,81 +10,59 @@ use Rattle.wt_turn.specs.declared.record.Record.TheVariants as records
 use Rattle.wt_turn.specs.Log.{Called, PrioritySet, ResetUnsent}
 use Rattle.wt_driver.proofs.driver.Driver.note_call.Goals as goal
 
-pub returns-in-RequestDelivered : goal.returns-in-RequestDelivered
-returns-in-RequestDelivered c = record {
-  log = λ side log taken f.
-      of-shape side log taken c.args.self.now f.refines.stage c.deliver.new.self c.args.call.now (records.RequestDelivered c.in-RequestDelivered.id) c.in-RequestDelivered.is
-      (λ a. delivered-taken side log taken c.args.self.now f c.deliver.new.self c.in-RequestDelivered.id c.deliver.ensures a);
-}
+pub returns-in-RequestDelivered-clause-log : goal.returns-in-RequestDelivered-clause-log
+returns-in-RequestDelivered-clause-log c = λ side log taken f.
+    of-shape side log taken c.args.self.now f.refines.stage c.deliver.new.self c.args.call.now (records.RequestDelivered c.in-RequestDelivered.id) c.in-RequestDelivered.is
+    (λ a. delivered-taken side log taken c.args.self.now f c.deliver.new.self c.in-RequestDelivered.id c.deliver.ensures a)
 
-pub returns-in_ok-establish-in-SessionEstablished : goal.returns-in_ok-establish-in-SessionEstablished
-returns-in_ok-establish-in-SessionEstablished c = record {
-  log = λ side log taken f.
-      let e = c.in_ok-establish-in-SessionEstablished.ensures in
-      of-shape side log taken c.args.self.now f.refines.stage c.establish.new.self c.args.call.now (records.SessionEstablished c.in-SessionEstablished.id c.in-SessionEstablished.at) c.in-SessionEstablished.is
-      (λ a. established-taken side log taken c.args.self.now f c.establish.new.self c.in-SessionEstablished.id c.in-SessionEstablished.at e.client e.server e.state e.queue e.settings a);
-}
+pub returns-in_ok-establish-in-SessionEstablished-clause-log : goal.returns-in_ok-establish-in-SessionEstablished-clause-log
+returns-in_ok-establish-in-SessionEstablished-clause-log c = λ side log taken f.
+    let e = c.in_ok-establish-in-SessionEstablished.ensures in
+    of-shape side log taken c.args.self.now f.refines.stage c.establish.new.self c.args.call.now (records.SessionEstablished c.in-SessionEstablished.id c.in-SessionEstablished.at) c.in-SessionEstablished.is
+    (λ a. established-taken side log taken c.args.self.now f c.establish.new.self c.in-SessionEstablished.id c.in-SessionEstablished.at e.client e.server e.state e.queue e.settings a)
 
-pub returns-in-StreamAccepted : goal.returns-in-StreamAccepted
-returns-in-StreamAccepted c = record {
-  log = λ side log taken f.
-      of-shape side log taken c.args.self.now f.refines.stage c.release.new.self c.args.call.now (records.StreamAccepted c.in-StreamAccepted.id) c.in-StreamAccepted.is
-      (λ a. accepted-taken side log taken c.args.self.now f c.release.new.self c.in-StreamAccepted.id c.release.ensures.release a);
-}
+pub returns-in-StreamAccepted-clause-log : goal.returns-in-StreamAccepted-clause-log
+returns-in-StreamAccepted-clause-log c = λ side log taken f.
+    of-shape side log taken c.args.self.now f.refines.stage c.release.new.self c.args.call.now (records.StreamAccepted c.in-StreamAccepted.id) c.in-StreamAccepted.is
+    (λ a. accepted-taken side log taken c.args.self.now f c.release.new.self c.in-StreamAccepted.id c.release.ensures.release a)
 
-pub returns-in-StreamPassed : goal.returns-in-StreamPassed
-returns-in-StreamPassed c = record {
-  log = λ side log taken f.
-      of-shape side log taken c.args.self.now f.refines.stage c.pass.new.self c.args.call.now (records.StreamPassed c.in-StreamPassed.id) c.in-StreamPassed.is
-      (λ a. passed-taken side log taken c.args.self.now f c.pass.new.self c.in-StreamPassed.id (c.pass.ensures.log side log f.refines.stage (untaken_since taken log) f.refines.inbox) c.pass.ensures.state c.pass.ensures.queue c.pass.ensures.settings a);
-}
+pub returns-in-StreamPassed-clause-log : goal.returns-in-StreamPassed-clause-log
+returns-in-StreamPassed-clause-log c = λ side log taken f.
+    of-shape side log taken c.args.self.now f.refines.stage c.pass.new.self c.args.call.now (records.StreamPassed c.in-StreamPassed.id) c.in-StreamPassed.is
+    (λ a. passed-taken side log taken c.args.self.now f c.pass.new.self c.in-StreamPassed.id (c.pass.ensures.log side log f.refines.stage (untaken_since taken log) f.refines.inbox) c.pass.ensures.state c.pass.ensures.queue c.pass.ensures.settings a)
 
-pub returns-in-BytesRead : goal.returns-in-BytesRead
-returns-in-BytesRead c = record {
-  log = λ side log taken f.
-      of-shape side log taken c.args.self.now f.refines.stage c.consume.new.self c.args.call.now (records.BytesRead c.in-BytesRead.id c.in-BytesRead.count) c.in-BytesRead.is
-      (λ a. read-taken side log taken c.args.self.now f c.consume.new.self c.in-BytesRead.id c.in-BytesRead.count (λ offset e le. c.consume.ensures.log side log f.refines.stage (untaken_since taken log) offset f.refines.inbox e le) c.consume.ensures.state c.consume.ensures.queue c.consume.ensures.settings a);
-}
+pub returns-in-BytesRead-clause-log : goal.returns-in-BytesRead-clause-log
+returns-in-BytesRead-clause-log c = λ side log taken f.
+    of-shape side log taken c.args.self.now f.refines.stage c.consume.new.self c.args.call.now (records.BytesRead c.in-BytesRead.id c.in-BytesRead.count) c.in-BytesRead.is
+    (λ a. read-taken side log taken c.args.self.now f c.consume.new.self c.in-BytesRead.id c.in-BytesRead.count (λ offset e le. c.consume.ensures.log side log f.refines.stage (untaken_since taken log) offset f.refines.inbox e le) c.consume.ensures.state c.consume.ensures.queue c.consume.ensures.settings a)
 
-pub returns-in-StreamGivenUp : goal.returns-in-StreamGivenUp
-returns-in-StreamGivenUp c = record {
-  log = λ side log taken f.
-      of-shape side log taken c.args.self.now f.refines.stage c.give_up.new.self c.args.call.now (records.StreamGivenUp c.in-StreamGivenUp.id) c.in-StreamGivenUp.is
-      (λ a. given-up-taken side log taken c.args.self.now f c.give_up.new.self c.in-StreamGivenUp.id (c.give_up.ensures.log side log f.refines.stage (untaken_since taken log) f.refines.inbox) c.give_up.ensures.state c.give_up.ensures.queue c.give_up.ensures.settings a);
-}
+pub returns-in-StreamGivenUp-clause-log : goal.returns-in-StreamGivenUp-clause-log
+returns-in-StreamGivenUp-clause-log c = λ side log taken f.
+    of-shape side log taken c.args.self.now f.refines.stage c.give_up.new.self c.args.call.now (records.StreamGivenUp c.in-StreamGivenUp.id) c.in-StreamGivenUp.is
+    (λ a. given-up-taken side log taken c.args.self.now f c.give_up.new.self c.in-StreamGivenUp.id (c.give_up.ensures.log side log f.refines.stage (untaken_since taken log) f.refines.inbox) c.give_up.ensures.state c.give_up.ensures.queue c.give_up.ensures.settings a)
 
-pub returns-in-PrioritySet : goal.returns-in-PrioritySet
-returns-in-PrioritySet c = record {
-  log = λ side log taken f.
-      let fit : FitsSigned w32 c.in-PrioritySet.priority = search rules in
-      of-shape side log taken c.args.self.now f.refines.stage c.set_priority.new.self c.args.call.now (records.PrioritySet c.in-PrioritySet.id c.in-PrioritySet.priority) c.in-PrioritySet.is
-      (λ a. told-taken side log taken c.args.self.now f c.set_priority.new.self (PrioritySet c.in-PrioritySet.id c.in-PrioritySet.priority) refl refl refl
-      (subst (λ (p : ℤ). Refines side c.set_priority.new.self.inbox (Called (PrioritySet c.in-PrioritySet.id p) ∷ log) f.refines.stage (untaken_since taken log)) (to_z-of_z fit)
-      (c.set_priority.ensures.log side log f.refines.stage (untaken_since taken log) f.refines.inbox a.half)) c.set_priority.ensures.state c.set_priority.ensures.queue c.set_priority.ensures.settings a);
-}
+pub returns-in-PrioritySet-clause-log : goal.returns-in-PrioritySet-clause-log
+returns-in-PrioritySet-clause-log c = λ side log taken f.
+    let fit : FitsSigned w32 c.in-PrioritySet.priority = search rules in
+    of-shape side log taken c.args.self.now f.refines.stage c.set_priority.new.self c.args.call.now (records.PrioritySet c.in-PrioritySet.id c.in-PrioritySet.priority) c.in-PrioritySet.is
+    (λ a. told-taken side log taken c.args.self.now f c.set_priority.new.self (PrioritySet c.in-PrioritySet.id c.in-PrioritySet.priority) refl refl refl
+    (subst (λ (p : ℤ). Refines side c.set_priority.new.self.inbox (Called (PrioritySet c.in-PrioritySet.id p) ∷ log) f.refines.stage (untaken_since taken log)) (to_z-of_z fit)
+    (c.set_priority.ensures.log side log f.refines.stage (untaken_since taken log) f.refines.inbox a.half)) c.set_priority.ensures.state c.set_priority.ensures.queue c.set_priority.ensures.settings a)
 
-pub returns-in_ok-reset_unsent-in-ResetUnsent : goal.returns-in_ok-reset_unsent-in-ResetUnsent
-returns-in_ok-reset_unsent-in-ResetUnsent c = record {
-  log = λ side log taken f.
-      of-shape side log taken c.args.self.now f.refines.stage c.reset_unsent.new.self c.args.call.now (records.ResetUnsent c.in-ResetUnsent.id c.in-ResetUnsent.code) c.in-ResetUnsent.is
-      (λ a. told-taken side log taken c.args.self.now f c.reset_unsent.new.self (ResetUnsent c.in-ResetUnsent.id c.in-ResetUnsent.code) refl refl refl (c.in_ok-reset_unsent-in-ResetUnsent.ensures.log side log f.refines.stage (untaken_since taken log) f.refines.inbox a.half.0 a.half.1) c.in_ok-reset_unsent-in-ResetUnsent.ensures.state c.in_ok-reset_unsent-in-ResetUnsent.ensures.queue c.in_ok-reset_unsent-in-ResetUnsent.ensures.settings a);
-}
+pub returns-in_ok-reset_unsent-in-ResetUnsent-clause-log : goal.returns-in_ok-reset_unsent-in-ResetUnsent-clause-log
+returns-in_ok-reset_unsent-in-ResetUnsent-clause-log c = λ side log taken f.
+    of-shape side log taken c.args.self.now f.refines.stage c.reset_unsent.new.self c.args.call.now (records.ResetUnsent c.in-ResetUnsent.id c.in-ResetUnsent.code) c.in-ResetUnsent.is
+    (λ a. told-taken side log taken c.args.self.now f c.reset_unsent.new.self (ResetUnsent c.in-ResetUnsent.id c.in-ResetUnsent.code) refl refl refl (c.in_ok-reset_unsent-in-ResetUnsent.ensures.log side log f.refines.stage (untaken_since taken log) f.refines.inbox a.half.0 a.half.1) c.in_ok-reset_unsent-in-ResetUnsent.ensures.state c.in_ok-reset_unsent-in-ResetUnsent.ensures.queue c.in_ok-reset_unsent-in-ResetUnsent.ensures.settings a)
 
-pub returns-in_ok-settle_datagram-in-DatagramReceived : goal.returns-in_ok-settle_datagram-in-DatagramReceived
-returns-in_ok-settle_datagram-in-DatagramReceived c = record {
-  log = λ side log taken f.
-      of-shape side log taken c.args.self.now f.refines.stage c.settle_datagram.new.self c.args.call.now (records.DatagramReceived) c.in-DatagramReceived.is
-      (λ a. received-taken side log taken c.args.self.now f c.settle_datagram.new.self c.in_ok-settle_datagram-in-DatagramReceived.ensures a);
-}
+pub returns-in_ok-settle_datagram-in-DatagramReceived-clause-log : goal.returns-in_ok-settle_datagram-in-DatagramReceived-clause-log
+returns-in_ok-settle_datagram-in-DatagramReceived-clause-log c = λ side log taken f.
+    of-shape side log taken c.args.self.now f.refines.stage c.settle_datagram.new.self c.args.call.now (records.DatagramReceived) c.in-DatagramReceived.is
+    (λ a. received-taken side log taken c.args.self.now f c.settle_datagram.new.self c.in_ok-settle_datagram-in-DatagramReceived.ensures a)
 
-pub returns-in_ok-settle_datagram-in-DatagramPassed : goal.returns-in_ok-settle_datagram-in-DatagramPassed
-returns-in_ok-settle_datagram-in-DatagramPassed c = record {
-  log = λ side log taken f.
-      of-shape side log taken c.args.self.now f.refines.stage c.settle_datagram-in-DatagramPassed.new.self c.args.call.now (records.DatagramPassed) c.in-DatagramPassed.is
-      (λ a. skipped-taken side log taken c.args.self.now f c.settle_datagram-in-DatagramPassed.new.self c.in_ok-settle_datagram-in-DatagramPassed.ensures a);
-}
+pub returns-in_ok-settle_datagram-in-DatagramPassed-clause-log : goal.returns-in_ok-settle_datagram-in-DatagramPassed-clause-log
+returns-in_ok-settle_datagram-in-DatagramPassed-clause-log c = λ side log taken f.
+    of-shape side log taken c.args.self.now f.refines.stage c.settle_datagram-in-DatagramPassed.new.self c.args.call.now (records.DatagramPassed) c.in-DatagramPassed.is
+    (λ a. skipped-taken side log taken c.args.self.now f c.settle_datagram-in-DatagramPassed.new.self c.in_ok-settle_datagram-in-DatagramPassed.ensures a)
 
-pub returns-in_default : goal.returns-in_default
-returns-in_default c = record {
-  log = λ side log taken f a. nothing-taken side log taken c.args.self.now f (record_of c.args.call.now) (no-other c.args.call.now c.in_default.not-RequestDelivered c.in_default.not-SessionEstablished c.in_default.not-StreamAccepted c.in_default.not-StreamPassed c.in_default.not-BytesRead c.in_default.not-StreamGivenUp c.in_default.not-ResetUnsent c.in_default.not-PrioritySet c.in_default.not-DatagramReceived c.in_default.not-DatagramPassed) a;
-}
+pub returns-in_default-clause-log : goal.returns-in_default-clause-log
+returns-in_default-clause-log c = λ side log taken f a. nothing-taken side log taken c.args.self.now f (record_of c.args.call.now) (no-other c.args.call.now c.in_default.not-RequestDelivered c.in_default.not-SessionEstablished c.in_default.not-StreamAccepted c.in_default.not-StreamPassed c.in_default.not-BytesRead c.in_default.not-StreamGivenUp c.in_default.not-ResetUnsent c.in_default.not-PrioritySet c.in_default.not-DatagramReceived c.in_default.not-DatagramPassed) a

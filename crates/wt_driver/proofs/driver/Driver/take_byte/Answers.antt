@@ -1,11 +1,14 @@
+use Rattle.std.proofs.Common.{◌∙◌}
+use Rattle.wt_driver.proofs.Moved.{on_ok}
 use Rattle.wt_driver.proofs.Turning.{byte-follows}
 use Rattle.wt_driver.specs.Tie.{untaken_since}
 use Rattle.wt_driver.proofs.driver.Driver.take_byte.Goals as goal
 
-pub returns : goal.returns
-returns c = record {
-  log = λ side log taken f may.
-      byte-follows side log taken c.args.self.now f c.args.id c.args.byte c.note_byte.new.self c.work.new.self c.work.result
-      (c.in_ok-note_byte.ensures.log side log f.refines.stage (untaken_since taken log) f.refines.inbox may) c.in_ok-note_byte.ensures.state c.in_ok-note_byte.ensures.queue c.in_ok-note_byte.ensures.settings
-      (λ m in_. c.work.ensures.log side log m taken in_) c.work.ensures.closed;
-}
+pub returns-clause-log : goal.returns-clause-log
+returns-clause-log c = λ side log taken f may.
+    byte-follows side log taken c.args.self.now f c.args.id c.args.byte c.note_byte.new.self c.work.new.self c.work.result
+    (c.in_ok-note_byte.ensures.log side log f.refines.stage (untaken_since taken log) f.refines.inbox may) c.in_ok-note_byte.ensures.state c.in_ok-note_byte.ensures.queue c.in_ok-note_byte.ensures.settings
+    (λ m in_. c.work.ensures.log side log m taken in_) c.work.ensures.closed
+
+pub returns-clause-has_given : goal.returns-clause-has_given
+returns-clause-has_given c = on_ok c.work.result (λ e. e ∙ c.in_ok-note_byte.ensures.has_given) c.work.ensures.has_given

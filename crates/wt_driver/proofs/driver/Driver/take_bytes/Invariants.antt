@@ -8,8 +8,11 @@ use Rattle.wt_wire.specs.declared.side.Side.{Side}
 use Rattle.wt_driver.proofs.driver.Driver.take_bytes.Given as goal
 
 abbrev pub invariant-loop-at : goal.invariant-loop-at
-invariant-loop-at l = (side : Side) (log : Log) (taken : ℕ) → Follows side l.fn.self log taken → fits side log (turns.Bytes l.id l.bytes) ≡ true
-    → BytesSoFar side log taken l.id l.bytes l.at l.self
+invariant-loop-at l = record {
+  taken_in : (side : Side) (log : Log) (taken : ℕ) → Follows side l.fn.self log taken → fits side log (turns.Bytes l.id l.bytes) ≡ true
+      → BytesSoFar side log taken l.id l.bytes l.at l.self;
+  has_given : l.self.has_given_settings ≡ l.fn.self.has_given_settings;
+}
 
 abbrev pub decreases-loop-at : goal.decreases-loop-at
 decreases-loop-at l = length l.bytes - l.at

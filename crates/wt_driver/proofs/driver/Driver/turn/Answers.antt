@@ -5,15 +5,11 @@ use Rattle.wt_spec.specs.Answers.{receive}
 use Rattle.wt_driver.proofs.Turning.{piece-follows, turn-follows}
 use Rattle.wt_driver.proofs.driver.Driver.turn.Goals as goal
 
-pub returns-in-Bytes : goal.returns-in-Bytes
-returns-in-Bytes c = record {
-  log = λ side log taken f is.
-      piece-follows side log taken c.args.self.now f c.args.turn.now c.in-Bytes.id c.in-Bytes.piece c.take_bytes.new.self c.take_bytes.result c.in-Bytes.is c.requires
-      (λ may.
-      subst (λ (bytes : List ℕ). OnOk c.take_bytes.result (Follows side c.take_bytes.new.self (receive side log c.in-Bytes.id bytes) taken)) c.as_slice.ensures (c.take_bytes.ensures.log side log taken f may));
-}
+pub returns-in-Bytes-clause-log : goal.returns-in-Bytes-clause-log
+returns-in-Bytes-clause-log c = λ side log taken f is.
+    piece-follows side log taken c.args.self.now f c.args.turn.now c.in-Bytes.id c.in-Bytes.piece c.take_bytes.new.self c.take_bytes.result c.in-Bytes.is c.requires
+    (λ may.
+    subst (λ (bytes : List ℕ). OnOk c.take_bytes.result (Follows side c.take_bytes.new.self (receive side log c.in-Bytes.id bytes) taken)) c.as_slice.ensures (c.take_bytes.ensures.log side log taken f may))
 
-pub returns-in_default : goal.returns-in_default
-returns-in_default c = record {
-  log = λ side log taken f is. turn-follows side log taken c.args.self.now c.args.turn.now c.take_event.new.self c.take_event.result is c.in_default.not-Bytes (λ e. c.take_event.ensures.log side log taken e f);
-}
+pub returns-in_default-clause-log : goal.returns-in_default-clause-log
+returns-in_default-clause-log c = λ side log taken f is. turn-follows side log taken c.args.self.now c.args.turn.now c.take_event.new.self c.take_event.result is c.in_default.not-Bytes (λ e. c.take_event.ensures.log side log taken e f)

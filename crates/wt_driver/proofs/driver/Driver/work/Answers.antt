@@ -19,6 +19,7 @@ returns-in_ok-flush c = record {
       (c.in_ok-flush.ensures.log side (m ∷ log) (scanned_stages (transport_view side (m ∷ log)) d.state in_.stage) (untaken_since taken (m ∷ log)) moved.inbox o (flush-control side log m taken d in_ o c.scan.new.self moved) (flush-may side log m taken d in_ o c.scan.new.self moved))
       c.in_ok-flush.ensures.rest c.in_ok-flush.ensures.queue c.in_ok-flush.ensures.settings c.in_ok-flush.ensures.open;
   closed = λ e. absurd (true≢false (sym c.if-is_open.true ∙ c.is_open.ensures.now ∙ ap (λ (v : DriverValue). v.state.is_open) c.self.view_is ∙ e));
+  has_given = c.in_ok-flush.ensures.has_given ∙ c.in_ok-scan.ensures.has_given;
 }
 
 pub returns-else-is_open : goal.returns-else-is_open
@@ -27,4 +28,5 @@ returns-else-is_open c = record {
       idle-follows side log m taken c.args.self.now in_ (sym (c.is_open.ensures.log side (m ∷ log) in_.stage (untaken_since taken (m ∷ log))
       (subst (λ (v : DriverValue). Refines side v.inbox (m ∷ log) in_.stage (untaken_since taken (m ∷ log))) (sym c.self.view_is) in_.inbox)) ∙ c.if-is_open.false);
   closed = λ e. refl;
+  has_given = refl;
 }

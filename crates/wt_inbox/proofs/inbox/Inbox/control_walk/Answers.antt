@@ -1,6 +1,7 @@
 use Rattle.std.proofs.Common.{◌∙◌}
 use Rattle.wt_inbox.proofs.Asked.{control-same, control-others, control-quiet, control-answered}
 use Rattle.wt_inbox.proofs.Staging.{control-says, control_read_refines}
+use Rattle.wt_inbox.proofs.Counting.{control-readers}
 use Rattle.wt_inbox.proofs.inbox.Inbox.control_walk.Goals as goal
 
 pub returns-clause-now : goal.returns-clause-now
@@ -20,3 +21,9 @@ returns-clause-log_answer c = λ side log stage untaken r from a. c.control_outc
 
 pub returns-clause-log : goal.returns-clause-log
 returns-clause-log c = λ side log stage untaken r from a. control_read_refines side c.args.self.now log stage untaken r c.args.id from a c.pull_control.new.self c.in_ok-pull_control.ensures
+
+pub returns-clause-kept : goal.returns-clause-kept
+returns-clause-kept c = c.in_ok-pull_control.ensures.pulled.kept
+
+pub returns-clause-readers : goal.returns-clause-readers
+returns-clause-readers c = control-readers c.args.self.now c.pull_control.new.self c.args.id c.in_ok-pull_control.ensures

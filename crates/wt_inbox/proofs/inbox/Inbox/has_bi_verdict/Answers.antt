@@ -2,6 +2,7 @@ use Rattle.std.proofs.Common.{ap, ◌∙◌}
 use Rattle.wt_proto.specs.Uni.{is_final}
 use Rattle.wt_inbox.proofs.Asked.{bi-same, bi-others, bi-quiet, bi-answered}
 use Rattle.wt_inbox.proofs.Staging.{bi-says, bi_read_refines}
+use Rattle.wt_inbox.proofs.Counting.{bi-readers}
 use Rattle.wt_inbox.proofs.inbox.Inbox.has_bi_verdict.Goals as goal
 
 pub returns-clause-now : goal.returns-clause-now
@@ -21,3 +22,9 @@ returns-clause-log_answer c = λ side log stage untaken r a. c.is_bi_final.ensur
 
 pub returns-clause-log : goal.returns-clause-log
 returns-clause-log c = λ side log stage untaken r a. bi_read_refines side c.args.self.now log stage untaken r c.args.id a c.pull_bi.new.self c.in_ok-pull_bi.ensures
+
+pub returns-clause-kept : goal.returns-clause-kept
+returns-clause-kept c = c.in_ok-pull_bi.ensures.pulled.kept
+
+pub returns-clause-readers : goal.returns-clause-readers
+returns-clause-readers c = bi-readers c.args.self.now c.pull_bi.new.self c.args.id c.in_ok-pull_bi.ensures

@@ -2,6 +2,7 @@ use Rattle.std.proofs.Common.{ap, ◌∙◌}
 use Rattle.wt_proto.specs.ResponseWalk.{is_answered}
 use Rattle.wt_inbox.proofs.Asked.{response-same, response-others, response-quiet, response-answered}
 use Rattle.wt_inbox.proofs.Staging.{response-says, response_read_refines}
+use Rattle.wt_inbox.proofs.Counting.{response-readers}
 use Rattle.wt_inbox.proofs.inbox.Inbox.has_response.Goals as goal
 
 pub returns-clause-now : goal.returns-clause-now
@@ -21,3 +22,9 @@ returns-clause-log_answer c = λ side log stage untaken r a. c.is_response_there
 
 pub returns-clause-log : goal.returns-clause-log
 returns-clause-log c = λ side log stage untaken r a. response_read_refines side c.args.self.now log stage untaken r c.args.id a c.pull_response.new.self c.in_ok-pull_response.ensures
+
+pub returns-clause-kept : goal.returns-clause-kept
+returns-clause-kept c = c.in_ok-pull_response.ensures.pulled.kept
+
+pub returns-clause-readers : goal.returns-clause-readers
+returns-clause-readers c = response-readers c.args.self.now c.pull_response.new.self c.args.id c.in_ok-pull_response.ensures

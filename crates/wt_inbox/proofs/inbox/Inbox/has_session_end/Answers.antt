@@ -2,6 +2,7 @@ use Rattle.std.proofs.Common.{ap, ◌∙◌}
 use Rattle.wt_proto.specs.SessionWalk.{is_over}
 use Rattle.wt_inbox.proofs.Asked.{session-same, session-others, session-quiet, session-answered, session-over}
 use Rattle.wt_inbox.proofs.Staging.{session-says, session_read_refines}
+use Rattle.wt_inbox.proofs.Counting.{session-readers}
 use Rattle.wt_inbox.proofs.inbox.Inbox.has_session_end.Goals as goal
 
 pub returns-clause-now : goal.returns-clause-now
@@ -24,3 +25,9 @@ returns-clause-log_answer c = λ side log stage untaken r from a. c.is_session_f
 
 pub returns-clause-log : goal.returns-clause-log
 returns-clause-log c = λ side log stage untaken r from a. session_read_refines side c.args.self.now log stage untaken r c.args.id from a c.pull_session.new.self c.in_ok-pull_session.ensures.pulled
+
+pub returns-clause-kept : goal.returns-clause-kept
+returns-clause-kept c = c.in_ok-pull_session.ensures.pulled.pulled.kept
+
+pub returns-clause-readers : goal.returns-clause-readers
+returns-clause-readers c = session-readers c.args.self.now c.pull_session.new.self c.args.id c.in_ok-pull_session.ensures.pulled

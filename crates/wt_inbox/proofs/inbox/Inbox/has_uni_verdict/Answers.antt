@@ -2,6 +2,7 @@ use Rattle.std.proofs.Common.{ap, ◌∙◌}
 use Rattle.wt_proto.specs.Uni.{is_final}
 use Rattle.wt_inbox.proofs.Asked.{uni-same, uni-others, uni-quiet, uni-answered}
 use Rattle.wt_inbox.proofs.Staging.{uni-says, uni_read_refines}
+use Rattle.wt_inbox.proofs.Counting.{uni-readers}
 use Rattle.wt_inbox.proofs.inbox.Inbox.has_uni_verdict.Goals as goal
 
 pub returns-clause-now : goal.returns-clause-now
@@ -21,3 +22,9 @@ returns-clause-log_answer c = λ side log stage untaken r a. c.is_uni_final.ensu
 
 pub returns-clause-log : goal.returns-clause-log
 returns-clause-log c = λ side log stage untaken r a. uni_read_refines side c.args.self.now log stage untaken r c.args.id a c.pull_uni.new.self c.in_ok-pull_uni.ensures
+
+pub returns-clause-kept : goal.returns-clause-kept
+returns-clause-kept c = c.in_ok-pull_uni.ensures.pulled.kept
+
+pub returns-clause-readers : goal.returns-clause-readers
+returns-clause-readers c = uni-readers c.args.self.now c.pull_uni.new.self c.args.id c.in_ok-pull_uni.ensures

@@ -1,6 +1,7 @@
 use Rattle.std.proofs.Common.{◌∙◌}
 use Rattle.wt_inbox.proofs.Asked.{bi-answered, bi-released-others, bi-released-quiet}
 use Rattle.wt_inbox.proofs.Staging.{bi-says, bi_released_refines}
+use Rattle.wt_inbox.proofs.Counting.{bi-released-readers}
 use Rattle.wt_inbox.proofs.inbox.Inbox.release_bi.Goals as goal
 
 pub returns-clause-now : goal.returns-clause-now
@@ -17,3 +18,9 @@ returns-clause-log_answer c = λ side log stage untaken r a. c.take_bi.ensures.o
 
 pub returns-clause-log : goal.returns-clause-log
 returns-clause-log c = λ side log stage untaken r a. bi_released_refines side c.args.self.now log stage untaken r c.args.id a c.pull_bi.new.self c.in_ok-pull_bi.ensures c.take_bi.new.self c.take_bi.ensures.taken
+
+pub returns-clause-gone : goal.returns-clause-gone
+returns-clause-gone c = c.take_bi.ensures.taken.gone
+
+pub returns-clause-readers : goal.returns-clause-readers
+returns-clause-readers c = bi-released-readers c.args.self.now c.pull_bi.new.self c.args.id c.take_bi.new.self c.in_ok-pull_bi.ensures c.take_bi.ensures.taken

@@ -1,6 +1,7 @@
 use Rattle.std.proofs.Common.{◌∙◌}
 use Rattle.wt_inbox.proofs.Asked.{response-answered, response-released-others, response-released-quiet}
 use Rattle.wt_inbox.proofs.Staging.{response-says, response_released_refines}
+use Rattle.wt_inbox.proofs.Counting.{response-released-readers}
 use Rattle.wt_inbox.proofs.inbox.Inbox.release_response.Goals as goal
 
 pub returns-clause-now : goal.returns-clause-now
@@ -17,3 +18,9 @@ returns-clause-log_answer c = λ side log stage untaken r a. c.take_response.ens
 
 pub returns-clause-log : goal.returns-clause-log
 returns-clause-log c = λ side log stage untaken r a. response_released_refines side c.args.self.now log stage untaken r c.args.id a c.pull_response.new.self c.in_ok-pull_response.ensures c.take_response.new.self c.take_response.ensures.taken
+
+pub returns-clause-gone : goal.returns-clause-gone
+returns-clause-gone c = c.take_response.ensures.taken.gone
+
+pub returns-clause-readers : goal.returns-clause-readers
+returns-clause-readers c = response-released-readers c.args.self.now c.pull_response.new.self c.args.id c.take_response.new.self c.in_ok-pull_response.ensures c.take_response.ensures.taken

@@ -3,6 +3,7 @@ use Rattle.wt_wire.specs.declared.side.StreamEnd.TheVariants.{Running}
 use Rattle.wt_proto.specs.SessionWalk.{is_over}
 use Rattle.wt_inbox.proofs.Asked.{session-answered, session-released-others, session-released-quiet}
 use Rattle.wt_inbox.proofs.Staging.{session-says, session-says-by, session_released_refines}
+use Rattle.wt_inbox.proofs.Counting.{session-released-readers}
 use Rattle.wt_inbox.proofs.inbox.Inbox.release_session.Goals as goal
 
 pub returns-clause-now : goal.returns-clause-now
@@ -19,3 +20,9 @@ returns-clause-log_answer c = λ side log stage untaken r from a. (c.take_sessio
 
 pub returns-clause-log : goal.returns-clause-log
 returns-clause-log c = λ side log stage untaken r from a. session_released_refines side c.args.self.now log stage untaken r c.args.id from a c.pull_session.new.self c.in_ok-by_bytes.ensures.pulled c.take_session.new.self c.take_session.ensures.taken
+
+pub returns-clause-gone : goal.returns-clause-gone
+returns-clause-gone c = c.take_session.ensures.taken.gone
+
+pub returns-clause-readers : goal.returns-clause-readers
+returns-clause-readers c = session-released-readers c.args.self.now c.pull_session.new.self c.args.id c.take_session.new.self c.in_ok-by_bytes.ensures.pulled c.take_session.ensures.taken

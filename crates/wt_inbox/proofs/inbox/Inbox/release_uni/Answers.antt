@@ -1,6 +1,7 @@
 use Rattle.std.proofs.Common.{◌∙◌}
 use Rattle.wt_inbox.proofs.Asked.{uni-answered, uni-released-others, uni-released-quiet}
 use Rattle.wt_inbox.proofs.Staging.{uni-says, uni_released_refines}
+use Rattle.wt_inbox.proofs.Counting.{uni-released-readers}
 use Rattle.wt_inbox.proofs.inbox.Inbox.release_uni.Goals as goal
 
 pub returns-clause-now : goal.returns-clause-now
@@ -17,3 +18,9 @@ returns-clause-log_answer c = λ side log stage untaken r a. c.take_uni.ensures.
 
 pub returns-clause-log : goal.returns-clause-log
 returns-clause-log c = λ side log stage untaken r a. uni_released_refines side c.args.self.now log stage untaken r c.args.id a c.pull_uni.new.self c.in_ok-pull_uni.ensures c.take_uni.new.self c.take_uni.ensures.taken
+
+pub returns-clause-gone : goal.returns-clause-gone
+returns-clause-gone c = c.take_uni.ensures.taken.gone
+
+pub returns-clause-readers : goal.returns-clause-readers
+returns-clause-readers c = uni-released-readers c.args.self.now c.pull_uni.new.self c.args.id c.take_uni.new.self c.in_ok-pull_uni.ensures c.take_uni.ensures.taken

@@ -12,4 +12,4 @@ returns-clause-outcome c = c.release.ensures.outcome ∙ ap (λ (x : InboxState)
 pub returns-clause-taken : goal.returns-clause-taken
 returns-clause-taken c =
     let y : InboxState = record { transport = c.self.inside.transport; unis = c.release.new.self; bis = c.self.inside.bis; responses = c.self.inside.responses; controls = c.self.inside.controls; sessions = c.self.inside.sessions } in
-    subst (λ (x : InboxState). UniTaken x y c.args.id) c.self.view_is (record { others = c.release.ensures.others; rest = refl })
+    subst (λ (x : InboxState). UniTaken x y c.args.id) c.self.view_is (record { others = c.release.ensures.others; gone = c.release.ensures.gone; count = c.release.ensures.count; rest = refl })

@@ -13,9 +13,12 @@ use Rattle.wt_session.proofs.connection.Connection.receive_datagram.Goals as goa
 pub returns-clause-reply : goal.returns-clause-reply
 returns-clause-reply c = rw (← c.self.view_is) (λ side log taken f r s.
     subst (λ (x : Reply). IfOk c.datagram_of.result (λ a. poll_reply (λ datagram. replies.Datagram datagram.payload) a ≡ x))
-    (c.in_ok-answer.ensures.reply side log taken f ∙ ap (λ (x : Effect). x.reply) (receive_is side log c.self.inside.session s)) c.datagram_of.ensures)
+    (c.in_ok-answer.ensures.reply side log taken f ∙ ap (λ (x : Effect). x.reply) (receive_is side log c.self.inside.session s)) c.datagram_of.ensures.reply)
 
 pub returns-clause-log : goal.returns-clause-log
 returns-clause-log c = rw (← c.self.view_is) (λ side log taken f r s.
     always c.datagram_of.result (Follows side c.receive.new.d (call_effect side log calls.ReceiveDatagram).log taken)
     (subst (λ (x : Effect). Follows side c.receive.new.d x.log taken) (receive_is side log c.self.inside.session s) (c.in_ok-answer.ensures.log side log taken f)))
+
+pub returns-clause-session : goal.returns-clause-session
+returns-clause-session c = rw (← c.self.view_is) c.datagram_of.ensures.session

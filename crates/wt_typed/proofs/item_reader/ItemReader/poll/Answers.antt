@@ -8,7 +8,7 @@ use Rattle.wt_typed.proofs.item_reader.ItemReader.poll.Goals as goal
 
 pub returns-in-Ok-clause-answer : goal.returns-in-Ok-clause-answer
 returns-in-Ok-clause-answer g c =
-    let all = took-all g.G.Grammar.decides c.self.invariant.steady c.args.self.now c.take_unread.new.self (unread_now c.args.t.now c.args.id) c.in-Ok.field-0 c.in-Ok.ensures.reading c.in-Ok.ensures.within c.in-Ok.ensures.all in
+    let all = took-all g.G.Grammar.decides c.self.invariant.steady c.args.self.now c.take_unread.new.self (unread_now c.args.t.now c.args.id) c.in-Ok.field-0 c.in-Ok.ensures.took.reading c.in-Ok.ensures.took.within c.in-Ok.ensures.took.all in
     c.answer.ensures.answer ∙ (λ i. read_answer (c.is_open-is_open.ensures.now i) (c.end-end.ensures.now i) (reached (sym all i)))
 
 pub returns-in-Ok-clause-begun : goal.returns-in-Ok-clause-begun
@@ -17,10 +17,10 @@ returns-in-Ok-clause-begun g c = λ state bytes has.
 
 pub returns-in-Ok-clause-left : goal.returns-in-Ok-clause-left
 returns-in-Ok-clause-left g c =
-    let all = took-all g.G.Grammar.decides c.self.invariant.steady c.args.self.now c.take_unread.new.self (unread_now c.args.t.now c.args.id) c.in-Ok.field-0 c.in-Ok.ensures.reading c.in-Ok.ensures.within c.in-Ok.ensures.all in
+    let all = took-all g.G.Grammar.decides c.self.invariant.steady c.args.self.now c.take_unread.new.self (unread_now c.args.t.now c.args.id) c.in-Ok.field-0 c.in-Ok.ensures.took.reading c.in-Ok.ensures.took.within c.in-Ok.ensures.took.all in
     c.answer.ensures.left ∙ ap (λ p. after_read p) (sym all)
 
 pub returns-in-Ok-clause-took : goal.returns-in-Ok-clause-took
 returns-in-Ok-clause-took g c =
-    let all = took-all g.G.Grammar.decides c.self.invariant.steady c.args.self.now c.take_unread.new.self (unread_now c.args.t.now c.args.id) c.in-Ok.field-0 c.in-Ok.ensures.reading c.in-Ok.ensures.within c.in-Ok.ensures.all in
-    (c.in-Ok.field-0, rw all c.in-Ok.ensures)
+    let all = took-all g.G.Grammar.decides c.self.invariant.steady c.args.self.now c.take_unread.new.self (unread_now c.args.t.now c.args.id) c.in-Ok.field-0 c.in-Ok.ensures.took.reading c.in-Ok.ensures.took.within c.in-Ok.ensures.took.all in
+    (c.in-Ok.field-0, rw all c.in-Ok.ensures.took)

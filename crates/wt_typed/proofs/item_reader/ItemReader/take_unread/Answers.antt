@@ -4,6 +4,7 @@ use Rattle.wt_proto.specs.Progress.{Advances}
 use Rattle.wt_proto.proofs.AdvanceLaws.{advance-then}
 use Rattle.wt_seam.specs.Step.{after_consume, unread_now}
 use Rattle.wt_typed.proofs.Consuming.{taken-unread, taken-more}
+use Rattle.wt_typed.proofs.Taking.{took-first}
 use Rattle.wt_typed.proofs.item_reader.ItemReader.take_unread.Goals as goal
 
 pub consume-requires : goal.consume-requires
@@ -24,8 +25,8 @@ loop-taken-preserved-then-self-gt0 g c =
       limit = c.unread-unread.ensures.now;
     }
 
-pub next_byte-byte-requires-clause-some : goal.next_byte-byte-requires-clause-some
-next_byte-byte-requires-clause-some g c =
+pub next_byte-byte-requires : goal.next_byte-byte-requires
+next_byte-byte-requires g c =
     let left : length (unread_now c.loop-taken.t c.args.id) ≡ length (unread_now c.args.t.now c.args.id) - c.loop-taken.taken =
     ap (λ u. length (unread_now u c.args.id)) c.loop-taken.invariant.state ∙ (ap length (taken-unread c.args.t.now c.args.id c.requires c.loop-taken.taken) ∙ length-drop c.loop-taken.taken (unread_now c.args.t.now c.args.id)) in
     omega (arith, left, c.loop-taken-test.true, c.unread-unread.ensures.now)
@@ -39,7 +40,11 @@ loop-taken-preserved g c =
     record {
       advances = advance-then g.G.Grammar.decides c.self.invariant.steady _ _ _ _ _ _ c.loop-taken.invariant.advances
           (subst (λ (xs : List ℕ). Advances g.G.Grammar.decides c.loop-taken.self c.keep.new.self xs 1) (front ∙ same) (c.in-Ok.ensures.advances (drop 1 v)));
-      state = c.next_byte-byte.ensures.state ∙ (ap (λ u. after_consume u c.args.id 1) c.loop-taken.invariant.state
+      state = c.consume-in-Ok.ensures.now ∙ (ap (λ u. after_consume u c.args.id 1) c.loop-taken.invariant.state
           ∙ taken-more c.args.t.now c.args.id c.requires c.loop-taken.taken 1 (omega arith));
       limit = c.unread-unread.ensures.now;
     }
+
+pub returns-in-Err-clause-err : goal.returns-in-Err-clause-err
+returns-in-Err-clause-err g c =
+    (c.loop-taken.taken, took-first g.G.Grammar.decides c.args.self.now c.loop-taken.self c.keep.new.self c.args.t.now c.loop-taken.t c.args.id c.loop-taken.taken c.loop-taken.invariant.advances c.in-Err.ensures.err c.loop-taken.invariant.state)
