@@ -7,6 +7,7 @@ pub mod Checks
 pub mod Flushed
 pub mod FlushedWhole
 pub mod FlushFacts
+pub mod Receives
 pub mod AcceptLooks
 pub mod AcceptUses
 pub mod AcceptSteps

@@ -1,9 +1,9 @@
 -- An inbox that refines a log with streams at some stages does so at others that say no more.
-use Rattle.std.proofs.Common.{◌≡◌, ℕ, Bool, true, false, List, ap, refl, subst}
+use Rattle.std.proofs.Common.{◌≡◌, ℕ, Bool, true, false, List, ap, refl, subst, sym}
 use Rattle.std.proofs.lemmas.Bool.{eqb-true}
 use Rattle.std.specs.Prelude.{◌==◌, if◌then◌else◌}
 use Rattle.wt_driver.specs.Scanning.{unless_given_up}
-use Rattle.wt_inbox.specs.Stage.{Anywhere, GivenUp, IsAt, Refines, Stage, with_stage}
+use Rattle.wt_inbox.specs.Stage.{GivenUp, IsAt, Refines, Stage, with_stage}
 use Rattle.wt_inbox.specs.State.{InboxState}
 use Rattle.wt_seam_spec.specs.Streams.{contents}
 use Rattle.wt_turn.specs.Log.{Log}
@@ -32,20 +32,6 @@ module _ (side : Side) (x : InboxState) (log : Log) (untaken : List Action) wher
     staged = λ k. subst (IsAt x k (contents log k) (r.position k)) (same k) (r.staged k);
   }
 
-  -- nothing need be said of a stream
-  pub anywhere : (stage other : ℕ → Stage) (id : ℕ) → Refines side x log stage untaken → ((k : ℕ) → (id == k) ≡ false → stage k ≡ other k) → Refines side x log (with_stage other id Anywhere) untaken
-  anywhere stage other id r same = record {
-    position = r.position;
-    transport = r.transport;
-    no_uni = r.no_uni;
-    no_bi = r.no_bi;
-    staged = λ k. by k (id == k) (same k);
-  }
-    where
-      by : (k : ℕ) (b : Bool) → (b ≡ false → stage k ≡ other k) → IsAt x k (contents log k) (r.position k) (if b then Anywhere else other k)
-      by k true e = tt
-      by k false e = subst (IsAt x k (contents log k) (r.position k)) (e refl) (r.staged k)
-
   -- a stage that is set twice
   pub twice : (stage : ℕ → Stage) (id : ℕ) (first second : Stage) → Refines side x log (with_stage (with_stage stage id first) id second) untaken → Refines side x log (with_stage stage id second) untaken
   twice stage id first second r = restaged (with_stage (with_stage stage id first) id second) (with_stage stage id second) r (λ k. by k (id == k))
@@ -54,9 +40,12 @@ module _ (side : Side) (x : InboxState) (log : Log) (untaken : List Action) wher
       by k true = refl
       by k false = refl
 
-  pub given_up_anywhere : (stage : ℕ → Stage) (id : ℕ) (to : Stage) → Refines side x log (with_stage (with_stage stage id to) id GivenUp) untaken → Refines side x log (with_stage stage id (unless_given_up true to)) untaken
-  given_up_anywhere stage id to r = anywhere (with_stage (with_stage stage id to) id GivenUp) stage id r (λ k e. rw e refl)
+  -- a stream whose half can receive is given up
+  pub gone-there : (stage : ℕ → Stage) (id : ℕ) (can : Bool) → can ≡ true → Refines side x log (with_stage stage id GivenUp) untaken → Refines side x log (with_stage stage id (unless_given_up can (stage id))) untaken
+  gone-there stage id true e r = r
+  gone-there stage id false e r = absurd cc
 
-  pub kept_there : (stage : ℕ → Stage) (id : ℕ) (to : Stage) (test : Bool) → Refines side x log (with_stage stage id to) untaken → Refines side x log (with_stage stage id (unless_given_up test to)) untaken
-  kept_there stage id to true r = anywhere (with_stage stage id to) stage id r (λ k e. rw e refl)
-  kept_there stage id to false r = r
+  -- nothing is done with another one
+  pub left-there : (stage : ℕ → Stage) (id : ℕ) (can : Bool) → can ≡ false → Refines side x log stage untaken → Refines side x log (with_stage stage id (unless_given_up can (stage id))) untaken
+  left-there stage id true e r = absurd cc
+  left-there stage id false e r = subst (λ (stages : ℕ → Stage). Refines side x log stages untaken) (sym (stage-again stage id)) r

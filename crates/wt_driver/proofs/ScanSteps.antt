@@ -6,7 +6,7 @@ use Rattle.std.specs.List.{remove}
 use Rattle.std.proofs.lemmas.List.{drop_more, drop-set-lt, drop_all}
 use Rattle.wt_driver.proofs.Restaged.{stage-again}
 use Rattle.wt_dispatch.specs.Rules.{slots_of}
-use Rattle.wt_driver.specs.Scanning.{AllAwait, AwaitsAt, Leaves, Scans, rule_of, scan_stages, stages_on, visit_stage}
+use Rattle.wt_driver.specs.Scanning.{AllAwait, AwaitsAt, Leaves, Scans, SlotsReceive, rule_of, scan_stages, stages_on, visit_stage}
 use Rattle.wt_dispatch.specs.declared.slot.Half.{Half}
 use Rattle.wt_dispatch.specs.declared.slot.Half.TheVariants.{Bi, Uni}
 use Rattle.wt_driver_spec.proofs.ClassifiedOnce.{turned-round}
@@ -16,6 +16,7 @@ use Rattle.wt_driver_spec.specs.DriverState.{Arrived, Dequeued, Held, Slot, Slot
 use Rattle.wt_driver_spec.specs.Step.{Known, Visited, keep_slot, scan_slots, visit_slot}
 use Rattle.wt_inbox.specs.Stage.{Refines, Stage, with_stage}
 use Rattle.wt_inbox.specs.State.{InboxState}
+use Rattle.wt_seam_spec.specs.Streams.{can_receive}
 use Rattle.wt_spec.specs.Scan.{SlotRule}
 use Rattle.wt_spec.specs.StreamTable.{Ending, TransportView}
 use Rattle.wt_turn.specs.Log.{Log}
@@ -58,10 +59,11 @@ module _ (side : Side) (log : Log) (untaken : List Action) (ready : Bool) (half 
     pub so_far : SoFar ready rule (scan_slots ready rule 0 old known_old) at ls c
     pub staged : scan_stages ready half rule 0 old known_old stage ≡ scan_stages ready half rule at (drop at ls) c stages
     pub awaits : AllAwait half stages (drop at ls)
+    pub receive : SlotsReceive side log (drop at ls)
 
-  pub scans-begin : (stage : ℕ → Stage) (old : List Slot) (known_old : Known) (x : InboxState) → Refines side x log stage untaken → AllAwait half stage old → AreDistinct old
+  pub scans-begin : (stage : ℕ → Stage) (old : List Slot) (known_old : Known) (x : InboxState) → Refines side x log stage untaken → AllAwait half stage old → SlotsReceive side log old → AreDistinct old
       → IsBounded rule.slots 0 old → ScansSoFar stage old known_old 0 old known_old x
-  scans-begin stage old known_old x r a d b = record { stages = stage; inbox = r; so_far = scan-begins ready rule old known_old b d; staged = refl; awaits = a }
+  scans-begin stage old known_old x r a g d b = record { stages = stage; inbox = r; so_far = scan-begins ready rule old known_old b d; staged = refl; awaits = a; receive = g }
 
   stages-cons : (n : ℕ) (l : Slot) (ls : List Slot) (c : Known) (stages : ℕ → Stage) → c.progress.ending ≡ None
       → scan_stages ready half rule n (l ∷ ls) c stages
@@ -75,6 +77,12 @@ module _ (side : Side) (log : Log) (untaken : List Action) (ready : Bool) (half 
 
     pub front-awaits : AwaitsAt half l.place (s.stages l.id)
     front-awaits = (rw front at s.awaits).0
+
+    pub front-receives : can_receive side log l.id ≡ true
+    front-receives = (rw front at s.receive).0
+
+    rest-receive : SlotsReceive side log (drop (at + 1) ls)
+    rest-receive = (rw front at s.receive).1
 
     -- the stages once the slot was visited
     abbrev visited_stages : ℕ → Stage
@@ -99,6 +107,7 @@ module _ (side : Side) (log : Log) (untaken : List Action) (ready : Bool) (half 
               ∙ ap (λ (z : Visited). stages_on (λ m later t. scan_stages ready half rule m (drop (at + 1) ls) later t) z visited_stages) v.visited
               ∙ rw (same, add-one) refl;
           awaits = rw same rest-awaits;
+          receive = rw same rest-receive;
         }
 
     pub slot-goes-so : Leaves side log s.stages untaken l.id (visit_stage ready half rule l.place l.id at c (s.stages l.id)) (visit_slot ready rule l.place l at c) at None y e
@@ -112,6 +121,7 @@ module _ (side : Side) (log : Log) (untaken : List Action) (ready : Bool) (half 
           ∙ ap (λ (z : Visited). stages_on (λ m later t. scan_stages ready half rule m (drop (at + 1) ls) later t) z visited_stages) v.visited
           ∙ rw (drop-removed ls at, add-one) refl;
       awaits = rw (drop-removed ls at) (rw add-one at rest-awaits);
+      receive = rw (drop-removed ls at) (rw add-one at rest-receive);
     }
 
   -- ---- the end of the loop

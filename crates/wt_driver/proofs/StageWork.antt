@@ -77,7 +77,7 @@ passed-waits log = drop-more (settled_datagrams (calls_of log)) (datagrams_of (e
 -- ---- the work
 
 module _ (side : Side) (log : Log) (m : Entry) (stage : ℕ → Stage) (may : MayFollow side log m) (can : MayUseBy side log m) (fits : Fits side log) (uses : Uses side log)
-    (f : TableFits side (calls_of (m ∷ log)) (stream_table side log) stage) (d : DriverValue) (here : d.state ≡ after_entry (transport_view side log) m (state_of side log)) (waits : d.queue ≡ unsettled (m ∷ log)) where
+    (f : TableFits side (m ∷ log) (stream_table side log) stage) (d : DriverValue) (here : d.state ≡ after_entry (transport_view side log) m (state_of side log)) (waits : d.queue ≡ unsettled (m ∷ log)) where
   -- what the transport told up to the entry
   abbrev u : TransportView
   u = transport_view side (m ∷ log)

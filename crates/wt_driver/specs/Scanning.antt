@@ -5,10 +5,11 @@ use Rattle.wt_dispatch.specs.declared.slot.Half.{Half}
 use Rattle.wt_dispatch.specs.declared.slot.Half.TheVariants.{Bi, Uni}
 use Rattle.wt_driver_spec.specs.DriverState.{Arrived, Dequeued, Held, Slot, SlotPlace}
 use Rattle.wt_driver_spec.specs.Step.{Known, Visited, scan_slots, visit_slot, visited_as}
-use Rattle.wt_inbox.specs.Stage.{Anywhere, BiHeader, Refines, Stage, UniHeader, awaits_bi, awaits_uni, stage_from, verdict_offset, with_stage}
+use Rattle.wt_inbox.specs.Stage.{BiHeader, GivenUp, Refines, Stage, UniHeader, awaits_bi, awaits_uni, stage_from, verdict_offset, with_stage}
 use Rattle.wt_inbox.specs.State.{InboxState}
 use Rattle.wt_proto.specs.Uni.{is_final}
 use Rattle.wt_proto.specs.declared.verdict.Verdict.{Verdict}
+use Rattle.wt_seam_spec.specs.Streams.{can_receive}
 use Rattle.wt_spec.specs.Scan.{SlotRule, bi_rule, uni_rule}
 use Rattle.wt_spec.specs.StreamTable.{Dispatched, Ending, Progress, TransportView}
 use Rattle.wt_turn.specs.Log.{Log}
@@ -33,7 +34,7 @@ header_stage Bi = BiHeader
 
 -- the stage, unless the stream is given up
 abbrev pub unless_given_up : Bool → Stage → Stage
-unless_given_up true stage = Anywhere
+unless_given_up true stage = GivenUp
 unless_given_up false stage = stage
 
 -- a classified stream is read behind its header
@@ -78,6 +79,11 @@ AwaitsAt half place stage = awaits half stage ≡ true
 abbrev pub AllAwait : Half → (ℕ → Stage) → List Slot → Type 0
 AllAwait half stage [] = Unit {0}
 AllAwait half stage (slot ∷ slots) = AwaitsAt half slot.place (stage slot.id) × AllAwait half stage slots
+
+-- each stream in these slots is there, with a receiving half, so that it can be given up
+abbrev pub SlotsReceive : Side → Log → List Slot → Type 0
+SlotsReceive side log [] = Unit {0}
+SlotsReceive side log (slot ∷ slots) = (can_receive side log slot.id ≡ true) × SlotsReceive side log slots
 
 -- the stages once the scan behind the ending is left out
 abbrev pub unless_ended_stages : Option Ending → (Known → ℕ → Stage) → (ℕ → Stage) → Known → ℕ → Stage

@@ -49,7 +49,7 @@ pub record Follows (side : Side) (d : DriverValue) (log : Log) (taken : ℕ) : T
 pub record TakenIn (side : Side) (log : Log) (m : Entry) (d : DriverValue) (taken : ℕ) : Type 0 where
   pub stage : ℕ → Stage
   pub inbox : inboxes.Refines side d.inbox (m ∷ log) stage (untaken_since taken (m ∷ log))
-  pub fit : TableFits side (calls_of (m ∷ log)) (stream_table side log) stage
+  pub fit : TableFits side (m ∷ log) (stream_table side log) stage
   pub state_is : d.state ≡ after_entry (transport_view side log) m (state_of side log)
   pub queue_is : d.queue ≡ unsettled (m ∷ log)
   pub settings : KeepsSettings side log d.settings

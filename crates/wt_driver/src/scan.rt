@@ -2,13 +2,14 @@
 ghost use Rattle.std.specs.Prelude.{◌≡◌, ◌<◌, ◌&&◌, ◌||◌, [], length, ◌∷◌, if◌then◌else◌, List, ℕ, true, IfOk, OnOk, nat_lt};
 ghost use Rattle.std.specs.List.{remove};
 ghost use Rattle.wt_dispatch.specs.Rules.{slots_of};
-ghost use Rattle.wt_driver.specs.Scanning.{AllAwait, AwaitsAt, Leaves, Scans, awaits, dequeue_stage, header_stage, known_by, look_stage, rule_of, unless_given_up, visit_stage};
+ghost use Rattle.wt_driver.specs.Scanning.{AllAwait, AwaitsAt, Leaves, Scans, SlotsReceive, awaits, dequeue_stage, header_stage, known_by, look_stage, rule_of, unless_given_up, visit_stage};
 ghost use Rattle.wt_dispatch.specs.Rules.{is_given_up};
 ghost use Rattle.wt_driver_spec.specs.Bounds.{AreDistinct, IsBounded};
 ghost use Rattle.wt_driver_spec.specs.DriverState.{Held};
 ghost use Rattle.wt_driver_spec.specs.Step.{Known, classify_slot, visit_slot, visited_as};
 ghost use Rattle.wt_inbox.specs.Stage.{Refines, Stage, stage_from, verdict_offset, with_stage};
 ghost use Rattle.wt_proto.specs.Uni.{is_final};
+ghost use Rattle.wt_seam_spec.specs.Streams.{can_receive};
 ghost use Rattle.wt_spec.specs.Scan.{occupied};
 ghost use Rattle.wt_spec.specs.Driver.{is_ready, transport_view};
 ghost use Rattle.wt_turn.specs.Log.{Log, is_open};
@@ -58,9 +59,9 @@ fn release_header(inbox: &mut Inbox, half: Half, id: StreamId) -> Result<Verdict
 }
 
 /// Gives a stream up where the test holds: its bytes are let go.
-#[tactic(auto, using(crate::proofs::Restaged::given_up_anywhere, crate::proofs::Restaged::kept_there))]
 fn give_up_if(inbox: &mut Inbox, id: StreamId, test: bool)
-    ensures log { (side : Side) (log : Log) (stage : ℕ → Stage) (to : Stage) (untaken : List Action) → Refines side inbox.old log (with_stage stage id to) untaken → Refines side inbox.new log (with_stage stage id (unless_given_up test to)) untaken }
+    ensures log { (side : Side) (log : Log) (stage : ℕ → Stage) (to : Stage) (untaken : List Action) → Refines side inbox.old log (with_stage stage id to) untaken → can_receive side log id ≡ true
+        → Refines side inbox.new log (with_stage stage id (unless_given_up test to)) untaken }
 {
     if test && inbox.can_receive(id) {
         inbox.give_up(id);
@@ -93,7 +94,7 @@ fn classify(
     dispatched: &mut DispatchedStreams,
     progress: &mut Progress,
 ) -> Result<Option<Slot>, OutOfMemory>
-    ensures log { (side : Side) (log : Log) (stage : ℕ → Stage) (untaken : List Action) (n : ℕ) → Refines side inbox.old log stage untaken → awaits half (stage id) ≡ true
+    ensures log { (side : Side) (log : Log) (stage : ℕ → Stage) (untaken : List Action) (n : ℕ) → Refines side inbox.old log stage untaken → awaits half (stage id) ≡ true → can_receive side log id ≡ true
         → IfOk result (λ left. Leaves side log stage untaken id
         (look_stage true half ((rule_of half (transport_view side log)).consequence dispatched.old id ((rule_of half (transport_view side log)).verdict id)).surplus ((rule_of half (transport_view side log)).verdict id))
         (classify_slot true (rule_of half (transport_view side log)) id n (known_by dispatched.old progress.old))
@@ -122,7 +123,7 @@ fn look(
     dispatched: &mut DispatchedStreams,
     progress: &mut Progress,
 ) -> Result<Option<Slot>, OutOfMemory>
-    ensures log { (side : Side) (log : Log) (stage : ℕ → Stage) (untaken : List Action) (n : ℕ) → Refines side inbox.old log stage untaken → awaits half (stage id) ≡ true
+    ensures log { (side : Side) (log : Log) (stage : ℕ → Stage) (untaken : List Action) (n : ℕ) → Refines side inbox.old log stage untaken → awaits half (stage id) ≡ true → can_receive side log id ≡ true
         → IfOk result (λ left. Leaves side log stage untaken id
         (dequeue_stage true half (rule_of half (transport_view side log)) id (known_by dispatched.old progress.old) (stage id))
         (classify_slot (is_final ((rule_of half (transport_view side log)).verdict id)) (rule_of half (transport_view side log)) id n (known_by dispatched.old progress.old))
@@ -154,7 +155,7 @@ fn visit(
     dispatched: &mut DispatchedStreams,
     progress: &mut Progress,
 ) -> Result<Option<Slot>, OutOfMemory>
-    ensures log { (side : Side) (log : Log) (stage : ℕ → Stage) (untaken : List Action) → Refines side inbox.old log stage untaken → is_open log ≡ true → AwaitsAt half slot.now.place (stage slot.now.id)
+    ensures log { (side : Side) (log : Log) (stage : ℕ → Stage) (untaken : List Action) → Refines side inbox.old log stage untaken → is_open log ≡ true → AwaitsAt half slot.now.place (stage slot.now.id) → can_receive side log slot.now.id ≡ true
         → IfOk result (λ left. Leaves side log stage untaken slot.now.id
         (visit_stage (is_ready side log) half (rule_of half (transport_view side log)) slot.now.place slot.now.id occupied (known_by dispatched.old progress.old) (stage slot.now.id))
         (visit_slot (is_ready side log) (rule_of half (transport_view side log)) slot.now.place slot.now occupied (known_by dispatched.old progress.old))
@@ -195,7 +196,7 @@ pub(crate) fn scan(
     progress: &mut Progress,
 ) -> Result<(), OutOfMemory>
     ensures log { (side : Side) (log : Log) (stage : ℕ → Stage) (untaken : List Action) → Refines side inbox.old log stage untaken → is_open log ≡ true
-        → AllAwait half stage slots.old.items → AreDistinct slots.old.items → IsBounded (slots_of half) 0 slots.old.items
+        → AllAwait half stage slots.old.items → SlotsReceive side log slots.old.items → AreDistinct slots.old.items → IsBounded (slots_of half) 0 slots.old.items
         → OnOk result (Scans side log untaken (is_ready side log) half (rule_of half (transport_view side log)) stage slots.old.items slots.new.items
         (known_by dispatched.old progress.old) (known_by dispatched.new progress.new) inbox.new) }
 {
