@@ -33,11 +33,11 @@ use Rattle.wt_wire.specs.declared.side.Side.TheVariants.{Client, Server}
 -- ---- a scan can read the headers
 
 -- the headers of the streams in these slots can be read
-pub slots-await : (side : Side) (log : Log) (half : Half) (d : CallView) (table : StreamTable) (stage : ℕ → Stage) (ks : List ℕ) → AreOf side half ks → TableFits side log table stage → AllAwait half stage (slots d table ks)
-slots-await side log half d table stage [] kinds f = tt
-slots-await side log half d table stage (k ∷ ks) kinds f = by (classified_of k table.classified) refl (slots-await side log half d table stage ks kinds.1 f)
+pub slots-await : (side : Side) (did : ℕ → CallUse) (half : Half) (d : CallView) (table : StreamTable) (stage : ℕ → Stage) (ks : List ℕ) → AreOf side half ks → TableFits side did table stage → AllAwait half stage (slots d table ks)
+slots-await side did half d table stage [] kinds f = tt
+slots-await side did half d table stage (k ∷ ks) kinds f = by (classified_of k table.classified) refl (slots-await side did half d table stage ks kinds.1 f)
   where
-    first : (half : Half) (role : StreamRole) → role ≡ peer_role half → FirstSays role (stream_use side log k) table.progress.ending (stage k) → (dequeued : Bool) → AllAwait half stage (slots d table ks)
+    first : (half : Half) (role : StreamRole) → role ≡ peer_role half → FirstSays role (did k) table.progress.ending (stage k) → (dequeued : Bool) → AllAwait half stage (slots d table ks)
         → AllAwait half stage (record { id = k; place = cond dequeued Dequeued Arrived } ∷ slots d table ks)
     first Uni role e f true rest = ((rw e at f).0, rest)
     first Uni role e f false rest = ((rw e at f).0, rest)
@@ -49,7 +49,7 @@ slots-await side log half d table stage (k ∷ ks) kinds f = by (classified_of k
     held false rest = (tt, rest)
 
     by : (o : Option Classified) → classified_of k table.classified ≡ o → AllAwait half stage (slots d table ks) → AllAwait half stage (slot_by k (d.released k) (has k table.dequeued) (verdict_of k table.classified) ++ slots d table ks)
-    by None e rest = rw (verdict-found k table.classified, e) (first half (role_of side k) kinds.0 (subst (λ (o : Option Classified). StageSays (role_of side k) (stream_use side log k) table.progress.ending o (stage k)) e (f k)) (has k table.dequeued) rest)
+    by None e rest = rw (verdict-found k table.classified, e) (first half (role_of side k) kinds.0 (subst (λ (o : Option Classified). StageSays (role_of side k) (did k) table.progress.ending o (stage k)) e (f k)) (has k table.dequeued) rest)
     by (Some c) e rest = rw (verdict-found k table.classified, e) (held (is_released (d.released k) c.verdict) rest)
 
 -- ---- what the calls did
@@ -246,5 +246,5 @@ module _ (side : Side) (log : Log) (stage : ℕ → Stage) (id : ℕ) (fits : Fi
   -- the stages fit once it is being read
   pub response-fits : StagesFit side log (with_stage stage id ResponseHead)
   response-fits =
-      with-fits (StageFits side log (stream_table side log)) stage id ResponseHead (λ k e. f k)
+      with-fits (StageFits side (stream_use side log) (stream_table side log)) stage id ResponseHead (λ k e. f k)
       (awaits-says (role_of side id) (stream_use side log id) (stream_table side log).progress.ending (classified_of id (stream_table side log).classified) ResponseHead a.role none (use-session id (calls_of log) ∙ a.unestablished) a.goes_on refl)

@@ -123,26 +123,26 @@ request-id false false false false at e = absurd cc
 
 module _ (log : Log) (table : StreamTable) (stage : ℕ → Stage) where
   -- a session is established: a client reads the request's stream behind the response
-  pub client-established : (id at : ℕ) → id ≡ 0 → ((k : ℕ) → (id == k) ≡ false → StageFits Client log table k (stage k)) → session_offset (stage id) ≡ Some at → classified_of id table.classified ≡ None
-      → TableFits Client (Called (SessionEstablished id at) ∷ log) table stage
+  pub client-established : (id at : ℕ) → id ≡ 0 → ((k : ℕ) → (id == k) ≡ false → StageFits Client (stream_use Client log) table k (stage k)) → session_offset (stage id) ≡ Some at → classified_of id table.classified ≡ None
+      → TableFits Client (stream_use Client (Called (SessionEstablished id at) ∷ log)) table stage
   client-established id at zero-id f read none k = by (id == k) refl
     where
       unclassified : (o : Option Classified) → o ≡ None → session_offset (stage 0) ≡ Some at → StageSays ForRequest (stream_use Client (Called (SessionEstablished id at) ∷ log) 0) table.progress.ending o (stage 0)
       unclassified None e g = λ _. g
       unclassified (Some c) e g = absurd cc
 
-      front : StageFits Client (Called (SessionEstablished id at) ∷ log) table 0 (stage 0)
+      front : StageFits Client (stream_use Client (Called (SessionEstablished id at) ∷ log)) table 0 (stage 0)
       front =
           unclassified (classified_of 0 table.classified) (subst (λ (i : ℕ). classified_of i table.classified ≡ None) zero-id none)
           (subst (λ (i : ℕ). session_offset (stage i) ≡ Some at) zero-id read)
 
-      by : (e : Bool) → (id == k) ≡ e → StageFits Client (Called (SessionEstablished id at) ∷ log) table k (stage k)
-      by true e = subst (λ i. StageFits Client (Called (SessionEstablished id at) ∷ log) table i (stage i)) (sym zero-id ∙ eqb-true id k e) front
+      by : (e : Bool) → (id == k) ≡ e → StageFits Client (stream_use Client (Called (SessionEstablished id at) ∷ log)) table k (stage k)
+      by true e = subst (λ i. StageFits Client (stream_use Client (Called (SessionEstablished id at) ∷ log)) table i (stage i)) (sym zero-id ∙ eqb-true id k e) front
       by false e =
           not-request (k % 4 == 3) (k % 4 == 1) (k == 0) (k % 4 == 0) (stream_use Client log k) (Some (id, at)) table.progress.ending (classified_of k table.classified) (stage k)
           (turned-round 0 k (ap (λ i. i == k) (sym zero-id) ∙ e)) (f k e)
 
-  server-established : (id at : ℕ) → TableFits Server log table stage → TableFits Server (Called (SessionEstablished id at) ∷ log) table stage
+  server-established : (id at : ℕ) → TableFits Server (stream_use Server log) table stage → TableFits Server (stream_use Server (Called (SessionEstablished id at) ∷ log)) table stage
   server-established id at f k = other-role (k % 4 == 2) (k % 4 == 0) (k % 4 == 1) (stream_use Server log k) (Some (id, at)) table.progress.ending (classified_of k table.classified) (stage k) (f k)
 
 -- a client's session is on the stream for its request
@@ -156,12 +156,12 @@ IsOwn Server cs = Unit {0}
 
 module _ (side : Side) (log : Log) (table : StreamTable) (stage : ℕ → Stage) where
   -- what the calls did to another stream stays
-  same-use : (k : ℕ) (r : CallRecord) → stream_use side (Called r ∷ log) k ≡ stream_use side log k → StageFits side log table k (stage k) → StageFits side (Called r ∷ log) table k (stage k)
+  same-use : (k : ℕ) (r : CallRecord) → stream_use side (Called r ∷ log) k ≡ stream_use side log k → StageFits side (stream_use side log) table k (stage k) → StageFits side (stream_use side (Called r ∷ log)) table k (stage k)
   same-use k r same f = says-so (role_of side k) (stream_use side log k) (stream_use side (Called r ∷ log) k) table.progress.ending (classified_of k table.classified) (stage k) (sym same) f
 
-  read-fits : (id count : ℕ) → is_for_application (role_of side id) (classified_of id table.classified) ≡ true → TableFits side log table stage
-      → TableFits side (Called (BytesRead id count) ∷ log) table (called_stages side log (BytesRead id count) stage)
-  read-fits id count may f = with-fits (StageFits side (Called (BytesRead id count) ∷ log) table) stage id (read_stage count (stage id)) (λ k e. same-use k (BytesRead id count) (rw e refl) (f k))
+  read-fits : (id count : ℕ) → is_for_application (role_of side id) (classified_of id table.classified) ≡ true → TableFits side (stream_use side log) table stage
+      → TableFits side (stream_use side (Called (BytesRead id count) ∷ log)) table (called_stages side log (BytesRead id count) stage)
+  read-fits id count may f = with-fits (StageFits side (stream_use side (Called (BytesRead id count) ∷ log)) table) stage id (read_stage count (stage id)) (λ k e. same-use k (BytesRead id count) (rw e refl) (f k))
       (says-so (role_of side id) _ (stream_use side (Called (BytesRead id count) ∷ log) id) table.progress.ending (classified_of id table.classified) _ (sym same) (read-says (role_of side id) (stream_use side log id) count table.progress.ending (classified_of id table.classified) (stage id) may (f id)))
     where
       same : stream_use side (Called (BytesRead id count) ∷ log) id ≡ record (stream_use side log id) { read = count + (stream_use side log id).read }
@@ -171,15 +171,15 @@ module _ (side : Side) (log : Log) (table : StreamTable) (stage : ℕ → Stage)
   drop-fits : (id : ℕ) (r : CallRecord) (there : Bool) → is_for_application (role_of side id) (classified_of id table.classified) ≡ true
       → ((k : ℕ) → (id == k) ≡ false → stream_use side (Called r ∷ log) k ≡ stream_use side log k)
       → stream_use side (Called r ∷ log) id ≡ record (stream_use side log id) { is_dropped = there || (stream_use side log id).is_dropped }
-      → TableFits side log table stage → TableFits side (Called r ∷ log) table (with_stage stage id (unless_given_up there (stage id)))
-  drop-fits id r there may others so f = with-fits (StageFits side (Called r ∷ log) table) stage id (unless_given_up there (stage id)) (λ k e. same-use k r (others k e) (f k))
+      → TableFits side (stream_use side log) table stage → TableFits side (stream_use side (Called r ∷ log)) table (with_stage stage id (unless_given_up there (stage id)))
+  drop-fits id r there may others so f = with-fits (StageFits side (stream_use side (Called r ∷ log)) table) stage id (unless_given_up there (stage id)) (λ k e. same-use k r (others k e) (f k))
       (says-so (role_of side id) _ (stream_use side (Called r ∷ log) id) table.progress.ending (classified_of id table.classified) (unless_given_up there (stage id)) (sym so)
       (dropped-says (role_of side id) (stream_use side log id) there table.progress.ending (classified_of id table.classified) (stage id) may (f id)))
 
 -- a session is established
 established-fits : (side : Side) (log : Log) (table : StreamTable) (stage : ℕ → Stage) (id at : ℕ) → IsOwn side table.classified
-    → session_at side (role_of side id) (classified_of id table.classified) at ≡ Some at → TableFits side log table stage
-    → TableFits side (Called (SessionEstablished id at) ∷ log) table (established_stages side id at stage)
+    → session_at side (role_of side id) (classified_of id table.classified) at ≡ Some at → TableFits side (stream_use side log) table stage
+    → TableFits side (stream_use side (Called (SessionEstablished id at) ∷ log)) table (established_stages side id at stage)
 established-fits Client log table stage id at own may f =
     let zero-id = client-id id at (classified_of id table.classified) may in
     client-established log table (with_stage stage id (Body at)) id at zero-id (λ k e. rw e (f k)) (rw (eq-eqb id id refl) refl) (ap (λ i. classified_of i table.classified) zero-id ∙ own)
@@ -191,7 +191,7 @@ named-for role (Some c) e = e
 
 -- each call leaves each stream at a stage that fits
 pub called-fits : (side : Side) (log : Log) (stage : ℕ → Stage) (r : CallRecord) → IsOwn side (stream_table side log).classified → MayUse side log r → StagesFit side log stage
-    → TableFits side (Called r ∷ log) (stream_table side log) (called_stages side log r stage)
+    → TableFits side (stream_use side (Called r ∷ log)) (stream_table side log) (called_stages side log r stage)
 called-fits side log stage (BytesRead id count) own may f = read-fits side log (stream_table side log) stage id count may.0 f
 called-fits side log stage (StreamGivenUp id) own may f =
     drop-fits side log (stream_table side log) stage id (StreamGivenUp id) (is_there side log id) may (λ k e. rw e refl) (rw (eq-eqb id id refl) refl) f

@@ -4,7 +4,7 @@ use Rattle.std.specs.Prelude.{Option, Some, None, ◌==◌, ◌||◌, ◌&&◌, 
 use Rattle.std.proofs.lemmas.Bool.{eq-eqb}
 use Rattle.wt_driver.proofs.StageEntries.{up-to, with-fits}
 use Rattle.wt_driver.specs.Scanning.{awaits, classified_stage, dequeue_stage, header_stage, rule_of, scan_stages, stages_on, unless_given_up, visit_stage}
-use Rattle.wt_driver.specs.Stages.{BodySays, ClassifiedSays, FirstSays, RequestSays, ResponseSays, StageFits, StageSays, TableFits, peer_role, stream_use}
+use Rattle.wt_driver.specs.Stages.{BodySays, ClassifiedSays, FirstSays, RequestSays, ResponseSays, StageFits, StageSays, TableFits, peer_role}
 use Rattle.wt_driver_spec.specs.Uses.{CallUse, ForRequest, OfLocalBi, OfLocalUni, OfPeerBi, OfPeerUni, StreamRole, classified_of, role_of}
 use Rattle.wt_dispatch.specs.declared.slot.Half.{Half}
 use Rattle.wt_dispatch.specs.declared.slot.Half.TheVariants.{Bi, Uni}
@@ -17,7 +17,6 @@ use Rattle.wt_proto.specs.declared.verdict.Verdict.{Verdict}
 use Rattle.wt_proto.specs.declared.verdict.Verdict.TheVariants as verdicts
 use Rattle.wt_spec.specs.Scan.{Scan, SlotRule, classify, dequeue, fault_ending, has, is_released, occupied, scan, unless_ended, visit, with_classified, with_dequeued}
 use Rattle.wt_spec.specs.StreamTable.{CallView, Classified, Consequence, Dispatched, Ending, TransportView, dispatched, only_once, verdict_of}
-use Rattle.wt_turn.specs.Log.{Log}
 use Rattle.wt_wire.specs.declared.side.Side.{Side}
 
 -- ---- one more classified stream
@@ -134,7 +133,7 @@ abbrev pub AreOf : Side → Half → List ℕ → Type 0
 AreOf side half [] = Unit {0}
 AreOf side half (k ∷ ks) = (role_of side k ≡ peer_role half) × AreOf side half ks
 
-module _ (side : Side) (log : Log) (ready : Bool) (half : Half) (t : TransportView) (d : CallView) where
+module _ (side : Side) (did : ℕ → CallUse) (ready : Bool) (half : Half) (t : TransportView) (d : CallView) where
   -- the rule of the kind
   abbrev rule : SlotRule
   rule = rule_of half t
@@ -151,28 +150,28 @@ module _ (side : Side) (log : Log) (ready : Bool) (half : Half) (t : TransportVi
   -- one stream was visited
   record Stepped (p q : Scan) (slots ls : List Slot) (stage : ℕ → Stage) : Type 0 where
     new : ℕ → Stage
-    fits : TableFits side log q.table new
+    fits : TableFits side did q.table new
     on : scan_stages ready half rule p.occupied (slots ++ ls) (known d p.table) stage ≡ scan_stages ready half rule q.occupied ls (known d q.table) new
 
   module _ (k : ℕ) (ls : List Slot) (p : Scan) (stage : ℕ → Stage) (runs : p.table.progress.ending ≡ None) (local : ℕ → Bool) (peers : local k ≡ false) (un : Untouched local d p.table)
-      (kind : role_of side k ≡ peer_role half) (f : TableFits side log p.table stage) where
+      (kind : role_of side k ≡ peer_role half) (f : TableFits side did p.table stage) where
     -- the stream's stage is set as it was
-    unchanged : TableFits side log p.table (with_stage stage k (stage k))
-    unchanged = with-fits (StageFits side log p.table) stage k (stage k) (λ j e. f j) (f k)
+    unchanged : TableFits side did p.table (with_stage stage k (stage k))
+    unchanged = with-fits (StageFits side did p.table) stage k (stage k) (λ j e. f j) (f k)
 
     module _ (none : verdict_of k p.table.classified ≡ None) where
       no-classified : classified_of k p.table.classified ≡ None
       no-classified = none-found k p.table.classified none
 
-      untouched : (awaits half (stage k) ≡ true) × ((stream_use side log k).read ≡ 0) × ((stream_use side log k).is_dropped ≡ false)
+      untouched : (awaits half (stage k) ≡ true) × ((did k).read ≡ 0) × ((did k).is_dropped ≡ false)
       untouched =
-          first-of half (role_of side k) (stream_use side log k) p.table.progress.ending (stage k) kind
-          (subst (λ (o : Option Classified). StageSays (role_of side k) (stream_use side log k) p.table.progress.ending o (stage k)) no-classified (f k))
+          first-of half (role_of side k) (did k) p.table.progress.ending (stage k) kind
+          (subst (λ (o : Option Classified). StageSays (role_of side k) (did k) p.table.progress.ending o (stage k)) no-classified (f k))
 
-      header : TableFits side log (with_dequeued k p.table) (with_stage stage k (header_stage half))
+      header : TableFits side did (with_dequeued k p.table) (with_stage stage k (header_stage half))
       header =
-          with-fits (StageFits side log (with_dequeued k p.table)) stage k (header_stage half) (λ j e. f j)
-          (rw no-classified (header-says half (role_of side k) (stream_use side log k) p.table.progress.ending kind untouched.1 untouched.2))
+          with-fits (StageFits side did (with_dequeued k p.table)) stage k (header_stage half) (λ j e. f j)
+          (rw no-classified (header-says half (role_of side k) (did k) p.table.progress.ending kind untouched.1 untouched.2))
 
       -- what follows from the verdict
       abbrev leads : Consequence
@@ -182,11 +181,11 @@ module _ (side : Side) (log : Log) (ready : Bool) (half : Half) (t : TransportVi
       abbrev found : Classified
       found = record { id = k; verdict = rule.verdict k; surplus = leads.surplus }
 
-      settled : TableFits side log (with_classified k (rule.verdict k) leads (with_dequeued k p.table)) (with_stage stage k (classified_stage leads.surplus (rule.verdict k)))
+      settled : TableFits side did (with_classified k (rule.verdict k) leads (with_dequeued k p.table)) (with_stage stage k (classified_stage leads.surplus (rule.verdict k)))
       settled =
-          with-fits (StageFits side log (with_classified k (rule.verdict k) leads (with_dequeued k p.table))) stage k (classified_stage leads.surplus (rule.verdict k))
-          (λ j e. rw (added-other found j p.table.classified e) (weaker-says (role_of side j) (stream_use side log j) p.table.progress.ending (fault_ending leads.fault) (classified_of j p.table.classified) (stage j) (λ g. runs) (f j)))
-          (rw (added-here found p.table.classified no-classified) (newly half t (dispatched d p.table.classified) k (rule.verdict k) (stream_use side log k) (fault_ending leads.fault) untouched.1 untouched.2))
+          with-fits (StageFits side did (with_classified k (rule.verdict k) leads (with_dequeued k p.table))) stage k (classified_stage leads.surplus (rule.verdict k))
+          (λ j e. rw (added-other found j p.table.classified e) (weaker-says (role_of side j) (did j) p.table.progress.ending (fault_ending leads.fault) (classified_of j p.table.classified) (stage j) (λ g. runs) (f j)))
+          (rw (added-here found p.table.classified no-classified) (newly half t (dispatched d p.table.classified) k (rule.verdict k) (did k) (fault_ending leads.fault) untouched.1 untouched.2))
 
       added-known : is_final (rule.verdict k) ≡ true → known_after k (rule.verdict k) leads (known d p.table) ≡ known d (with_classified k (rule.verdict k) leads (with_dequeued k p.table))
       added-known final = sym before ∙ ap (λ (x : Scanned). x.known) (scan-slots ready d rule local (k ∷ []) alone (refl, tt) (peers, tt) (record { released = un.released; delivered = un.delivered })) ∙ after
@@ -234,8 +233,8 @@ module _ (side : Side) (log : Log) (ready : Bool) (half : Half) (t : TransportVi
     step (Some v) e = some-step v (is_released (d.released k) v) refl
 
   -- all of the streams of a kind
-  pub scan-fits : (local : ℕ → Bool) (ks : List ℕ) (p : Scan) (stage : ℕ → Stage) → IsDistinct ks → ArePeers local ks → AreOf side half ks → Untouched local d p.table → TableFits side log p.table stage
-      → TableFits side log (scan ready d rule ks p).table (scan_stages ready half rule p.occupied (slots d p.table ks) (known d p.table) stage)
+  pub scan-fits : (local : ℕ → Bool) (ks : List ℕ) (p : Scan) (stage : ℕ → Stage) → IsDistinct ks → ArePeers local ks → AreOf side half ks → Untouched local d p.table → TableFits side did p.table stage
+      → TableFits side did (scan ready d rule ks p).table (scan_stages ready half rule p.occupied (slots d p.table ks) (known d p.table) stage)
   scan-fits local [] p stage dist peers kinds un f = f
   scan-fits local (k ∷ ks) p stage dist peers kinds un f =
       by p.table.progress.ending refl
@@ -249,14 +248,14 @@ module _ (side : Side) (log : Log) (ready : Bool) (half : Half) (t : TransportVi
       alone e = rw e refl
 
       by : (e : Option Ending) → p.table.progress.ending ≡ e
-          → ((new : ℕ → Stage) → IsDistinct ks → ArePeers local ks → AreOf side half ks → Untouched local d q.table → TableFits side log q.table new
-          → TableFits side log (scan ready d rule ks q).table (scan_stages ready half rule q.occupied (slots d q.table ks) (known d q.table) new))
+          → ((new : ℕ → Stage) → IsDistinct ks → ArePeers local ks → AreOf side half ks → Untouched local d q.table → TableFits side did q.table new
+          → TableFits side did (scan ready d rule ks q).table (scan_stages ready half rule q.occupied (slots d q.table ks) (known d q.table) new))
           → Untouched local d q.table
-          → TableFits side log (unless_ended e (λ q. scan ready d rule ks (visit ready d rule k (verdict_of k q.table.classified) q)) p).table
+          → TableFits side did (unless_ended e (λ q. scan ready d rule ks (visit ready d rule k (verdict_of k q.table.classified) q)) p).table
           (scan_stages ready half rule p.occupied (slots d p.table (k ∷ ks)) (known d p.table) stage)
-      by (Some e) ends again later = subst (TableFits side log p.table) (sym (stages-ended p.occupied (slots d p.table (k ∷ ks)) (known d p.table) stage e ends)) f
+      by (Some e) ends again later = subst (TableFits side did p.table) (sym (stages-ended p.occupied (slots d p.table (k ∷ ks)) (known d p.table) stage e ends)) f
       by None runs again later =
           let first = step k (slots d p.table ks) p stage runs local peers.0 un kinds.0 f (verdict_of k p.table.classified) refl in
           let others = slots-same d p.table q.table ks (λ j e. subst (λ (w : Scan). Same j p.table w.table) (alone runs) (scan-same ready d rule j (k ∷ []) p (rw (apart k j ks dist.0 e) refl))) in
           let rest = again first.new dist.1 peers.1 kinds.1 later first.fits in
-          subst (TableFits side log (scan ready d rule ks q).table) (ap (λ (ls : List Slot). scan_stages ready half rule q.occupied ls (known d q.table) first.new) others ∙ sym first.on) rest
+          subst (TableFits side did (scan ready d rule ks q).table) (ap (λ (ls : List Slot). scan_stages ready half rule q.occupied ls (known d q.table) first.new) others ∙ sym first.on) rest

@@ -90,17 +90,17 @@ abbrev pub StageSays : StreamRole → CallUse → Option Ending → Option Class
 StageSays role done ending None stage = FirstSays role done ending stage
 StageSays role done ending (Some c) stage = ClassifiedSays c.surplus c.verdict done ending stage
 
--- stream k is at this stage, by the calls of the log and the table
-abbrev pub StageFits : Side → Log → StreamTable → ℕ → Stage → Type 0
-StageFits side log table k stage = StageSays (role_of side k) (stream_use side log k) table.progress.ending (classified_of k table.classified) stage
+-- stream k is at this stage, by what the calls did to each stream and the table
+abbrev pub StageFits : Side → (ℕ → CallUse) → StreamTable → ℕ → Stage → Type 0
+StageFits side did table k stage = StageSays (role_of side k) (did k) table.progress.ending (classified_of k table.classified) stage
 
--- each stream is at its stage, by the calls of the log and the table
-abbrev pub TableFits : Side → Log → StreamTable → (ℕ → Stage) → Type 0
-TableFits side log table stage = (k : ℕ) → StageFits side log table k (stage k)
+-- each stream is at its stage, by what the calls did to it and the table
+abbrev pub TableFits : Side → (ℕ → CallUse) → StreamTable → (ℕ → Stage) → Type 0
+TableFits side did table stage = (k : ℕ) → StageFits side did table k (stage k)
 
 -- each stream is at its stage after the log
 abbrev pub StagesFit : Side → Log → (ℕ → Stage) → Type 0
-StagesFit side log stage = TableFits side log (stream_table side log) stage
+StagesFit side log stage = TableFits side (stream_use side log) (stream_table side log) stage
 
 -- ---- the stages after an entry and its moment
 
@@ -114,7 +114,7 @@ abbrev pub established_stages : Side → ℕ → ℕ → (ℕ → Stage) → ℕ
 established_stages Client id at stage = with_stage stage id (Body at)
 established_stages Server id at stage = stage
 
--- the stage of a stream of which so many bytes more are read
+-- the stage of a stream of which so many bytes more are read: one that is given up stays so
 abbrev pub read_stage : ℕ → Stage → Stage
 read_stage count GivenUp = GivenUp
 read_stage count stage = stage_from (read_on count (body_offset stage))
