@@ -19,6 +19,7 @@ pub mod StageTables
 pub mod StageAnswers
 pub mod StageAsks
 pub mod StageUses
+pub mod LetGo
 pub mod StageTurns
 pub mod StageSteps
 pub mod StageWork

@@ -1,6 +1,7 @@
 -- At which stage of its reading each stream is after a log: what the driver does with a stream says of it.
 use Rattle.std.specs.Prelude.{[], ◌&&◌, drop, ◌+◌, ◌==◌, ◌||◌, ◌∷◌, ◌≡◌, Bool, None, Option, Some, false, not, true, ℕ}
 use Rattle.wt_driver.specs.Scanning.{scan_stages, unless_given_up}
+use Rattle.wt_dispatch.specs.Rules.{is_given_up}
 use Rattle.wt_dispatch.specs.declared.slot.Half.{Half}
 use Rattle.wt_dispatch.specs.declared.slot.Half.TheVariants.{Bi, Uni}
 use Rattle.wt_driver_spec.specs.DriverState.{DriverState}
@@ -13,7 +14,7 @@ use Rattle.wt_proto.specs.declared.verdict.Verdict.{Verdict}
 use Rattle.wt_seam_spec.specs.Streams.{can_receive}
 use Rattle.wt_spec.specs.Driver.{apply_if, stream_table}
 use Rattle.wt_spec.specs.Scan.{bi_rule, check_datagram, check_session, critical_if, uni_rule, unless_ended}
-use Rattle.wt_spec.specs.StreamTable.{Classified, Ending, Progress, StreamTable, TransportView}
+use Rattle.wt_spec.specs.StreamTable.{Classified, Ending, Progress, StreamTable, TransportView, is_request}
 use Rattle.wt_turn.specs.Log.{BytesRead, CallRecord, Called, Entry, Log, SessionEstablished, StreamGivenUp, StreamPassed, calls_of}
 use Rattle.wt_wire.specs.declared.side.Side.{Side}
 use Rattle.wt_wire.specs.declared.side.Side.TheVariants.{Client, Server}
@@ -84,6 +85,11 @@ ClassifiedSays surplus (verdicts.WebTransport session at) done ending stage = Bo
 ClassifiedSays surplus verdicts.Dropped done ending stage = stage ≡ GivenUp
 ClassifiedSays surplus (verdicts.Refused code) done ending stage = stage ≡ GivenUp
 ClassifiedSays surplus _ done ending stage = Unit {0}
+
+-- nothing is kept of a stream that is classified so: dropped, refused, or a surplus request
+abbrev pub is_unwanted : Option Classified → Bool
+is_unwanted None = false
+is_unwanted (Some c) = is_given_up c.verdict || (is_request c.verdict && c.surplus)
 
 -- of any stream
 abbrev pub StageSays : StreamRole → CallUse → Option Ending → Option Classified → Stage → Type 0
