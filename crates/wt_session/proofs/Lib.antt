@@ -11,3 +11,4 @@ pub mod Leaves
 pub mod Stays
 pub mod Outlasts
 pub mod Gives
+pub mod LetGo
