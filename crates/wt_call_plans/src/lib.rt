@@ -4,5 +4,3 @@
 
 pub mod connect_options;
 pub mod plans;
-#[cfg(test)]
-mod tests;

@@ -5,6 +5,4 @@
 pub mod bichannel;
 pub mod laws;
 pub mod shared_result;
-#[cfg(test)]
-mod tests;
 pub mod utils;

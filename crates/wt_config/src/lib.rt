@@ -26,8 +26,6 @@ pub mod dns;
 pub mod idle;
 pub mod server;
 pub mod states;
-#[cfg(test)]
-mod tests;
 pub mod theorems;
 pub mod tls;
 pub mod verification;

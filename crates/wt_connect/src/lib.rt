@@ -4,5 +4,3 @@
 pub mod connect_request;
 pub mod connect_target;
 pub mod laws;
-#[cfg(test)]
-mod tests;

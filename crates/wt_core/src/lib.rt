@@ -6,7 +6,5 @@
 
 pub mod machine;
 pub mod send;
-#[cfg(test)]
-mod tests;
 
 pub use machine::Core;

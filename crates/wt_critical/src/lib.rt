@@ -7,8 +7,6 @@ pub mod qpack;
 mod reading;
 pub mod settings;
 mod shown;
-#[cfg(test)]
-mod tests;
 
 pub use connect::ConnectStream;
 pub use qpack::{RemoteQPackDecStream, RemoteQPackEncStream};

@@ -5,8 +5,6 @@
 
 pub mod driver;
 mod scan;
-#[cfg(test)]
-mod tests;
 
 pub use wt_channel::{bichannel, shared_result, utils};
 pub use wt_critical::{connect, qpack, settings};

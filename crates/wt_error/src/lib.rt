@@ -12,8 +12,6 @@ pub mod loss;
 pub mod piece;
 pub mod proto_error;
 pub mod stream_error;
-#[cfg(test)]
-mod tests;
 
 pub use close::{ApplicationClose, ConnectionClose, PeerClose};
 pub use loss::LossReason;

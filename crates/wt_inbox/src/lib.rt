@@ -10,7 +10,5 @@ mod copies;
 pub mod inbox;
 mod reading;
 mod shelf;
-#[cfg(test)]
-mod tests;
 
 pub use inbox::Inbox;

@@ -7,8 +7,6 @@
 pub mod capsule;
 pub mod datagram;
 pub mod session;
-#[cfg(test)]
-mod session_tests;
 pub mod settings;
 pub mod theorems;
 

@@ -8,19 +8,13 @@ mod cursor;
 pub mod outgoing;
 pub mod reader;
 pub mod reader_laws;
-#[cfg(test)]
-mod reader_tests;
 pub mod response_walk;
 pub mod session_walk;
 pub mod steps;
 pub mod stream_header;
-#[cfg(test)]
-mod table_tests;
 pub mod theorems;
 pub mod verdict;
 pub mod walk;
-#[cfg(test)]
-mod walk_tests;
 mod wanted;
 
 pub use alpn::WEBTRANSPORT_ALPN;

@@ -8,5 +8,3 @@
 
 pub mod print;
 pub mod script;
-#[cfg(test)]
-mod tests;

@@ -6,8 +6,6 @@
 #![tactic(auto)]
 
 pub mod halves;
-#[cfg(test)]
-mod tests;
 pub mod transport;
 
 pub use halves::{QuicRecvStream, QuicSendStream};

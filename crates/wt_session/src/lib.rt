@@ -15,8 +15,6 @@ pub mod recv_stream;
 pub mod rejecting;
 mod response;
 pub mod send_stream;
-#[cfg(test)]
-mod tests;
 
 pub use wt_calls::connect_options;
 pub use wt_turn::{connecting_error, connection_error, stream_error};

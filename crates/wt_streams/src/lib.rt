@@ -6,6 +6,4 @@ pub mod half_answers;
 pub mod outbox;
 pub mod row;
 pub mod stream;
-#[cfg(test)]
-mod tests;
 pub mod unread;

@@ -2,4 +2,5 @@
 mod copies;
 mod table;
 mod texts;
+mod turns;
 mod values;

@@ -9,8 +9,6 @@ pub mod generate;
 pub mod outside;
 pub mod program;
 pub mod summary;
-#[cfg(test)]
-mod tests;
 pub mod trace;
 
 pub use program::run_program;

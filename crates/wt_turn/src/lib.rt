@@ -17,8 +17,6 @@ pub mod reply;
 pub mod rows;
 pub mod send;
 pub mod sequence;
-#[cfg(test)]
-mod tests;
 pub mod turn;
 
 pub use action::{Action, Actions};

@@ -1,5 +1,5 @@
 -- What a read answers is the grammar's over all bytes since the last item, whatever the pieces.
-use Rattle.std.proofs.Common.{◌≡◌, ℕ, Bool, true, false, List, ◌++◌, Option, Some, None, Result, Ok, Err, refl, sym, ap, ◌∙◌}
+use Rattle.std.proofs.Common.{◌≡◌, ℕ, Bool, true, false, List, ◌++◌, Option, Some, None, Result, Ok, Err, refl, sym, ap, subst, ◌∙◌}
 use Rattle.std.specs.Prelude.{IfOk, OnOk}
 use Rattle.wt_wire.specs.declared.error.ErrorCode.{ErrorCode}
 use Rattle.wt_wire.specs.declared.side.StreamEnd.{StreamEnd}
@@ -70,3 +70,10 @@ pub header_since : (a : Poll (Result UniHeader ProtoReadError)) (p new : Progres
     → a ≡ read_answer open_ end (reached (fed header_decides p more)) → new ≡ after_read (fed header_decides p more)
     → (bytes : List ℕ) → HasBegun header_decides tt p bytes → HasBegun header_decides tt new (since_item a (bytes ++ more))
 header_since a p new more open_ end told left = item_since {E = Unit {0}} header_decides header_steady tt (λ xs. refl) (Ok a) p new more open_ end told left
+
+-- where the read answers so
+pub header_since_as : (a b : Poll (Result UniHeader ProtoReadError)) (p new : Progress (Unit {0}) (Result UniHeader ErrorCode)) (more : List ℕ) (open_ : Bool) (end : StreamEnd)
+    → a ≡ read_answer open_ end (reached (fed header_decides p more)) → new ≡ after_read (fed header_decides p more) → a ≡ b
+    → (bytes : List ℕ) → HasBegun header_decides tt p bytes → HasBegun header_decides tt new (since_item b (bytes ++ more))
+header_since_as a b p new more open_ end told left is bytes has =
+    subst (λ (x : Poll (Result UniHeader ProtoReadError)). HasBegun header_decides tt new (since_item x (bytes ++ more))) is (header_since a p new more open_ end told left bytes has)

@@ -9,8 +9,6 @@ pub mod next_frame;
 pub mod outgoing;
 pub mod session;
 pub mod stream;
-#[cfg(test)]
-mod tests;
 pub mod uni_header;
 pub mod unilocal;
 pub mod uniremote;

@@ -28,7 +28,6 @@ impl Stream<Pair, Session> {
     /// between frames by `IO(ImmediateFin)`, the end inside a frame by `IO(UnexpectedFin)`, a reset by
     /// `IO(Reset)`, and where nothing whole is left on a connection that isn't open
     /// `IO(NotConnected)`.
-    #[tactic(auto, using(crate::proofs::ReadLaws::frames_since))]
     pub fn read_frame(
         &mut self,
         t: &mut Transport,

@@ -84,7 +84,6 @@ impl Stream<QuicRecvStream, UniRemoteQuic> {
     /// a session's id that isn't a multiple of 4 by `H3(Id)`, an end before the header by
     /// `IO(ImmediateFin)`, one inside it by `IO(UnexpectedFin)`, a reset by `IO(Reset)`, and a header
     /// that isn't whole on a connection that isn't open by `IO(NotConnected)`.
-    #[tactic(auto, using(crate::proofs::ReadLaws::header_since))]
     pub fn upgrade(
         &mut self,
         t: &mut Transport,
@@ -134,7 +133,6 @@ impl Stream<QuicRecvStream, UniRemoteH3> {
     /// answered by `H3(ExcessiveLoad)`, a signal by `H3(FrameUnexpected)`, the end between frames by
     /// `IO(ImmediateFin)`, the end inside a frame by `IO(UnexpectedFin)`, a reset by `IO(Reset)`, and
     /// where nothing whole is left on a connection that isn't open `IO(NotConnected)`.
-    #[tactic(auto, using(crate::proofs::ReadLaws::frames_since))]
     pub fn read_frame(
         &mut self,
         t: &mut Transport,

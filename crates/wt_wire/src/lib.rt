@@ -7,11 +7,7 @@ pub mod addr;
 pub mod error;
 pub mod exercise;
 mod field_section;
-#[cfg(test)]
-mod field_tests;
 pub mod frame;
-#[cfg(test)]
-mod frame_tests;
 pub mod header_list;
 pub mod headers;
 pub mod ids;

@@ -1,0 +1,6 @@
+//! What the contracts leave open: that memory suffices where there is enough, and worked cases.
+mod calls;
+mod clients;
+mod drivers;
+mod floods;
+mod sessions;

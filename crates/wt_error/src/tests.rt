@@ -1,2 +1,0 @@
-//! What the contracts leave open: texts.
-mod texts;

@@ -1,5 +1,0 @@
-//! What the contracts leave open: that memory suffices where there is enough, and whole sessions.
-mod generated;
-mod outside;
-mod program;
-mod trace;

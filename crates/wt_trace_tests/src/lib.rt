@@ -1,0 +1,5 @@
+//! Tests of runs and of the program. There are tests here and no code.
+#![tactic(auto)]
+
+#[cfg(test)]
+mod tests;
