@@ -3,16 +3,17 @@ use Rattle.std.proofs.lemmas.Bool.{true≢false}
 use Rattle.wt_driver.proofs.Restaged.{twice}
 use Rattle.wt_inbox.specs.Stage.{GivenUp, with_stage}
 use Rattle.wt_driver.proofs.scan.give_up_if.Goals as goal
+use Rattle.wt_driver.proofs.scan.give_up_if.Goals.{else-test-via-then-test+else-can_receive, else-test-via-else-test}
 
 pub returns-then-can_receive : goal.returns-then-can_receive
 returns-then-can_receive c = record {
   log = λ side log stage to untaken r can. rw c.if-test.true (twice side _ log untaken stage c.args.id to GivenUp (c.give_up.ensures.log side log (with_stage stage c.args.id to) untaken r));
 }
 
-pub returns-else-can_receive : goal.returns-else-can_receive
-returns-else-can_receive c = record {
-  log = λ side log stage to untaken r can. absurd (true≢false (sym can ∙ sym (c.can_receive.ensures.log side log (with_stage stage c.args.id to) untaken r) ∙ c.if-can_receive.false));
-}
-
 pub returns-else-test : goal.returns-else-test
-returns-else-test c = record { log = λ side log stage to untaken r can. rw c.if-test.false r }
+returns-else-test c = elim c.else-test.branch [
+  | else-test-via-then-test+else-can_receive w ↦ record {
+    log = λ side log stage to untaken r can. absurd (true≢false (sym can ∙ sym (w.can_receive.ensures.log side log (with_stage stage c.args.id to) untaken r) ∙ w.if-can_receive.false));
+  }
+  | else-test-via-else-test w ↦ record { log = λ side log stage to untaken r can. rw w.if-test.false r }
+]
