@@ -4,7 +4,6 @@ mod drivers;
 mod halves;
 mod machine;
 mod options;
-mod polls;
 mod sessions;
 mod streams;
 mod values;

@@ -4,7 +4,6 @@ ghost use Rattle.std.specs.Prelude.{◌≡◌, IfOk, IfSome, false, length, true
 ghost use Rattle.wt_driver.specs.Tie.{Follows};
 ghost use Rattle.wt_laws.specs.Reachable.{IsReachable};
 ghost use Rattle.wt_session.specs.Openings.{IsOpening};
-ghost use Rattle.wt_session.specs.Standing.{IsEstablished};
 ghost use Rattle.wt_session_spec.specs.HalfPlans.{read_reply, write_reply};
 ghost use Rattle.wt_spec.specs.Answers.{call_effect};
 ghost use Rattle.wt_spec.specs.Halves.{has_receiving_half};
@@ -14,7 +13,6 @@ ghost use Rattle.wt_wire.specs.declared.side.Side.{Side};
 
 use std::alloc::Global;
 use wt_driver::driver::Driver;
-use wt_session::connection::Connection;
 use wt_session::laws::calls_lead_on;
 use wt_session::opening::OpeningUniStream;
 use wt_session::recv_stream::RecvStream;
@@ -45,28 +43,6 @@ fn read_in_turn(
     Ok((one, other))
 }
 
-/// The peer's next stream is accepted, and read where there is one.
-fn read_accepted(
-    alloc: Global,
-    d: &mut Driver,
-    session: &mut Connection,
-    buf: &mut [u8],
-) -> Result<Option<(StreamId, ReadAnswer)>, OutOfMemory>
-    ensures { (side : Side) (log : Log) (taken : ℕ) → Follows side d.old log taken → IsReachable side log → IsEstablished log session.old
-        → IfOk result (λ read. IfSome read (λ r. read_reply buf.new r.1 ≡ (call_effect side (call_effect side log calls.AcceptUni).log (calls.Read r.0 (length buf.old))).reply)) }
-{
-    calls_lead_on();
-    let accepted = session.accept_uni(alloc, d)?;
-    match accepted {
-        Poll::Ready(Ok(mut half)) => {
-            let id = half.id();
-            let answer = half.read(d, buf)?;
-            Ok(Some((id, answer)))
-        }
-        _ => Ok(None),
-    }
-}
-
 /// A stream that is being opened is polled, and written where it is open.
 fn write_polled(
     alloc: Global,
@@ -85,28 +61,6 @@ fn write_polled(
             let id = half.id();
             let answer = half.write(alloc, d, bytes)?;
             Ok(Some((id, answer)))
-        }
-        _ => Ok(None),
-    }
-}
-
-/// A stream is opened, polled once, and written where it is open then.
-fn write_opened(
-    alloc: Global,
-    d: &mut Driver,
-    session: &mut Connection,
-    bytes: &[u8],
-) -> Result<Option<(OpeningUniStream, Option<(StreamId, WriteAnswer)>)>, OutOfMemory>
-    ensures { (side : Side) (log : Log) (taken : ℕ) → Follows side d.old log taken → IsReachable side log → IsEstablished log session.old
-        → IfOk result (λ opened. IfSome opened (λ o. IfSome o.1 (λ w. write_reply w.1
-        ≡ (call_effect side (call_effect side (call_effect side log calls.OpenUni).log (calls.PollOpening o.0.id)).log (calls.Write w.0 bytes.now)).reply))) }
-{
-    calls_lead_on();
-    let opened = session.open_uni(alloc, d)?;
-    match opened {
-        Poll::Ready(Ok(mut opening)) => {
-            let written = write_polled(alloc, d, &mut opening, bytes)?;
-            Ok(Some((opening, written)))
         }
         _ => Ok(None),
     }
