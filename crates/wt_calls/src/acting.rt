@@ -15,7 +15,7 @@ ghost use Rattle.wt_spec.specs.Driver.{log_and_flush};
 ghost use Rattle.wt_spec.specs.Effect.{log_call, pending_or_failed};
 ghost use Rattle.wt_turn.specs.Log.{Called, Log, Polled, with_actions};
 ghost use Rattle.wt_turn.specs.Records.{record_of};
-ghost use Rattle.wt_turn.specs.declared.reply.Reply.TheVariants as replies;
+ghost use Rattle.wt_reply.specs.declared.reply.Reply.TheVariants as replies;
 ghost use Rattle.wt_wire.specs.declared.side.Side.{Side};
 
 use std::alloc::Global;

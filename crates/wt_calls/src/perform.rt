@@ -13,7 +13,7 @@ ghost use Rattle.wt_spec.specs.Connection.{accept_stream, receive_datagram};
 ghost use Rattle.wt_spec.specs.Effect.{log_call};
 ghost use Rattle.wt_turn.specs.Log.{CallRecord, Log, Polled, calls_of, with_actions};
 ghost use Rattle.wt_turn.specs.Records.{record_of};
-ghost use Rattle.wt_turn.specs.declared.reply.Reply.TheVariants as replies;
+ghost use Rattle.wt_reply.specs.declared.reply.Reply.TheVariants as replies;
 ghost use Rattle.wt_wire.specs.declared.side.Side.{Side};
 
 use crate::acting;

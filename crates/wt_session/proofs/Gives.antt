@@ -39,8 +39,8 @@ use Rattle.wt_turn.specs.declared.call.Call.{Call}
 use Rattle.wt_turn.specs.declared.call.Call.TheVariants as calls
 use Rattle.wt_turn.specs.declared.poll.Poll.{Poll}
 use Rattle.wt_turn.specs.declared.poll.Poll.TheVariants.{Pending, Ready}
-use Rattle.wt_turn.specs.declared.reply.Reply.{Reply}
-use Rattle.wt_turn.specs.declared.reply.Reply.TheVariants as replies
+use Rattle.wt_reply.specs.declared.reply.Reply.{Reply}
+use Rattle.wt_reply.specs.declared.reply.Reply.TheVariants as replies
 use Rattle.wt_turn.specs.declared.turn.Turn.{Turn}
 use Rattle.wt_turn.specs.declared.turn.Turn.TheVariants as turns
 use Rattle.wt_wire.specs.Ids.{is_bidirectional}

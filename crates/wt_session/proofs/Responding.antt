@@ -36,8 +36,8 @@ use Rattle.wt_turn.specs.Log.{CallRecord, HandshakeOver, Log, Polled, ResponseSt
 use Rattle.wt_turn.specs.declared.action.Action.{Action}
 use Rattle.wt_turn.specs.declared.call.Call.{Call}
 use Rattle.wt_turn.specs.declared.call.Call.TheVariants as calls
-use Rattle.wt_turn.specs.declared.reply.Reply.{Reply}
-use Rattle.wt_turn.specs.declared.reply.Reply.TheVariants as replies
+use Rattle.wt_reply.specs.declared.reply.Reply.{Reply}
+use Rattle.wt_reply.specs.declared.reply.Reply.TheVariants as replies
 use Rattle.wt_wire.specs.declared.error.OutOfMemory.{OutOfMemory}
 use Rattle.wt_wire.specs.declared.side.Side.{Side}
 

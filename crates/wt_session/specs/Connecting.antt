@@ -6,8 +6,8 @@ use Rattle.wt_turn.specs.Log.{Log, calls_of}
 use Rattle.wt_error.specs.declared.connecting_error.ConnectingError.{ConnectingError}
 use Rattle.wt_turn.specs.declared.poll.Poll.{Poll}
 use Rattle.wt_turn.specs.declared.poll.Poll.TheVariants.{Pending, Ready}
-use Rattle.wt_turn.specs.declared.reply.Reply.{Reply}
-use Rattle.wt_turn.specs.declared.reply.Reply.TheVariants as replies
+use Rattle.wt_reply.specs.declared.reply.Reply.{Reply}
+use Rattle.wt_reply.specs.declared.reply.Reply.TheVariants as replies
 
 -- a connect: the first name of a field that only the session layer sets, and the frame of its request
 pub record Connect : Type 0 where

@@ -11,7 +11,7 @@ ghost use Rattle.wt_spec.specs.Answers.{call_effect};
 ghost use Rattle.wt_spec.specs.Halves.{has_receiving_half, has_sending_half};
 ghost use Rattle.wt_turn.specs.Log.{Log};
 ghost use Rattle.wt_turn.specs.declared.call.Call.TheVariants as calls;
-ghost use Rattle.wt_turn.specs.declared.reply.Reply.TheVariants as replies;
+ghost use Rattle.wt_reply.specs.declared.reply.Reply.TheVariants as replies;
 ghost use Rattle.wt_wire.specs.declared.side.Side.{Side};
 
 use crate::calling::{carry_out, perform, record, transport};

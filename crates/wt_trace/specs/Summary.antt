@@ -2,8 +2,8 @@
 use Rattle.std.specs.Prelude.{ℕ, ◌++◌, Bool, true, false, List, length, codes, count_by, sum_by, Some}
 use Rattle.std.specs.Fmt.{decimal}
 use Rattle.wt_turn.specs.declared.answer.Answer.{Answer}
-use Rattle.wt_turn.specs.declared.reply.Reply.{Reply}
-use Rattle.wt_turn.specs.declared.reply.Reply.TheVariants as replies
+use Rattle.wt_reply.specs.declared.reply.Reply.{Reply}
+use Rattle.wt_reply.specs.declared.reply.Reply.TheVariants as replies
 use Rattle.wt_trace.specs.declared.summary.Summary.{Summary}
 
 -- the reply gives a unidirectional stream

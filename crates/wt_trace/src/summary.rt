@@ -3,7 +3,7 @@ ghost use Rattle.std.specs.Prelude.{◌≡◌, ◌+◌, ◌++◌, ◌∷◌, [],
 ghost use Rattle.std.specs.Fmt.{decimal};
 ghost use Rattle.wt_trace.specs.Summary.{bytes_given, gives_uni, summary_line, summary_of};
 ghost use Rattle.wt_turn.specs.declared.answer.Answer.{Answer};
-ghost use Rattle.wt_turn.specs.declared.reply.Reply.TheVariants as replies;
+ghost use Rattle.wt_reply.specs.declared.reply.Reply.TheVariants as replies;
 
 use std::alloc::Global;
 use wt_turn::answer::Answer;

@@ -3,8 +3,8 @@ use Rattle.wt_session.proofs.Sessions.{may_use, open_uni_comes, open_uni_planned
 use Rattle.wt_session.specs.Openings.{opening_in}
 use Rattle.wt_calls.specs.Given.{poll_reply}
 use Rattle.wt_turn.specs.declared.call.Call.TheVariants as calls
-use Rattle.wt_turn.specs.declared.reply.Reply.{Reply}
-use Rattle.wt_turn.specs.declared.reply.Reply.TheVariants as replies
+use Rattle.wt_reply.specs.declared.reply.Reply.{Reply}
+use Rattle.wt_reply.specs.declared.reply.Reply.TheVariants as replies
 use Rattle.wt_session.proofs.Gives.{opens_uni}
 use Rattle.wt_session.specs.Standing.{IfGiven}
 use Rattle.wt_session.proofs.connection.Connection.open_uni.Goals as goal

@@ -6,8 +6,8 @@ use Rattle.wt_calls.specs.Given.{poll_reply}
 use Rattle.wt_spec.specs.Answers.{call_effect}
 use Rattle.wt_spec.specs.Effect.{Effect}
 use Rattle.wt_turn.specs.declared.call.Call.TheVariants as calls
-use Rattle.wt_turn.specs.declared.reply.Reply.{Reply}
-use Rattle.wt_turn.specs.declared.reply.Reply.TheVariants as replies
+use Rattle.wt_reply.specs.declared.reply.Reply.{Reply}
+use Rattle.wt_reply.specs.declared.reply.Reply.TheVariants as replies
 use Rattle.wt_session.proofs.connection.Connection.receive_datagram.Goals as goal
 
 pub returns-clause-reply : goal.returns-clause-reply

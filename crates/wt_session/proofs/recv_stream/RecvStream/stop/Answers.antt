@@ -3,7 +3,7 @@ use Rattle.wt_session.proofs.Receiving.{may_use, stop_planned, stop_replies}
 use Rattle.wt_session.proofs.Told.{always}
 use Rattle.wt_spec.specs.Answers.{call_effect}
 use Rattle.wt_turn.specs.declared.call.Call.TheVariants as calls
-use Rattle.wt_turn.specs.declared.reply.Reply.TheVariants as replies
+use Rattle.wt_reply.specs.declared.reply.Reply.TheVariants as replies
 use Rattle.wt_session.proofs.recv_stream.RecvStream.stop.Goals as goal
 
 pub returns-clause-reply : goal.returns-clause-reply
