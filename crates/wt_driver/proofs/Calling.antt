@@ -15,7 +15,7 @@ use Rattle.wt_driver.specs.DriverValue.{DriverValue, IsAmong, with_state, withou
 use Rattle.wt_turn.specs.Records.{record_of}
 use Rattle.wt_turn.specs.declared.record.Record.{Record}
 use Rattle.wt_turn.specs.declared.record.Record.TheVariants as records
-use Rattle.wt_driver.specs.Scanning.{unless_given_up}
+use Rattle.wt_scan.specs.Scanning.{unless_given_up}
 use Rattle.wt_driver.specs.Stages.{called_stages, established_stages, is_there}
 use Rattle.wt_driver.specs.Tie.{Follows, TakenIn, unsettled, untaken_since}
 use Rattle.wt_driver_spec.proofs.RestMoments.{open-says}

@@ -1,6 +1,3 @@
-pub mod Restaged
-pub mod ScanSteps
-pub mod Visits
 pub mod Removing
 pub mod Moved
 pub mod Checks

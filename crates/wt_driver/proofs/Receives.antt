@@ -5,7 +5,7 @@ use Rattle.std.proofs.lemmas.Bool.{eqb-true, or_right, true≢false}
 use Rattle.wt_driver.proofs.FlushFacts.{AllReceive, ids-receive, not-bi, not-uni}
 use Rattle.wt_driver.proofs.StageScans.{verdict-found, verdict_in}
 use Rattle.wt_driver.specs.Moving.{CanGiveUp}
-use Rattle.wt_driver.specs.Scanning.{SlotsReceive}
+use Rattle.wt_scan.specs.Scanning.{SlotsReceive}
 use Rattle.wt_driver.specs.Stages.{is_there}
 use Rattle.wt_driver_spec.proofs.Following.{before_scan, sound, taken-in}
 use Rattle.wt_driver_spec.proofs.StreamIds.{bi-low, uni-low}

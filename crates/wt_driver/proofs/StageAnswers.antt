@@ -7,7 +7,7 @@ use Rattle.wt_driver.proofs.StageEntries.{IsOwn, client-id, up-to-says, with-fit
 use Rattle.wt_driver.proofs.StageScans.{AreOf, none-found, verdict-found}
 use Rattle.std.proofs.lemmas.Bool.Decides.{nat_tests}
 use Rattle.wt_driver.proofs.StageTables.{entry-found, is-own, use-session}
-use Rattle.wt_driver.specs.Scanning.{AllAwait}
+use Rattle.wt_scan.specs.Scanning.{AllAwait}
 use Rattle.wt_driver.specs.Stages.{BodySays, ClassifiedSays, FirstSays, ResponseSays, StageFits, StageSays, StagesFit, TableFits, is_let_go, is_there, peer_role, stream_use}
 use Rattle.wt_driver_spec.specs.Asking.{AwaitsResponse}
 use Rattle.wt_driver_spec.specs.Uses.{CallUse, ForRequest, OfLocalBi, OfLocalUni, StreamRole, Uses, classified_of, is_sessions, may_give, passes, response_at, role_by, role_of, use_of}

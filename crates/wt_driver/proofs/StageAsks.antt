@@ -6,7 +6,7 @@ use Rattle.wt_driver.proofs.StageChecks.{control-found, own-none, second-fits, w
 use Rattle.wt_driver.proofs.StageEntries.{IsOwn}
 use Rattle.wt_driver.proofs.StageMoments.{after-bis, after-unis, bis-fit, bis-of, entry-fits, unis-fit, unis-of}
 use Rattle.wt_driver.proofs.StageScans.{verdict-found, verdict_in}
-use Rattle.wt_driver.specs.Scanning.{AllAwait}
+use Rattle.wt_scan.specs.Scanning.{AllAwait}
 use Rattle.wt_driver.specs.Stages.{ClassifiedSays, StageSays, StagesFit, TableFits, bi_stages, datagram_checked, entry_stages, session_stages, stream_use, uni_stages, unless_ended_stage}
 use Rattle.wt_driver_spec.specs.Uses.{CallUse, ForRequest, MayUseBy, StreamRole, Uses, classified_of, request_at, response_at, role_of, session_at}
 use Rattle.wt_dispatch.specs.declared.slot.Half.TheVariants.{Bi, Uni}

@@ -3,7 +3,7 @@ use Rattle.std.proofs.Common.{arith, ◌%◌, ◌≡◌, ℕ, ◌+◌, Bool, tru
 use Rattle.std.specs.Prelude.{Option, Some, None, ◌==◌, ◌||◌, if◌then◌else◌}
 use Rattle.std.proofs.lemmas.Bool.{eq-eqb, eqb-true}
 use Rattle.wt_driver_spec.proofs.ClassifiedOnce.{turned-round}
-use Rattle.wt_driver.specs.Scanning.{unless_given_up}
+use Rattle.wt_scan.specs.Scanning.{unless_given_up}
 use Rattle.wt_driver.specs.Stages.{BodySays, ClassifiedSays, ReadUpTo, ResponseSays, StageFits, StageSays, StagesFit, TableFits, called_stages, established_stages, is_there, read_stage, stream_use}
 use Rattle.wt_driver_spec.specs.Uses.{CallUse, ForRequest, MayUse, OfLocalBi, StreamRole, classified_of, is_for_application, is_sessions, response_at, role_by, role_of, session_at}
 use Rattle.wt_inbox.specs.Stage.{Body, GivenUp, Stage, Untouched, body_offset, session_offset, with_stage}

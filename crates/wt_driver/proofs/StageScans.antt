@@ -3,7 +3,7 @@ use Rattle.std.proofs.Common.{◌≡◌, ◌+◌, ℕ, Bool, true, false, cond, 
 use Rattle.std.specs.Prelude.{Option, Some, None, ◌==◌, ◌||◌, ◌&&◌, nat_lt, if◌then◌else◌}
 use Rattle.std.proofs.lemmas.Bool.{eq-eqb}
 use Rattle.wt_driver.proofs.StageEntries.{up-to, with-fits}
-use Rattle.wt_driver.specs.Scanning.{awaits, classified_stage, dequeue_stage, header_stage, rule_of, scan_stages, stages_on, unless_given_up, visit_stage}
+use Rattle.wt_scan.specs.Scanning.{awaits, classified_stage, dequeue_stage, header_stage, rule_of, scan_stages, stages_on, unless_given_up, visit_stage}
 use Rattle.wt_driver.specs.Stages.{BodySays, ClassifiedSays, FirstSays, RequestSays, ResponseSays, StageFits, StageSays, TableFits, peer_role}
 use Rattle.wt_driver_spec.specs.Uses.{CallUse, ForRequest, OfLocalBi, OfLocalUni, OfPeerBi, OfPeerUni, StreamRole, classified_of, role_of}
 use Rattle.wt_dispatch.specs.declared.slot.Half.{Half}

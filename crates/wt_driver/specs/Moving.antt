@@ -1,7 +1,7 @@
 -- What a step within a moment leaves of a driver, for a log.
 use Rattle.std.specs.Prelude.{[], ◌∷◌, ◌≡◌, List, None, Option, Some, ℕ}
 use Rattle.wt_driver.specs.DriverValue.{DriverValue}
-use Rattle.wt_driver.specs.Scanning.{AllAwait, SlotsReceive}
+use Rattle.wt_scan.specs.Scanning.{AllAwait, SlotsReceive}
 use Rattle.wt_driver.specs.Stages.{bi_stages, datagram_checked, session_stages, uni_stages, unless_ended_stage}
 use Rattle.wt_dispatch.specs.declared.slot.Half.TheVariants.{Bi, Uni}
 use Rattle.wt_driver_spec.specs.Bounds.{AreDistinct, IsBounded}

@@ -1,6 +1,6 @@
 -- At which stage of its reading each stream is after a log: what the driver does with a stream says of it.
 use Rattle.std.specs.Prelude.{[], ◌&&◌, drop, ◌+◌, ◌==◌, ◌||◌, ◌∷◌, ◌≡◌, Bool, None, Option, Some, false, not, true, ℕ}
-use Rattle.wt_driver.specs.Scanning.{scan_stages, unless_given_up}
+use Rattle.wt_scan.specs.Scanning.{scan_stages, unless_given_up}
 use Rattle.wt_dispatch.specs.Rules.{is_given_up}
 use Rattle.wt_dispatch.specs.declared.slot.Half.{Half}
 use Rattle.wt_dispatch.specs.declared.slot.Half.TheVariants.{Bi, Uni}

@@ -1,5 +1,5 @@
 use Rattle.std.proofs.Common.{sym, subst, ◌∙◌}
-use Rattle.wt_driver.proofs.Restaged.{gone-there, left-there}
+use Rattle.wt_scan.proofs.Restaged.{gone-there, left-there}
 use Rattle.wt_driver.specs.DriverValue.{DriverValue}
 use Rattle.wt_inbox.specs.Stage.{Refines}
 use Rattle.wt_seam_spec.specs.Streams.{can_receive}

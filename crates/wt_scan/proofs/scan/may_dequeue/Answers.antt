@@ -1,7 +1,7 @@
 use Rattle.std.proofs.Common.{refl, sym, ◌∙◌}
-use Rattle.wt_driver.proofs.ScanSteps.{slots-are}
+use Rattle.wt_scan.proofs.ScanSteps.{slots-are}
 use Rattle.wt_spec.specs.Driver.{transport_view}
-use Rattle.wt_driver.proofs.scan.may_dequeue.Goals as goal
+use Rattle.wt_scan.proofs.scan.may_dequeue.Goals as goal
 
 pub returns-then-is_ready : goal.returns-then-is_ready
 returns-then-is_ready c = λ side log stage untaken r o.

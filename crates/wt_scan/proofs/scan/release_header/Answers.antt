@@ -1,4 +1,4 @@
-use Rattle.wt_driver.proofs.scan.release_header.Goals as goal
+use Rattle.wt_scan.proofs.scan.release_header.Goals as goal
 
 pub returns-in-Uni-clause-answer : goal.returns-in-Uni-clause-answer
 returns-in-Uni-clause-answer c = rw c.in-Uni.is c.release_uni.ensures.log_answer

@@ -1,10 +1,10 @@
 use Rattle.std.proofs.Common.{◌≡◌, ℕ, true, subst, sym, ◌∙◌}
-use Rattle.wt_driver.proofs.Visits.{keeps-arrived}
-use Rattle.wt_driver.specs.Scanning.{known_by, rule_of}
+use Rattle.wt_scan.proofs.Visits.{keeps-arrived}
+use Rattle.wt_scan.specs.Scanning.{known_by, rule_of}
 use Rattle.wt_seam_spec.specs.Streams.{can_receive}
 use Rattle.wt_spec.specs.Driver.{is_ready, transport_view}
 use Rattle.wt_driver_spec.specs.DriverState.{Arrived, Dequeued}
-use Rattle.wt_driver.proofs.scan.visit.Goals as goal
+use Rattle.wt_scan.proofs.scan.visit.Goals as goal
 
 pub returns-in-Dequeued : goal.returns-in-Dequeued
 returns-in-Dequeued c = record {

@@ -3,11 +3,11 @@ use Rattle.std.specs.Prelude.{◌||◌}
 use Rattle.wt_dispatch.specs.Rules.{is_given_up}
 use Rattle.wt_driver_spec.specs.Step.{dispatch}
 use Rattle.wt_spec.specs.StreamTable.{Consequence}
-use Rattle.wt_driver.proofs.Visits.{classify-done, consequence-is}
-use Rattle.wt_driver.specs.Scanning.{rule_of}
+use Rattle.wt_scan.proofs.Visits.{classify-done, consequence-is}
+use Rattle.wt_scan.specs.Scanning.{rule_of}
 use Rattle.wt_inbox.specs.Stage.{stage_from, verdict_offset}
 use Rattle.wt_spec.specs.Driver.{transport_view}
-use Rattle.wt_driver.proofs.scan.classify.Goals as goal
+use Rattle.wt_scan.proofs.scan.classify.Goals as goal
 
 pub returns : goal.returns
 returns c = record {

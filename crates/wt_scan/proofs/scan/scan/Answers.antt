@@ -1,10 +1,10 @@
 use Rattle.std.proofs.Common.{arith, ◌<◌, ◌≤◌, length, sym, ◌∙◌}
 use Rattle.std.proofs.lemmas.Bool.{true≢false}
 use Rattle.std.proofs.lemmas.Grind.{common_steps}
-use Rattle.wt_driver.proofs.ScanSteps.{front-awaits, front-receives, scans-few, scans-halted, scans-whole, slot-goes-so, slot-stays-so, slots-are}
-use Rattle.wt_driver.specs.Scanning.{known_by, rule_of}
+use Rattle.wt_scan.proofs.ScanSteps.{front-awaits, front-receives, scans-few, scans-halted, scans-whole, slot-goes-so, slot-stays-so, slots-are}
+use Rattle.wt_scan.specs.Scanning.{known_by, rule_of}
 use Rattle.wt_spec.specs.Driver.{is_ready, transport_view}
-use Rattle.wt_driver.proofs.scan.scan.Goals as goal
+use Rattle.wt_scan.proofs.scan.scan.Goals as goal
 
 pub loop-at-preserved-in-Some : goal.loop-at-preserved-in-Some
 loop-at-preserved-in-Some c = λ side log stage untaken r o a g d b.

@@ -1,9 +1,9 @@
 use Rattle.std.proofs.Common.{sym, ◌∙◌}
 use Rattle.std.proofs.lemmas.Bool.{true≢false}
-use Rattle.wt_driver.proofs.Restaged.{twice}
+use Rattle.wt_scan.proofs.Restaged.{twice}
 use Rattle.wt_inbox.specs.Stage.{GivenUp, with_stage}
-use Rattle.wt_driver.proofs.scan.give_up_if.Goals as goal
-use Rattle.wt_driver.proofs.scan.give_up_if.Goals.{else-test-via-then-test+else-can_receive, else-test-via-else-test}
+use Rattle.wt_scan.proofs.scan.give_up_if.Goals as goal
+use Rattle.wt_scan.proofs.scan.give_up_if.Goals.{else-test-via-then-test+else-can_receive, else-test-via-else-test}
 
 pub returns-then-can_receive : goal.returns-then-can_receive
 returns-then-can_receive c = record {

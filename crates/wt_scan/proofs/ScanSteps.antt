@@ -4,9 +4,9 @@ use Rattle.std.specs.Prelude.{◌==◌, ◌||◌, nat_lt, Option, Some, None}
 use Rattle.std.proofs.lemmas.Bool.{and_right, le-ltb, ltb-false}
 use Rattle.std.specs.List.{remove}
 use Rattle.std.proofs.lemmas.List.{drop_more, drop-set-lt, drop_all}
-use Rattle.wt_driver.proofs.Restaged.{stage-again}
+use Rattle.wt_scan.proofs.Restaged.{stage-again}
 use Rattle.wt_dispatch.specs.Rules.{slots_of}
-use Rattle.wt_driver.specs.Scanning.{AllAwait, AwaitsAt, Leaves, Scans, SlotsReceive, rule_of, scan_stages, stages_on, visit_stage}
+use Rattle.wt_scan.specs.Scanning.{AllAwait, AwaitsAt, Leaves, Scans, SlotsReceive, rule_of, scan_stages, stages_on, visit_stage}
 use Rattle.wt_dispatch.specs.declared.slot.Half.{Half}
 use Rattle.wt_dispatch.specs.declared.slot.Half.TheVariants.{Bi, Uni}
 use Rattle.wt_driver_spec.proofs.ClassifiedOnce.{turned-round}

@@ -1,8 +1,8 @@
 use Rattle.std.proofs.Common.{refl, sym, ◌∙◌}
-use Rattle.wt_driver.proofs.Visits.{header-awaits, if_ok, leaves-twice}
-use Rattle.wt_driver.specs.Scanning.{header_stage}
+use Rattle.wt_scan.proofs.Visits.{header-awaits, if_ok, leaves-twice}
+use Rattle.wt_scan.specs.Scanning.{header_stage}
 use Rattle.wt_inbox.specs.Stage.{with_stage}
-use Rattle.wt_driver.proofs.scan.look.Goals as goal
+use Rattle.wt_scan.proofs.scan.look.Goals as goal
 
 pub returns-then-is_decided : goal.returns-then-is_decided
 returns-then-is_decided c = record {

@@ -2,9 +2,9 @@
 use Rattle.std.proofs.Common.{◌≡◌, ℕ, suc, Bool, true, false, List, [], ◌∷◌, refl, sym, ap, subst, ◌∙◌}
 use Rattle.std.specs.Prelude.{◌||◌, ◌&&◌, nat_lt, if◌then◌else◌, Option, Some, Result, Ok, Err, IfOk}
 use Rattle.std.proofs.lemmas.Bool.{eq-eqb}
-use Rattle.wt_driver.proofs.Restaged.{stage-again, twice}
+use Rattle.wt_scan.proofs.Restaged.{stage-again, twice}
 use Rattle.wt_dispatch.specs.Rules.{consequence_of}
-use Rattle.wt_driver.specs.Scanning.{Leaves, awaits, classified_stage, header_stage, known_by, rule_of, unless_given_up, visit_stage}
+use Rattle.wt_scan.specs.Scanning.{Leaves, awaits, classified_stage, header_stage, known_by, rule_of, unless_given_up, visit_stage}
 use Rattle.wt_dispatch.specs.Rules.{is_given_up}
 use Rattle.wt_dispatch.specs.declared.slot.Half.{Half}
 use Rattle.wt_dispatch.specs.declared.slot.Half.TheVariants.{Bi, Uni}

@@ -1,4 +1,4 @@
-use Rattle.wt_driver.proofs.scan.has_verdict.Goals as goal
+use Rattle.wt_scan.proofs.scan.has_verdict.Goals as goal
 
 pub returns-in-Uni-clause-answer : goal.returns-in-Uni-clause-answer
 returns-in-Uni-clause-answer c = rw c.in-Uni.is c.has_uni_verdict.ensures.log_answer

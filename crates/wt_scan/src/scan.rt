@@ -2,7 +2,7 @@
 ghost use Rattle.std.specs.Prelude.{◌≡◌, ◌<◌, ◌&&◌, ◌||◌, [], length, ◌∷◌, if◌then◌else◌, List, ℕ, true, IfOk, OnOk, nat_lt};
 ghost use Rattle.std.specs.List.{remove};
 ghost use Rattle.wt_dispatch.specs.Rules.{slots_of};
-ghost use Rattle.wt_driver.specs.Scanning.{AllAwait, AwaitsAt, Leaves, Scans, SlotsReceive, awaits, dequeue_stage, header_stage, known_by, look_stage, rule_of, unless_given_up, visit_stage};
+ghost use Rattle.wt_scan.specs.Scanning.{AllAwait, AwaitsAt, Leaves, Scans, SlotsReceive, awaits, dequeue_stage, header_stage, known_by, look_stage, rule_of, unless_given_up, visit_stage};
 ghost use Rattle.wt_dispatch.specs.Rules.{is_given_up};
 ghost use Rattle.wt_driver_spec.specs.Bounds.{AreDistinct, IsBounded};
 ghost use Rattle.wt_driver_spec.specs.DriverState.{Held};
@@ -177,7 +177,7 @@ fn visit(
 }
 
 /// Removes a slot.
-pub(crate) fn remove_at(slots: &mut VecDeque<Slot>, at: usize)
+pub fn remove_at(slots: &mut VecDeque<Slot>, at: usize)
     requires { at < length slots.old.items }
     ensures { slots.new.items ≡ remove slots.old.items at }
 {
@@ -188,7 +188,7 @@ pub(crate) fn remove_at(slots: &mut VecDeque<Slot>, at: usize)
 }
 
 /// Scans the slots of a kind in order; behind the first few none is dequeued.
-pub(crate) fn scan(
+pub fn scan(
     inbox: &mut Inbox,
     half: Half,
     slots: &mut VecDeque<Slot>,

@@ -2,7 +2,7 @@
 use Rattle.std.proofs.Common.{◌≡◌, ℕ, Bool, true, false, List, ap, refl, subst, sym}
 use Rattle.std.proofs.lemmas.Bool.{eqb-true}
 use Rattle.std.specs.Prelude.{◌==◌, if◌then◌else◌}
-use Rattle.wt_driver.specs.Scanning.{unless_given_up}
+use Rattle.wt_scan.specs.Scanning.{unless_given_up}
 use Rattle.wt_inbox.specs.Stage.{GivenUp, IsAt, Refines, Stage, with_stage}
 use Rattle.wt_inbox.specs.State.{InboxState}
 use Rattle.wt_seam_spec.specs.Streams.{contents}
