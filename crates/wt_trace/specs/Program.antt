@@ -7,7 +7,7 @@ use Rattle.wt_script.specs.declared.script.Script.{Script}
 use Rattle.wt_script.specs.declared.script.ScriptRefused.{ScriptRefused}
 use Rattle.wt_spec.specs.Answers.{AtUnlawful, Finished, Run, RunEnd, run}
 use Rattle.wt_trace.specs.Laws.{KeepsLaws}
-use Rattle.wt_script.specs.Print.{print}
+use Rattle.wt_print.specs.Print.{print}
 use Rattle.wt_trace.specs.declared.command.Command.{Command}
 use Rattle.wt_trace.specs.declared.command.Command.TheVariants.{Large, Trace}
 use Rattle.wt_trace.specs.Command.{command_of, command_script}

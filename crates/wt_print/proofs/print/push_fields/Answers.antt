@@ -1,9 +1,9 @@
 use Rattle.std.proofs.Common.{◌++◌, ◌+◌, List, ℕ, drop, ap, sym, ◌∙◌, append_assoc}
 use Rattle.std.specs.Prelude.{string_bytes}
 use Rattle.std.specs.List.{flat_map}
-use Rattle.wt_script.specs.Print.{field_text}
-use Rattle.wt_script.proofs.PrintLaws.{drop_at}
-use Rattle.wt_script.proofs.print.push_fields.Goals as goal
+use Rattle.wt_print.specs.Print.{field_text}
+use Rattle.wt_print.proofs.PrintLaws.{drop_at}
+use Rattle.wt_print.proofs.print.push_fields.Goals as goal
 
 pub loop-place-preserved : goal.loop-place-preserved
 loop-place-preserved c =

@@ -2,7 +2,7 @@
 ghost use Rattle.std.specs.Prelude.{◌≡◌, ◌++◌, OnOk, string_bytes};
 ghost use Rattle.std.specs.Fmt.{decimal, signed_decimal};
 ghost use Rattle.hex.specs.Hex.{encode_lower};
-ghost use Rattle.wt_script.specs.PrintErrors.{hex_text, coded_text, numbers_text, socket_text, code_text, address_text};
+ghost use Rattle.wt_print.specs.PrintErrors.{hex_text, coded_text, numbers_text, socket_text, code_text, address_text};
 
 use std::alloc::Global;
 use wt_turn::piece::Piece;

@@ -1,8 +1,8 @@
 use Rattle.std.proofs.Common.{◌≡◌, ◌++◌, drop}
 use Rattle.std.specs.Prelude.{string_bytes}
 use Rattle.std.specs.List.{flat_map}
-use Rattle.wt_script.specs.Print.{next_action_text}
-use Rattle.wt_script.proofs.print.push_actions.Given as goal
+use Rattle.wt_print.specs.Print.{next_action_text}
+use Rattle.wt_print.proofs.print.push_actions.Given as goal
 
 abbrev pub invariant-loop-action : goal.invariant-loop-action
 invariant-loop-action l =

@@ -1,8 +1,8 @@
 use Rattle.std.proofs.Common.{◌≡◌, ◌++◌, drop}
 use Rattle.std.specs.Prelude.{string_bytes}
 use Rattle.std.specs.List.{flat_map}
-use Rattle.wt_script.specs.Print.{field_text}
-use Rattle.wt_script.proofs.print.push_fields.Given as goal
+use Rattle.wt_print.specs.Print.{field_text}
+use Rattle.wt_print.proofs.print.push_fields.Given as goal
 
 abbrev pub invariant-loop-place : goal.invariant-loop-place
 invariant-loop-place l =

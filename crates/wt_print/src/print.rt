@@ -5,8 +5,8 @@
 ghost use Rattle.std.specs.Prelude.{◌≡◌, ◌++◌, IfOk, OnOk, string_bytes};
 ghost use Rattle.std.specs.Fmt.{decimal, signed_decimal};
 ghost use Rattle.std.specs.List.{flat_map};
-ghost use Rattle.wt_script.specs.Print.{dial_text, field_text, read_text, request_text, reply_text, action_text, next_action_text, answer_text};
-ghost use Rattle.wt_script.specs.PrintErrors.{code_text, connecting_text, datagram_text, exact_text, opening_text, read_error_text, write_text};
+ghost use Rattle.wt_print.specs.Print.{dial_text, field_text, read_text, request_text, reply_text, action_text, next_action_text, answer_text};
+ghost use Rattle.wt_print.specs.PrintErrors.{code_text, connecting_text, datagram_text, exact_text, opening_text, read_error_text, write_text};
 
 mod errors;
 mod texts;
