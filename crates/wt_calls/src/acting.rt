@@ -223,7 +223,7 @@ pub fn receive(
 // ---- plans
 
 /// The reply of an accept of a unidirectional stream.
-pub(crate) fn uni_reply(answer: Poll<Result<StreamId, ConnectionError>>) -> Reply
+pub fn uni_reply(answer: Poll<Result<StreamId, ConnectionError>>) -> Reply
     ensures { result ≡ poll_reply replies.Uni answer }
 {
     match answer {
@@ -234,7 +234,7 @@ pub(crate) fn uni_reply(answer: Poll<Result<StreamId, ConnectionError>>) -> Repl
 }
 
 /// The reply of an accept of a bidirectional stream.
-pub(crate) fn bi_reply(answer: Poll<Result<StreamId, ConnectionError>>) -> Reply
+pub fn bi_reply(answer: Poll<Result<StreamId, ConnectionError>>) -> Reply
     ensures { result ≡ poll_reply replies.Bi answer }
 {
     match answer {
@@ -245,7 +245,7 @@ pub(crate) fn bi_reply(answer: Poll<Result<StreamId, ConnectionError>>) -> Reply
 }
 
 /// The reply of a receive.
-pub(crate) fn datagram_reply(answer: Poll<Result<Piece, ConnectionError>>) -> Reply
+pub fn datagram_reply(answer: Poll<Result<Piece, ConnectionError>>) -> Reply
     ensures { result ≡ poll_reply replies.Datagram answer }
 {
     match answer {
