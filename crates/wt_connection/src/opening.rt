@@ -1,9 +1,9 @@
 //! Streams that are being opened (draft-ietf-webtrans-http3, sections 4.2 and 4.3).
 ghost use Rattle.std.specs.Prelude.{◌≡◌, IfOk, OnOk, false, true, ℕ};
 ghost use Rattle.wt_connection.specs.Openings.{IsOpening, ready_in};
-ghost use Rattle.wt_connection.specs.Replies.{IsOneStream, ready_reply};
 ghost use Rattle.wt_connection.specs.Standing.{IfGiven, IfPending};
 ghost use Rattle.wt_driver.specs.Tie.{Follows};
+ghost use Rattle.wt_halves.specs.Replies.{IsOneStream, ready_reply};
 ghost use Rattle.wt_laws.specs.Reachable.{IsReachable};
 ghost use Rattle.wt_spec.specs.Answers.{call_effect};
 ghost use Rattle.wt_spec.specs.Halves.{has_receiving_half, has_sending_half};
@@ -12,12 +12,12 @@ ghost use Rattle.wt_turn.specs.declared.call.Call.TheVariants as calls;
 ghost use Rattle.wt_reply.specs.declared.reply.Reply.TheVariants as replies;
 ghost use Rattle.wt_wire.specs.declared.side.Side.{Side};
 
-use crate::calling::{perform, transport};
-use crate::recv_stream::RecvStream;
-use crate::send_stream::SendStream;
 use std::alloc::Global;
 use std::marker::Model;
 use wt_driver::driver::Driver;
+use wt_halves::calling::{perform, transport};
+use wt_halves::recv_stream::RecvStream;
+use wt_halves::send_stream::SendStream;
 use wt_plan::connection_plans;
 use wt_turn::poll::Poll;
 use wt_turn::reply::Reply;

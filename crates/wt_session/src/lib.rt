@@ -1,6 +1,6 @@
 //! The public types of a WebTransport session, over a driver: the handshakes of both sides, and what stands
-//! from one call to the next. Offered again here are wt_connection's types of the session that is established,
-//! of its streams and of its datagrams.
+//! from one call to the next. Offered again here are the types of the session that is established, of its
+//! datagrams (wt_connection) and of its streams' halves (wt_halves).
 #![tactic(auto)]
 
 pub mod accepting;
