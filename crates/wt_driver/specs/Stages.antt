@@ -27,7 +27,7 @@ peer_role Bi = OfPeerBi
 
 -- ---- what the calls did to a stream
 
--- the stream has a receiving half: each of the peer's that a call names has one, one of this end's own once it was opened
+-- the stream has a receiving half, or its id is one of the peer's, opened or not (a call of a run gives up only what the application has)
 abbrev pub is_there : Side → Log → ℕ → Bool
 is_there side log k = not (is_local side k) || can_receive side log k
 
@@ -49,12 +49,12 @@ stream_use side log k = record (use_of k (calls_of log)) { is_dropped = is_let_g
 
 -- ---- what is said of a stage
 
--- a stream is read up to this offset; nothing of one that is dropped is kept
+-- a stream is read up to this offset; nothing of one that a call let go is kept
 abbrev pub ReadUpTo : Bool → ℕ → Stage → Type 0
 ReadUpTo false at stage = body_offset stage ≡ Some at
 ReadUpTo true at stage = stage ≡ GivenUp
 
--- the application's part of a stream begins at this offset, and is read as far as the calls read it, until it is dropped
+-- the application's part of a stream begins at this offset, and is read as far as the calls read it, until a call lets it go
 abbrev pub BodySays : CallUse → ℕ → Stage → Type 0
 BodySays done at stage = ReadUpTo done.is_dropped (at + done.read) stage
 
