@@ -179,7 +179,7 @@ abbrev pub can_send_settings : LocalControl → TransportState → Bool
 can_send_settings (record { stream = None; is_out = out }) t = out
 can_send_settings (record { stream = Some s; is_out = out }) t = out || can_write_now t s.halves.id
 
--- no other frame is half written on the stream
+-- no write was begun on the stream that isn't through, or that of SETTINGS
 abbrev pub ContinuesSettings : Option LocalUni → Type 0
 ContinuesSettings None = Unit {0}
 ContinuesSettings (Some s) = Continues s.stage.writing settings_frame_bytes

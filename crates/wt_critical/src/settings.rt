@@ -215,7 +215,7 @@ impl LocalSettingsStream {
         }
     }
 
-    /// Whether no other frame is half written on the stream.
+    /// Whether no write was begun on the stream that isn't through, or that of SETTINGS.
     pub fn continues(&self) -> Result<bool, OutOfMemory>
         ensures { IfOk result (λ b. IsTrue b ↔ ContinuesSettings self.now.stream) }
     {
@@ -321,7 +321,7 @@ impl RemoteSettingsStream {
         RemoteSettingsWatcher { is_given: false }
     }
 
-    /// The peer's SETTINGS, where they came.
+    /// The peer's SETTINGS, where the walk over what was read has them.
     fn settings(&self) -> Option<Settings>
         ensures { result ≡ (outcome_in control_unfinished self.now.reading).settings }
     {
@@ -344,7 +344,7 @@ impl Model for RemoteSettingsWatcher {
 }
 
 impl RemoteSettingsWatcher {
-    /// The SETTINGS, once; pending where they haven't come or this watcher gave them.
+    /// The SETTINGS, once; pending where no run has read them or this watcher gave them.
     pub fn accept_settings(&mut self, s: &RemoteSettingsStream) -> Poll<Settings>
         ensures answer { (bytes : List ℕ) → WasRead control_decides None s.now.reading bytes → result ≡ given_once self.old (control_walk_of bytes Running).settings }
         ensures given { (bytes : List ℕ) → WasRead control_decides None s.now.reading bytes → self.new ≡ (self.old || is_some (control_walk_of bytes Running).settings) }

@@ -211,7 +211,7 @@ impl Inbox {
     }
 }
 
-/// Whether SETTINGS can go out whole, by what the transport tells.
+/// The same, by what the transport tells.
 #[tactic(auto, using(crate::proofs::Passing::head_length))]
 fn is_ready_by(connected: bool, may_open: bool, credit: u64) -> bool
     ensures { result ≡ (connected && may_open && not (nat_lt credit (length local_control_bytes))) }
