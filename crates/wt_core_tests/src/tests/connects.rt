@@ -1,197 +1,180 @@
 //! Worked rows of the first steps of a connect.
+use super::lines::{add_answer, add_text, turns};
 use std::alloc::Global;
 use std::process::Abort;
-use std::test::Fail;
 use wt_connect::connect_request::{request_head, reserved_name};
-use wt_connect::connect_target::connect_target;
-use wt_message::session::SessionRequest;
-use wt_turn::connecting_error::{ConnectingError, UrlRefusal};
+use wt_connect::connect_target::{ConnectTarget, connect_target};
+use wt_turn::action::{Action, Actions};
+use wt_turn::answer::Answer;
+use wt_turn::call::Call;
+use wt_turn::connecting_error::ConnectingError;
+use wt_turn::reply::Reply;
+use wt_turn::turn::Turn;
 use wt_wire::addr::Addr;
 use wt_wire::header_list::HeaderList;
 use wt_wire::lookup::{ConnectOutcome, Lookup};
 use wt_wire::text::Text;
 
-/// The address 127.0.0.1 at this port.
-fn local(port: u16) -> Addr {
-    Addr::V4 {
-        ip: 0x7f00_0001,
-        port,
-    }
-}
-
-/// The address, the server's name, the authority and the path.
-type Row<'a> = (Addr, &'a str, &'a str, &'a str);
-
-fn expect_target(rt: &impl Abort, alloc: Global, url: &str, lookup: Lookup, row: Row<'_>) {
-    match connect_target(alloc, url, lookup, ConnectOutcome::Proceed) {
-        Ok(Ok(target)) => {
-            assert_eq!(rt; target.address, row.0, "{url}");
-            assert_eq!(rt; target.server_name.as_str(), row.1, "{url}");
-            assert_eq!(rt; target.authority.as_str(), row.2, "{url}");
-            assert_eq!(rt; target.path.as_str(), row.3, "{url}");
-        }
-        Ok(Err(_)) => panic!(rt; "{url} is refused"),
-        Err(_) => panic!(rt; "memory"),
-    }
-}
-
-fn expect_refused(
+fn target(
     rt: &impl Abort,
     alloc: Global,
     url: &str,
-    answers: (Lookup, ConnectOutcome),
-    expected: &ConnectingError,
-) {
-    match connect_target(alloc, url, answers.0, answers.1) {
-        Ok(Ok(_)) => panic!(rt; "{url} is taken"),
-        Ok(Err(error)) => assert!(rt; error == *expected, "{url}"),
-        Err(_) => panic!(rt; "memory"),
-    }
+    lookup: Lookup,
+    outcome: ConnectOutcome,
+) -> Result<ConnectTarget, ConnectingError> {
+    connect_target(alloc, url, lookup, outcome).expect(rt, "no memory")
 }
 
-#[test]
-fn urls_that_are_refused(rt: HostRuntime) {
-    for (url, refusal) in [
-        ("http://h", UrlRefusal::Scheme),
-        ("wss://h", UrlRefusal::Scheme),
-        ("https://", UrlRefusal::Parse),
-        ("h", UrlRefusal::Parse),
-        ("https://h:65536/", UrlRefusal::Parse),
-    ] {
-        let answers = (Lookup::NotFound, ConnectOutcome::EndpointStopping);
-        let expected = ConnectingError::InvalidUrl(refusal);
-        expect_refused(&rt, rt.alloc(), url, answers, &expected);
-    }
+fn add_dial(rt: &impl Abort, alloc: Global, out: &mut String, address: Addr, name: Text) {
+    let mut actions = Actions::new(alloc);
+    let pushed = actions.push(Action::Dial { address, name });
+    pushed.expect(rt, "no memory");
+    let reply = Reply::Pending;
+    add_answer(rt, alloc, out, &Answer { reply, actions });
 }
 
-fn text(rt: &impl Abort, alloc: Global, text: &str) -> Text {
-    Text::from_text(alloc, text).expect(rt, "memory")
+fn add_refusal(rt: &impl Abort, alloc: Global, out: &mut String, error: ConnectingError) {
+    let reply = Reply::ConnectFailed(error);
+    let actions = Actions::new(alloc);
+    add_answer(rt, alloc, out, &Answer { reply, actions });
 }
 
-#[test]
-fn names_that_are_not_found(rt: HostRuntime) {
-    let alloc = rt.alloc();
-    let answers = (Lookup::NotFound, ConnectOutcome::EndpointStopping);
-    expect_refused(
-        &rt,
-        alloc,
-        "https://h",
-        answers,
-        &ConnectingError::DnsNotFound,
-    );
-    let answers = (
-        Lookup::Fault(text(&rt, alloc, "no answer")),
-        ConnectOutcome::Proceed,
-    );
-    let expected = ConnectingError::DnsLookup(text(&rt, alloc, "no answer"));
-    expect_refused(&rt, alloc, "https://h", answers, &expected);
-}
-
-/// A name that was found, when QUIC answers this.
-fn expect_outcome(
+/// The answer of the call, and behind a dial the authority and the path of the request.
+fn add_row(
     rt: &impl Abort,
     alloc: Global,
-    outcome: ConnectOutcome,
-    expected: &ConnectingError,
+    out: &mut String,
+    row: Result<ConnectTarget, ConnectingError>,
 ) {
-    expect_refused(
-        rt,
-        alloc,
-        "https://h",
-        (Lookup::Found(local(443)), outcome),
-        expected,
-    );
+    match row {
+        Ok(target) => {
+            add_dial(rt, alloc, out, target.address, target.server_name);
+            add_text(rt, out, " ");
+            add_text(rt, out, target.authority.as_str());
+            add_text(rt, out, target.path.as_str());
+        }
+        Err(error) => add_refusal(rt, alloc, out, error),
+    }
+    add_text(rt, out, "\n");
 }
 
-#[test]
-fn connections_that_are_refused(rt: HostRuntime) {
-    let alloc = rt.alloc();
-    let stopping = ConnectOutcome::EndpointStopping;
-    expect_outcome(&rt, alloc, stopping, &ConnectingError::EndpointStopping);
-    let exhausted = ConnectOutcome::CidsExhausted;
-    expect_outcome(&rt, alloc, exhausted, &ConnectingError::CidsExhausted);
-    let address = ConnectOutcome::InvalidRemoteAddress(local(0));
-    expect_outcome(
-        &rt,
-        alloc,
-        address,
-        &ConnectingError::InvalidRemoteAddress(local(0)),
-    );
-    let name = ConnectOutcome::InvalidServerName(text(&rt, alloc, "h"));
-    let expected = ConnectingError::InvalidServerName(text(&rt, alloc, "h"));
-    expect_outcome(&rt, alloc, name, &expected);
-}
-
-#[test]
-fn targets_of_names(rt: HostRuntime) {
-    let found = local(4433);
-    for (url, name, authority, path) in [
-        ("https://h", "h", "h", "/"),
-        ("https://h:443/", "h", "h", "/"),
-        ("https://h:4433/p?q", "h", "h:4433", "/p?q"),
-        ("https://u:w@h:4433/p?q#f", "h", "h:4433", "/p?q"),
-        ("https://H/a/../b?", "h", "h", "/b?"),
-    ] {
-        expect_target(
-            &rt,
-            rt.alloc(),
-            url,
-            Lookup::Found(found),
-            (found, name, authority, path),
-        );
+fn add_connect(rt: &impl Abort, alloc: Global, out: &mut String, turn: Turn) {
+    match turn {
+        Turn::Call(
+            Call::Connect {
+                options,
+                lookup,
+                outcome,
+            },
+        ) => {
+            let row = target(rt, alloc, options.0.as_str(), lookup, outcome);
+            add_row(rt, alloc, out, row);
+        }
+        _ => panic!(rt; "no connect"),
     }
 }
 
-#[test]
-fn targets_of_addresses(rt: HostRuntime) {
-    let one = Addr::V6 { ip: 1, port: 443 };
-    let mapped = Addr::V6 {
-        ip: 0xffff_7f00_0001,
-        port: 4433,
-    };
-    for (url, row) in [
-        (
-            "https://127.0.0.1/",
-            (local(443), "127.0.0.1", "127.0.0.1", "/"),
-        ),
-        (
-            "https://127.0.0.1:0/",
-            (local(0), "127.0.0.1", "127.0.0.1:0", "/"),
-        ),
-        ("https://[::1]/x", (one, "::1", "[::1]", "/x")),
-        (
-            "https://[::ffff:127.0.0.1]:4433",
-            (mapped, "::ffff:7f00:1", "[::ffff:7f00:1]:4433", "/"),
-        ),
-    ] {
-        expect_target(&rt, rt.alloc(), url, Lookup::NotFound, row);
+/// The connects of these lines come to those rows.
+fn come_to(rt: &impl Abort, alloc: Global, lines: &str, rows: &str) {
+    let turns = turns(rt, alloc, lines);
+    let mut out = String::new(alloc);
+    for turn in turns.into_vec() {
+        add_connect(rt, alloc, &mut out, turn);
     }
+    assert_eq!(rt; out.as_str(), rows);
+}
+
+/// The URL comes first, then the lookup, then what QUIC answers.
+const REFUSED: &str = "connect http://h none stopping\n\
+    connect wss://h none stopping\n\
+    connect https:// none stopping\n\
+    connect h none stopping\n\
+    connect https://h:65536/ none stopping\n\
+    connect https://h none stopping\n\
+    connect https://h fault:6e6f proceed\n\
+    connect https://h v4:7f000001:443 stopping\n\
+    connect https://h v4:7f000001:443 cids\n\
+    connect https://h v4:7f000001:443 address:v4:7f000001:0\n\
+    connect https://h v4:7f000001:443 name:68\n";
+
+const REFUSALS: &str = "connect_failed invalid_url scheme\n\
+    connect_failed invalid_url scheme\n\
+    connect_failed invalid_url parse\n\
+    connect_failed invalid_url parse\n\
+    connect_failed invalid_url parse\n\
+    connect_failed dns_not_found\n\
+    connect_failed dns_lookup 6e6f\n\
+    connect_failed endpoint_stopping\n\
+    connect_failed cids_exhausted\n\
+    connect_failed invalid_remote_address v4:7f000001:0\n\
+    connect_failed invalid_server_name 68\n";
+
+#[test]
+fn connects_that_are_refused(rt: HostRuntime) {
+    come_to(&rt, rt.alloc(), REFUSED, REFUSALS);
+}
+
+const TAKEN: &str = "connect https://h v4:7f000001:4433 proceed\n\
+    connect https://h:443/ v4:7f000001:4433 proceed\n\
+    connect https://h:4433/p?q v4:7f000001:4433 proceed\n\
+    connect https://u:w@h:4433/p?q#f v4:7f000001:4433 proceed\n\
+    connect https://H/a/../b? v4:7f000001:4433 proceed\n\
+    connect https://127.0.0.1/ none proceed\n\
+    connect https://127.0.0.1:0/ none proceed\n\
+    connect https://[::1]/x none proceed\n\
+    connect https://[::ffff:127.0.0.1]:4433 none proceed\n";
+
+const TARGETS: &str = "pending ; dial v4:7f000001:4433 68 h/\n\
+    pending ; dial v4:7f000001:4433 68 h/\n\
+    pending ; dial v4:7f000001:4433 68 h:4433/p?q\n\
+    pending ; dial v4:7f000001:4433 68 h:4433/p?q\n\
+    pending ; dial v4:7f000001:4433 68 h/b?\n\
+    pending ; dial v4:7f000001:443 3132372e302e302e31 127.0.0.1/\n\
+    pending ; dial v4:7f000001:0 3132372e302e302e31 127.0.0.1:0/\n\
+    pending ; dial v6:00000000000000000000000000000001:443 3a3a31 [::1]/x\n\
+    pending ; dial v6:00000000000000000000ffff7f000001:4433 \
+    3a3a666666663a376630303a31 [::ffff:7f00:1]:4433/\n";
+
+#[test]
+fn targets_of_names_and_addresses(rt: HostRuntime) {
+    come_to(&rt, rt.alloc(), TAKEN, TARGETS);
+}
+
+fn set(rt: &impl Abort, headers: &mut HeaderList, name: &str, value: &str) {
+    headers.set(name, value).expect(rt, "no memory");
 }
 
 #[test]
-fn names_that_only_the_session_layer_sets(rt: HostRuntime) -> Result<(), Fail> {
+fn names_that_only_the_session_layer_sets(rt: HostRuntime) {
     let mut headers = HeaderList::new(rt.alloc());
-    headers.set("origin", "o")?;
+    set(&rt, &mut headers, "origin", "o");
     assert_eq!(rt; reserved_name(&headers), None);
-    headers.set(":path", "x")?;
-    assert_eq!(rt; reserved_name(&headers), Some(":path"));
-    headers.set(":method", "x")?;
+    set(&rt, &mut headers, ":path", "x");
+    set(&rt, &mut headers, ":method", "x");
     assert_eq!(rt; reserved_name(&headers), Some(":method"));
-    Ok(())
 }
 
+fn head_is(rt: &impl Abort, alloc: Global, headers: &HeaderList, expected: &[u8]) {
+    let head = request_head(alloc, "h:4433", "/p?q", headers).expect(rt, "no memory");
+    assert_eq!(rt; head.as_slice(), expected);
+}
+
+/// The request for https://h:4433/p?q with two fields more.
+const HEAD: &[u8] = b"\x01\x40\x60\x00\x00\
+    \x27\x03:authority\x06h:4433\
+    \x27\x00:method\x07CONNECT\
+    \x25:path\x04/p?q\
+    \x27\x02:protocol\x0cwebtransport\
+    \x27\x00:scheme\x05https\
+    \x21a\x011\
+    \x21b\x013";
+
 #[test]
-fn requests_carry_the_additional_headers(rt: HostRuntime) -> Result<(), Fail> {
+fn requests_carry_the_additional_headers(rt: HostRuntime) {
     let alloc = rt.alloc();
     let mut headers = HeaderList::new(alloc);
-    let mut request = SessionRequest::new(alloc, "h:4433", "/p?q")?;
-    for (name, value) in [("b", "2"), ("a", "1"), ("b", "3")] {
-        headers.set(name, value)?;
-        assert!(rt; request.insert(name, value)?.is_ok());
-    }
-    let mut expected = Vec::new(alloc);
-    request.generate_frame()?.write(&mut expected)?;
-    let head = request_head(alloc, "h:4433", "/p?q", &headers)?;
-    assert_eq!(rt; head.as_slice(), expected.as_slice());
-    Ok(())
+    set(&rt, &mut headers, "b", "2");
+    set(&rt, &mut headers, "a", "1");
+    set(&rt, &mut headers, "b", "3");
+    head_is(&rt, alloc, &headers, HEAD);
 }
