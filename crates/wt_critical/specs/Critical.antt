@@ -174,10 +174,14 @@ written_answer (polls.Ready (Ok through)) = polls.Ready (Ok through)
 written_answer (polls.Ready (Err error)) = polls.Ready (Err (write_error error))
 written_answer polls.Pending = polls.Pending
 
--- the frame may go on: a stream is set, and a write on it isn't closed; once SETTINGS are out nothing is asked
+-- a stream is set, and a write on it isn't closed
+abbrev pub can_write_on : Option LocalUni → TransportState → Bool
+can_write_on None t = false
+can_write_on (Some s) t = can_write_now t s.halves.id
+
+-- SETTINGS may be sent, or are out
 abbrev pub can_send_settings : LocalControl → TransportState → Bool
-can_send_settings (record { stream = None; is_out = out }) t = out
-can_send_settings (record { stream = Some s; is_out = out }) t = out || can_write_now t s.halves.id
+can_send_settings s t = s.is_out || can_write_on s.stream t
 
 -- no write was begun on the stream that isn't through, or that of SETTINGS
 abbrev pub ContinuesSettings : Option LocalUni → Type 0
@@ -216,7 +220,7 @@ is_through polls.Pending = false
 
 -- SETTINGS that are out aren't sent again (RFC 9114, section 7.2.4)
 abbrev pub sent_answer : Bool → Poll (Result (Unit {0}) DriverError)
-sent_answer open_ = if open_ then polls.Ready (Ok unit) else polls.Ready (Err errors.NotConnected)
+sent_answer open_ = if open_ then polls.Ready (Ok tt) else polls.Ready (Err errors.NotConnected)
 
 -- what sending SETTINGS answers
 abbrev pub settings_answer : LocalControl → TransportState → Poll (Result (Unit {0}) DriverError)

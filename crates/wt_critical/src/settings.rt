@@ -10,7 +10,7 @@ ghost use Rattle.wt_seam.specs.Step.{end_now, unread_now};
 ghost use Rattle.wt_typed.specs.Typed.{can_write_now};
 ghost use Rattle.wt_typed.specs.UniHeader.{kind_of};
 ghost use Rattle.wt_typed.specs.Writing.{Continues, after_pending, pending_answer, rest, write_of};
-ghost use Rattle.wt_critical.specs.Critical.{ContinuesSettings, after_frame, after_settings, after_uni_run, can_send_settings, control_answer, control_after_run, control_shows, frame_answer, given_once, is_through, local_answer, sent_answer, settings_answer, settings_begun, settings_frame, shown_by_fault, uni_bytes, with_frame, with_settings, write_error, written_answer};
+ghost use Rattle.wt_critical.specs.Critical.{ContinuesSettings, after_frame, after_settings, after_uni_run, can_send_settings, can_write_on, control_answer, control_after_run, control_shows, frame_answer, given_once, is_through, local_answer, sent_answer, settings_answer, settings_begun, settings_frame, shown_by_fault, uni_bytes, with_frame, with_settings, write_error, written_answer};
 ghost use Rattle.wt_critical.specs.Reading.{WasRead, after_reading_all, read_on};
 
 use crate::reading::read_all;
@@ -104,7 +104,7 @@ fn send_on(
     frame: &Frame,
 ) -> Result<Poll<Result<(), DriverError>>, OutOfMemory>
     requires settings { frame.now ≡ settings_frame }
-    requires can { IsTrue (can_send_settings (record { stream = stream.old; is_out = false }) t.old) }
+    requires can { IsTrue (can_write_on stream.old t.old) }
     requires same { ContinuesSettings stream.old }
     ensures answer { IfOk result (λ a. a ≡ frame_answer stream.old t.old) }
     ensures state { OnOk result (t.new ≡ after_frame stream.old t.old) }
@@ -137,6 +137,16 @@ fn sent(is_open: bool) -> Poll<Result<(), DriverError>>
         return Poll::Ready(Ok(()));
     }
     Poll::Ready(Err(DriverError::NotConnected))
+}
+
+/// Whether a stream is set, and a write on it isn't closed.
+fn can_write_on(stream: &Option<StreamUniLocalH3>, t: &Transport) -> bool
+    ensures { result ≡ can_write_on stream.now t.now }
+{
+    match stream {
+        Some(stream) => stream.can_write(t),
+        None => false,
+    }
 }
 
 impl LocalSettingsStream {
@@ -209,10 +219,7 @@ impl LocalSettingsStream {
     pub fn can_send(&self, t: &Transport) -> bool
         ensures { result ≡ can_send_settings self.now t.now }
     {
-        match &self.stream {
-            Some(stream) => self.is_out || stream.can_write(t),
-            None => self.is_out,
-        }
+        self.is_out || can_write_on(&self.stream, t)
     }
 
     /// Whether no write was begun on the stream that isn't through, or that of SETTINGS.
