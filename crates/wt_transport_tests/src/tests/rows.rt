@@ -22,13 +22,11 @@ pub fn server(alloc: Global) -> Transport {
 
 /// Plays rows `TURN: ANSWER`. A heading `# ..` begins a case with a server's transport of its own.
 pub fn plays(rt: &impl Abort, alloc: Global, transport: &mut Transport, rows: &str) {
-    let mut heading = "";
     for row in rows.lines() {
         if row.starts_with("#") {
             *transport = server(alloc);
-            heading = row;
         } else {
-            plays_row(rt, alloc, transport, heading, row);
+            plays_row(rt, alloc, transport, row);
         }
     }
 }
@@ -40,10 +38,10 @@ pub fn repeats(rt: &impl Abort, alloc: Global, transport: &mut Transport, times:
     }
 }
 
-fn plays_row(rt: &impl Abort, alloc: Global, transport: &mut Transport, heading: &str, row: &str) {
+fn plays_row(rt: &impl Abort, alloc: Global, transport: &mut Transport, row: &str) {
     let (turn, answer) = row.split_once(": ").expect(rt, "a row has an answer");
     let line = told(rt, alloc, transport, turn);
-    assert_eq!(rt; line.as_str(), answer, "{heading}: {turn}");
+    assert_eq!(rt; line.as_str(), answer, "{turn}");
 }
 
 /// The line of the answer. The word `actions` takes what is to go out.
