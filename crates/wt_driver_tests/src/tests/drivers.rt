@@ -41,20 +41,9 @@ fn take_byte(rt: &impl Abort, alloc: Global, driver: &mut Driver, id: StreamId, 
     take(rt, driver, &Turn::Bytes { id, piece });
 }
 
-/// Bytes of a stream, in one turn or in turns of one byte.
-pub fn take_bytes(
-    rt: &impl Abort,
-    alloc: Global,
-    driver: &mut Driver,
-    id: StreamId,
-    piece: Piece,
-    is_whole: bool,
-) {
-    if is_whole {
-        take(rt, driver, &Turn::Bytes { id, piece });
-        return;
-    }
-    for byte in piece.as_slice() {
+/// Bytes of a stream, in turns of one byte.
+pub fn take_each(rt: &impl Abort, alloc: Global, driver: &mut Driver, id: StreamId, bytes: &[u8]) {
+    for byte in bytes {
         take_byte(rt, alloc, driver, id, *byte);
     }
 }

@@ -16,7 +16,7 @@
 use super::drivers::{
     accept_bi, accept_session, accept_settings, accept_uni, act, called, close, dial, error,
     has_request, open_session, receive_datagram, register, response, result, stream, take,
-    take_bytes, unread,
+    take_each, unread,
 };
 use std::alloc::Global;
 use std::process::Abort;
@@ -40,17 +40,38 @@ pub fn reply(
 ) -> Reply {
     let turn = read_turn(alloc, line.as_bytes()).expect(rt, "no memory");
     match turn {
-        Some(Turn::Bytes { id, piece }) => {
-            take_bytes(rt, alloc, driver, id, piece, is_whole);
-            Reply::Done
-        }
-        Some(Turn::Call(call)) => call_reply(rt, driver, call),
-        Some(turn) => {
-            take(rt, driver, &turn);
-            Reply::Done
-        }
+        Some(turn) => turn_reply(rt, alloc, driver, turn, is_whole),
         None => word_reply(rt, alloc, driver, line),
     }
+}
+
+fn turn_reply(
+    rt: &impl Abort,
+    alloc: Global,
+    driver: &mut Driver,
+    turn: Turn,
+    is_whole: bool,
+) -> Reply {
+    match turn {
+        Turn::Call(call) => call_reply(rt, driver, call),
+        event => event_reply(rt, alloc, driver, &event, is_whole),
+    }
+}
+
+fn event_reply(
+    rt: &impl Abort,
+    alloc: Global,
+    driver: &mut Driver,
+    event: &Turn,
+    is_whole: bool,
+) -> Reply {
+    match event {
+        Turn::Bytes { id, piece } if !is_whole => {
+            take_each(rt, alloc, driver, *id, piece.as_slice());
+        }
+        _ => take(rt, driver, event),
+    }
+    Reply::Done
 }
 
 fn call_reply(rt: &impl Abort, driver: &mut Driver, call: Call) -> Reply {
