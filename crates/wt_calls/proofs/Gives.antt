@@ -22,8 +22,8 @@ use Rattle.wt_told.proofs.Theorems.{given_theorem, logged_theorem, passed_theore
 use Rattle.wt_turn.specs.Log.{CallRecord, Called, Log, Polled, Sent, StreamAccepted, calls_of, events_of, with_actions}
 use Rattle.wt_turn.specs.declared.action.Action.{Action}
 use Rattle.wt_error.specs.declared.connection_error.ConnectionError.{ConnectionError}
-use Rattle.wt_turn.specs.declared.reply.Reply.{Reply}
-use Rattle.wt_turn.specs.declared.reply.Reply.TheVariants as replies
+use Rattle.wt_reply.specs.declared.reply.Reply.{Reply}
+use Rattle.wt_reply.specs.declared.reply.Reply.TheVariants as replies
 use Rattle.wt_wire.specs.declared.side.Side.{Side}
 
 -- ---- polls

@@ -22,7 +22,7 @@ use Rattle.wt_spec.specs.StreamTable.{Classified}
 use Rattle.wt_told.proofs.Theorems.{call_reached_theorem, first_request_theorem, logged_theorem}
 use Rattle.wt_turn.specs.Log.{CallRecord, Log, RequestDelivered, calls_of}
 use Rattle.wt_turn.specs.declared.call.Call.TheVariants as calls
-use Rattle.wt_turn.specs.declared.reply.Reply.TheVariants as replies
+use Rattle.wt_reply.specs.declared.reply.Reply.TheVariants as replies
 use Rattle.wt_wire.specs.declared.side.Side.{Side}
 use Rattle.wt_wire.specs.declared.side.Side.TheVariants.{Client, Server}
 

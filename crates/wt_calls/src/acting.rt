@@ -15,7 +15,7 @@ ghost use Rattle.wt_spec.specs.Driver.{log_and_flush};
 ghost use Rattle.wt_spec.specs.Effect.{log_call, pending_or_failed};
 ghost use Rattle.wt_turn.specs.Log.{Called, Log, Polled, with_actions};
 ghost use Rattle.wt_turn.specs.Records.{record_of};
-ghost use Rattle.wt_turn.specs.declared.reply.Reply.TheVariants as replies;
+ghost use Rattle.wt_reply.specs.declared.reply.Reply.TheVariants as replies;
 ghost use Rattle.wt_wire.specs.declared.side.Side.{Side};
 
 use std::alloc::Global;
@@ -223,7 +223,7 @@ pub fn receive(
 // ---- plans
 
 /// The reply of an accept of a unidirectional stream.
-pub(crate) fn uni_reply(answer: Poll<Result<StreamId, ConnectionError>>) -> Reply
+pub fn uni_reply(answer: Poll<Result<StreamId, ConnectionError>>) -> Reply
     ensures { result ≡ poll_reply replies.Uni answer }
 {
     match answer {
@@ -234,7 +234,7 @@ pub(crate) fn uni_reply(answer: Poll<Result<StreamId, ConnectionError>>) -> Repl
 }
 
 /// The reply of an accept of a bidirectional stream.
-pub(crate) fn bi_reply(answer: Poll<Result<StreamId, ConnectionError>>) -> Reply
+pub fn bi_reply(answer: Poll<Result<StreamId, ConnectionError>>) -> Reply
     ensures { result ≡ poll_reply replies.Bi answer }
 {
     match answer {
@@ -245,7 +245,7 @@ pub(crate) fn bi_reply(answer: Poll<Result<StreamId, ConnectionError>>) -> Reply
 }
 
 /// The reply of a receive.
-pub(crate) fn datagram_reply(answer: Poll<Result<Piece, ConnectionError>>) -> Reply
+pub fn datagram_reply(answer: Poll<Result<Piece, ConnectionError>>) -> Reply
     ensures { result ≡ poll_reply replies.Datagram answer }
 {
     match answer {

@@ -1,10 +1,7 @@
-//! A WebTransport session: which calls of the application may come, and what a call's plan leads to
-//! over a driver. The plans of wt_call_plans and what a client is asked to connect to are offered again.
+//! What the plan of a call leads to over a driver: its actions, its record, and what an accept or a receive
+//! gives. The plans of wt_call_plans and what a client is asked to connect to are offered again.
 #![tactic(auto)]
 
 pub mod acting;
-pub mod admission;
-pub mod perform;
-pub mod session;
 
 pub use wt_call_plans::{connect_options, plans};

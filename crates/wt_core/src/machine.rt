@@ -4,13 +4,13 @@ ghost use Rattle.wt_core.specs.CoreState.{Refines, may_come, may_turn};
 ghost use Rattle.wt_seam.specs.Step.{fits_now};
 ghost use Rattle.wt_seam_spec.specs.Arrivals.{fits};
 ghost use Rattle.wt_spec.specs.Answers.{answer_to, call_effect, is_lawful, log_after, may_call, turn_effect};
-ghost use Rattle.wt_calls.specs.Keeping.{Keeps};
+ghost use Rattle.wt_call_answers.specs.Keeping.{Keeps};
 ghost use Rattle.wt_driver.specs.Tie.{Follows};
 ghost use Rattle.wt_turn.specs.Log.{Log, actions_of};
 
 use std::alloc::Global;
 use std::marker::Model;
-use wt_calls::session::Session;
+use wt_call_answers::session::Session;
 use wt_driver::driver::Driver;
 use wt_turn::{Answer, Call, Reply, Turn};
 use wt_wire::error::OutOfMemory;

@@ -1,5 +1,5 @@
 -- What the streams show on which a connection rests, and what their runs answer.
-use Rattle.std.specs.Prelude.{ℕ, List, ◌++◌, Option, Some, None, Result, Ok, Err, Bool, false, if◌then◌else◌}
+use Rattle.std.specs.Prelude.{ℕ, List, ◌++◌, ◌||◌, Option, Some, None, Result, Ok, Err, Bool, true, false, if◌then◌else◌}
 use Rattle.wt_wire.specs.declared.error.ErrorCode.{ErrorCode}
 use Rattle.wt_wire.specs.declared.error.ErrorCode.TheVariants.{ClosedCriticalStream}
 use Rattle.wt_wire.specs.declared.frame.FrameKind.TheVariants as kinds
@@ -45,6 +45,11 @@ RemoteUni = Typed QuicRecvStream UniRemoteH3
 -- the stream of a session
 abbrev pub SessionStream : Type 0
 SessionStream = Typed Pair Session
+
+-- this end's control stream, where it is set, and whether its SETTINGS are all out
+pub record LocalControl : Type 0 where
+  pub stream : Option LocalUni
+  pub is_out : Bool
 
 -- the stream that is set, and how far the walk over its bytes is
 pub record Watched (T S O : Type 0) : Type 0 where
@@ -170,11 +175,15 @@ written_answer (polls.Ready (Err error)) = polls.Ready (Err (write_error error))
 written_answer polls.Pending = polls.Pending
 
 -- a stream is set, and a write on it isn't closed
-abbrev pub can_send_settings : Option LocalUni → TransportState → Bool
-can_send_settings None t = false
-can_send_settings (Some s) t = can_write_now t s.halves.id
+abbrev pub can_write_on : Option LocalUni → TransportState → Bool
+can_write_on None t = false
+can_write_on (Some s) t = can_write_now t s.halves.id
 
--- no other frame is half written on the stream
+-- SETTINGS may be sent, or are out
+abbrev pub can_send_settings : LocalControl → TransportState → Bool
+can_send_settings s t = s.is_out || can_write_on s.stream t
+
+-- no write was begun on the stream that isn't through, or that of SETTINGS
 abbrev pub ContinuesSettings : Option LocalUni → Type 0
 ContinuesSettings None = Unit {0}
 ContinuesSettings (Some s) = Continues s.stage.writing settings_frame_bytes
@@ -189,19 +198,41 @@ settings_begun None = None
 settings_begun (Some s) = Some (record s { stage = record s.stage { writing = settings_write s } })
 
 -- what a write of the frame on the stream answers
-abbrev pub settings_answer : Option LocalUni → TransportState → Poll (Result (Unit {0}) DriverError)
-settings_answer None t = polls.Pending
-settings_answer (Some s) t = written_answer (pending_answer t.is_open (sending_half_now t s.halves.id) (rest (settings_write s)))
+abbrev pub frame_answer : Option LocalUni → TransportState → Poll (Result (Unit {0}) DriverError)
+frame_answer None t = polls.Pending
+frame_answer (Some s) t = written_answer (pending_answer t.is_open (sending_half_now t s.halves.id) (rest (settings_write s)))
 
 -- the transport then: as much went out as credit covers
-abbrev pub after_settings : Option LocalUni → TransportState → TransportState
-after_settings None t = t
-after_settings (Some s) t = after_write t s.halves.id (rest (settings_write s))
+abbrev pub after_frame : Option LocalUni → TransportState → TransportState
+after_frame None t = t
+after_frame (Some s) t = after_write t s.halves.id (rest (settings_write s))
 
 -- the stream then
-abbrev pub with_settings : Option LocalUni → TransportState → Option LocalUni
-with_settings None t = None
-with_settings (Some s) t = Some (record s { stage = record s.stage { writing = after_pending t.is_open (sending_half_now t s.halves.id) (settings_write s) } })
+abbrev pub with_frame : Option LocalUni → TransportState → Option LocalUni
+with_frame None t = None
+with_frame (Some s) t = Some (record s { stage = record s.stage { writing = after_pending t.is_open (sending_half_now t s.halves.id) (settings_write s) } })
+
+-- the frame is all out
+abbrev pub is_through : Poll (Result (Unit {0}) DriverError) → Bool
+is_through (polls.Ready (Ok through)) = true
+is_through (polls.Ready (Err error)) = false
+is_through polls.Pending = false
+
+-- SETTINGS that are out aren't sent again (RFC 9114, section 7.2.4)
+abbrev pub sent_answer : Bool → Poll (Result (Unit {0}) DriverError)
+sent_answer open_ = if open_ then polls.Ready (Ok tt) else polls.Ready (Err errors.NotConnected)
+
+-- what sending SETTINGS answers
+abbrev pub settings_answer : LocalControl → TransportState → Poll (Result (Unit {0}) DriverError)
+settings_answer s t = if s.is_out then sent_answer t.is_open else frame_answer s.stream t
+
+-- the transport then
+abbrev pub after_settings : LocalControl → TransportState → TransportState
+after_settings s t = if s.is_out then t else after_frame s.stream t
+
+-- the stream then, and whether SETTINGS are out
+abbrev pub with_settings : LocalControl → TransportState → LocalControl
+with_settings s t = if s.is_out then s else record { stream = with_frame s.stream t; is_out = is_through (frame_answer s.stream t) }
 
 -- ---- the peer's SETTINGS
 

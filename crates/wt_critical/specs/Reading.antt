@@ -20,6 +20,6 @@ pub record ReadsSome {S O : Type 0} (decide : S → List ℕ → Step S O) (old 
   pub reading : new ≡ fed_reading decide old (take count (unread_now before id))
   pub state : after ≡ after_consume before id count
 
--- these are the bytes that a reader took
+-- the reader stands where one does that took these bytes, from this state on
 abbrev pub WasRead : {S O : Type 0} → (S → List ℕ → Step S O) → S → Reading S O → List ℕ → Type 0
 WasRead decide start r bytes = r.progress ≡ progress_over decide start None 0 bytes

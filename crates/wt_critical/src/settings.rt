@@ -10,7 +10,7 @@ ghost use Rattle.wt_seam.specs.Step.{end_now, unread_now};
 ghost use Rattle.wt_typed.specs.Typed.{can_write_now};
 ghost use Rattle.wt_typed.specs.UniHeader.{kind_of};
 ghost use Rattle.wt_typed.specs.Writing.{Continues, after_pending, pending_answer, rest, write_of};
-ghost use Rattle.wt_critical.specs.Critical.{ContinuesSettings, after_settings, after_uni_run, can_send_settings, control_answer, control_after_run, control_shows, given_once, local_answer, settings_answer, settings_begun, shown_by_fault, uni_bytes, with_settings, write_error, written_answer};
+ghost use Rattle.wt_critical.specs.Critical.{ContinuesSettings, after_frame, after_settings, after_uni_run, can_send_settings, can_write_on, control_answer, control_after_run, control_shows, frame_answer, given_once, is_through, local_answer, sent_answer, settings_answer, settings_begun, settings_frame, shown_by_fault, uni_bytes, with_frame, with_settings, write_error, written_answer};
 ghost use Rattle.wt_critical.specs.Reading.{WasRead, after_reading_all, read_on};
 
 use crate::reading::read_all;
@@ -30,20 +30,20 @@ use wt_wire::ids::StreamId;
 
 // ---- this end's
 
-/// This end's control stream, where it is set. Contracts see the stream.
+/// This end's control stream, where it is set, and whether its SETTINGS are all out. Contracts see both.
 #[derive(Drop)]
 pub struct LocalSettingsStream {
     alloc: Global,
     stream: Option<StreamUniLocalH3>,
+    is_out: bool,
 }
 
 impl Model for LocalSettingsStream {
-    ghost use Rattle.std.specs.Prelude.{Option};
-    ghost use Rattle.wt_critical.specs.Critical.{LocalUni};
+    ghost use Rattle.wt_critical.specs.Critical.{LocalControl};
 
-    ghost Value = { Option LocalUni };
+    ghost Value = { LocalControl };
 
-    ghost view = { λ s. s.stream };
+    ghost view = { λ s. record { stream = s.stream; is_out = s.is_out } };
 }
 
 /// Why a frame can't go out, as a driver tells it.
@@ -97,20 +97,73 @@ fn send_frame(
     Ok(written(answer))
 }
 
+/// Writes the frame of this end's SETTINGS on the stream that is set, as far as credit goes.
+fn send_on(
+    stream: &mut Option<StreamUniLocalH3>,
+    t: &mut Transport,
+    frame: &Frame,
+) -> Result<Poll<Result<(), DriverError>>, OutOfMemory>
+    requires settings { frame.now ≡ settings_frame }
+    requires can { IsTrue (can_write_on stream.old t.old) }
+    requires same { ContinuesSettings stream.old }
+    ensures answer { IfOk result (λ a. a ≡ frame_answer stream.old t.old) }
+    ensures state { OnOk result (t.new ≡ after_frame stream.old t.old) }
+    ensures stream { OnOk result (stream.new ≡ with_frame stream.old t.old) }
+    ensures goes_on { ContinuesSettings stream.new }
+    ensures err { OnErr result (t.new ≡ t.old) }
+    ensures kept { OnErr result (settings_begun stream.new ≡ settings_begun stream.old) }
+{
+    match stream {
+        Some(stream) => send_frame(stream, t, frame),
+        None => unreachable!(),
+    }
+}
+
+/// Whether the frame is all out.
+fn is_through(answer: &Poll<Result<(), DriverError>>) -> bool
+    ensures { result ≡ is_through answer.now }
+{
+    match answer {
+        Poll::Ready(Ok(())) => true,
+        Poll::Ready(Err(_)) | Poll::Pending => false,
+    }
+}
+
+/// What is answered where SETTINGS are out.
+fn sent(is_open: bool) -> Poll<Result<(), DriverError>>
+    ensures { result ≡ sent_answer is_open }
+{
+    if is_open {
+        return Poll::Ready(Ok(()));
+    }
+    Poll::Ready(Err(DriverError::NotConnected))
+}
+
+/// Whether a stream is set, and a write on it isn't closed.
+fn can_write_on(stream: &Option<StreamUniLocalH3>, t: &Transport) -> bool
+    ensures { result ≡ can_write_on stream.now t.now }
+{
+    match stream {
+        Some(stream) => stream.can_write(t),
+        None => false,
+    }
+}
+
 impl LocalSettingsStream {
     /// No stream is set.
     pub fn empty(alloc: Global) -> Result<Self, OutOfMemory>
-        ensures { result ≡ Ok None }
+        ensures { result ≡ Ok (record { stream = None; is_out = false }) }
     {
         Ok(LocalSettingsStream {
             alloc,
             stream: None,
+            is_out: false,
         })
     }
 
     /// Whether no stream is set.
     pub fn is_empty(&self) -> bool
-        ensures { result ≡ not (is_some self.now) }
+        ensures { result ≡ not (is_some self.now.stream) }
     {
         self.stream.is_none()
     }
@@ -118,15 +171,16 @@ impl LocalSettingsStream {
     /// Sets the stream, which `kind` says to be a control stream.
     pub fn set_stream(&mut self, stream: StreamUniLocalH3)
         requires { stream.stage.kind ≡ kinds.Control }
-        ensures { self.new ≡ Some stream }
+        ensures { self.new ≡ record { stream = Some stream; is_out = false } }
     {
         self.stream = Some(stream);
+        self.is_out = false;
     }
 
     /// Ready with `Proto(ClosedCriticalStream)` where the peer stopped the stream, else with
     /// `NotConnected` where the connection isn't open; pending where no stream is set.
     pub fn run(&mut self, t: &mut Transport) -> Result<Poll<DriverError>, OutOfMemory>
-        ensures answer { result ≡ Ok (local_answer self.old t.old) }
+        ensures answer { result ≡ Ok (local_answer self.old.stream t.old) }
         ensures unchanged { t.new ≡ t.old }
         ensures same { self.new ≡ self.old }
     {
@@ -135,41 +189,42 @@ impl LocalSettingsStream {
 
     /// Writes the frame of this end's SETTINGS; pending while a rest of it lacks credit, and then the
     /// next call goes on. Fails with `NotConnected` where the connection isn't open, else with
-    /// `Proto(ClosedCriticalStream)` where the peer stopped the stream.
+    /// `Proto(ClosedCriticalStream)` where the peer stopped the stream before all was out. SETTINGS that
+    /// are out aren't sent again (RFC 9114, section 7.2.4).
     pub fn send_settings(
         &mut self,
         t: &mut Transport,
     ) -> Result<Poll<Result<(), DriverError>>, OutOfMemory>
         requires can { IsTrue (can_send_settings self.old t.old) }
-        requires same { ContinuesSettings self.old }
+        requires same { ContinuesSettings self.old.stream }
         ensures answer { IfOk result (λ a. a ≡ settings_answer self.old t.old) }
         ensures state { OnOk result (t.new ≡ after_settings self.old t.old) }
         ensures stream { OnOk result (self.new ≡ with_settings self.old t.old) }
-        ensures goes_on { ContinuesSettings self.new }
+        ensures goes_on { ContinuesSettings self.new.stream }
         ensures err { OnErr result (t.new ≡ t.old) }
-        ensures kept { OnErr result (settings_begun self.new ≡ settings_begun self.old) }
+        ensures kept { OnErr result (settings_begun self.new.stream ≡ settings_begun self.old.stream) }
+        ensures out { OnErr result (self.new.is_out ≡ self.old.is_out) }
     {
-        let frame = Settings::local().generate_frame(self.alloc)?;
-        match &mut self.stream {
-            Some(stream) => send_frame(stream, t, &frame),
-            None => unreachable!(),
+        if self.is_out {
+            return Ok(sent(t.is_open()));
         }
+        let frame = Settings::local().generate_frame(self.alloc)?;
+        let answer = send_on(&mut self.stream, t, &frame)?;
+        self.is_out = is_through(&answer);
+        Ok(answer)
     }
 
-    /// Whether `send_settings` may begin or go on: a stream is set, its sending half exists, and this
-    /// end neither finished nor reset it while the connection is open.
+    /// Whether `send_settings` may begin or go on: SETTINGS are out, or a stream is set, its sending half
+    /// exists, and this end neither finished nor reset it while the connection is open.
     pub fn can_send(&self, t: &Transport) -> bool
         ensures { result ≡ can_send_settings self.now t.now }
     {
-        match &self.stream {
-            Some(stream) => stream.can_write(t),
-            None => false,
-        }
+        self.is_out || can_write_on(&self.stream, t)
     }
 
-    /// Whether no other frame is half written on the stream.
+    /// Whether no write was begun on the stream that isn't through, or that of SETTINGS.
     pub fn continues(&self) -> Result<bool, OutOfMemory>
-        ensures { IfOk result (λ b. IsTrue b ↔ ContinuesSettings self.now) }
+        ensures { IfOk result (λ b. IsTrue b ↔ ContinuesSettings self.now.stream) }
     {
         let frame = Settings::local().generate_frame(self.alloc)?;
         match &self.stream {
@@ -273,7 +328,7 @@ impl RemoteSettingsStream {
         RemoteSettingsWatcher { is_given: false }
     }
 
-    /// The peer's SETTINGS, where they came.
+    /// The peer's SETTINGS, where the walk over what was read has them.
     fn settings(&self) -> Option<Settings>
         ensures { result ≡ (outcome_in control_unfinished self.now.reading).settings }
     {
@@ -296,7 +351,7 @@ impl Model for RemoteSettingsWatcher {
 }
 
 impl RemoteSettingsWatcher {
-    /// The SETTINGS, once; pending where they haven't come or this watcher gave them.
+    /// The SETTINGS, once; pending where no run has read them or this watcher gave them.
     pub fn accept_settings(&mut self, s: &RemoteSettingsStream) -> Poll<Settings>
         ensures answer { (bytes : List ℕ) → WasRead control_decides None s.now.reading bytes → result ≡ given_once self.old (control_walk_of bytes Running).settings }
         ensures given { (bytes : List ℕ) → WasRead control_decides None s.now.reading bytes → self.new ≡ (self.old || is_some (control_walk_of bytes Running).settings) }

@@ -1,10 +1,10 @@
 -- What an accept and a receive give or pass may be given or passed.
 use Rattle.std.proofs.Common.{arith, ◌≡◌, ◌<◌, ℕ, suc, Bool, true, false, List, [], ◌∷◌, length, length-drop, refl, sym, ap, subst, ◌∙◌}
 use Rattle.std.specs.Prelude.{◌==◌, ◌%◌, ◌&&◌, ◌||◌, Option, Some, None, if◌then◌else◌, nat_lt}
-use Rattle.std.proofs.lemmas.Bool.{and_parts, eqb-true, true≢false}
+use Rattle.std.proofs.lemmas.Bool.{and_parts, true≢false}
 use Rattle.wt_driver.proofs.Acting.{acted-sends}
 use Rattle.wt_driver.proofs.Calling.{received-taken, skipped-taken}
-use Rattle.wt_driver.proofs.FlushFacts.{AllReceive, ids-receive, not-bi, not-uni}
+use Rattle.wt_driver.proofs.Receives.{named-receives}
 use Rattle.wt_driver.proofs.StageUses.{due-uses, table-with}
 use Rattle.wt_driver.proofs.StageWork.{passed-waits, slice-front, unsettled-with}
 use Rattle.wt_driver.specs.DriverValue.{DriverValue, without_first}
@@ -13,20 +13,18 @@ use Rattle.wt_driver.specs.Moving.{front_of}
 use Rattle.wt_driver.specs.Tie.{Follows, TakenIn, unsettled}
 use Rattle.wt_driver_spec.proofs.Accepting.{due-named, may-release}
 use Rattle.wt_driver_spec.proofs.Following.{sound}
-use Rattle.wt_driver_spec.proofs.StreamIds.{bi-low, uni-low}
 use Rattle.wt_driver_spec.specs.Asking.{MayBeCalled, SendsWhileOpen, SparesControl}
 use Rattle.wt_driver_spec.specs.DriverState.{DriverState, state_of}
 use Rattle.wt_driver_spec.specs.Due.{Due, due_datagram, due_stream, passing, state_next_due}
-use Rattle.wt_driver_spec.specs.Moment.{Fits, may_release, names_session}
+use Rattle.wt_driver_spec.specs.Moment.{may_release, names_session}
 use Rattle.wt_driver_spec.specs.Uses.{MayUse, classified_of, is_sessions}
 use Rattle.wt_seam_spec.specs.Acting.{MayAct}
 use Rattle.wt_seam_spec.specs.Reports.{datagrams_of}
 use Rattle.wt_seam_spec.specs.Sent.{resets}
-use Rattle.wt_seam_spec.specs.Streams.{can_receive, local_uni, peer_bi, peer_count, peer_uni}
+use Rattle.wt_seam_spec.specs.Streams.{local_uni}
 use Rattle.wt_spec.specs.Connection.{first_of, is_due, is_for_session, next_datagram, next_due, read_datagram}
-use Rattle.wt_spec.specs.Driver.{apply_if, call_view, established, establishes, flush, is_moment, log_and_flush, or_earlier, pending_actions, settled_datagrams, settles_datagram, stream_table, transport_view}
-use Rattle.wt_spec.specs.Scan.{bi_ids, has, uni_ids}
-use Rattle.wt_spec.specs.StreamTable.{Classified, StreamTable, TransportView, dispatched, verdict_of}
+use Rattle.wt_spec.specs.Driver.{apply_if, call_view, established, establishes, flush, is_moment, log_and_flush, or_earlier, pending_actions, settled_datagrams, settles_datagram, stream_table}
+use Rattle.wt_spec.specs.StreamTable.{Classified, StreamTable, dispatched, verdict_of}
 use Rattle.wt_turn.specs.Log.{CallRecord, Called, DatagramPassed, DatagramReceived, Log, Polled, Sent, StreamAccepted, StreamPassed, calls_of, events_of, is_open, with_actions}
 use Rattle.wt_wire.specs.declared.side.Side.{Side}
 
@@ -55,27 +53,6 @@ pub due-kept : (side : Side) (log : Log) (taken : ℕ) (d : DriverValue) → Fol
     → due_stream session (next_due side log kind session) ≡ due_stream session (state_next_due d.state kind session)
 unfolding state_of
 due-kept side log taken d f kind session = ap (λ (s : DriverState). due_stream session (state_next_due s kind session)) (sym f.refines.state_is)
-
--- a peer's stream can receive
-all-in : (side : Side) (log : Log) (k : ℕ) (ks : List ℕ) → AllReceive side log ks → has k ks ≡ true → can_receive side log k ≡ true
-all-in side log k [] a e = absurd (true≢false (sym e))
-all-in side log k (x ∷ xs) a e = by (x == k) refl e (all-in side log k xs a.1)
-  where
-    by : (b : Bool) → (x == k) ≡ b → (b || has k xs) ≡ true → (has k xs ≡ true → can_receive side log k ≡ true) → can_receive side log k ≡ true
-    by true f g again = subst (λ i. can_receive side log i ≡ true) (eqb-true x k f) a.0
-    by false f g again = again g
-
--- a classified stream can
-named-receives : (side : Side) (log : Log) (k : ℕ) → Fits side log → names_session (verdict_of k (stream_table side log).classified) ≡ true → can_receive side log k ≡ true
-named-receives side log k fits named = by (has k (uni_ids t)) (has k (bi_ids t)) refl refl
-  where
-    t : TransportView
-    t = transport_view side log
-
-    by : (u b : Bool) → has k (uni_ids t) ≡ u → has k (bi_ids t) ≡ b → can_receive side log k ≡ true
-    by true b e g = all-in side log k (uni_ids t) (ids-receive side log (peer_uni side) (uni-low side) (not-uni side) 0 (peer_count side (events_of log) (peer_uni side)) (omega arith)) e
-    by false true e g = all-in side log k (bi_ids t) (ids-receive side log (peer_bi side) (bi-low side) (not-bi side) 0 (peer_count side (events_of log) (peer_bi side)) (omega arith)) g
-    by false false e g = absurd (true≢false (sym named ∙ ap names_session ((sound side log fits).within.classified k e g)))
 
 first-holds : (holds : Classified → Bool) (xs : List Classified) (c : Classified) → first_of holds xs ≡ Some c → holds c ≡ true
 first-holds holds [] c e = absurd cc

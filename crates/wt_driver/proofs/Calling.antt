@@ -1,10 +1,11 @@
 -- A call's record taken in, from what the driver's parts ensure.
 use Rattle.std.proofs.Common.{◌≡◌, ◌≤◌, ◌+◌, ℕ, suc, Bool, true, false, List, ◌∷◌, length, drop, refl, sym, ap, subst, ◌∙◌, add-one}
-use Rattle.std.specs.Prelude.{◌==◌, Option, Some, if◌then◌else◌, ℤ}
+use Rattle.std.specs.Prelude.{Some, ℤ}
 use Rattle.wt_driver.proofs.Early.{early}
 use Rattle.wt_driver.proofs.Moved.{open-is}
+use Rattle.wt_driver.proofs.Receives.{sessions-receive, there-is}
 use Rattle.wt_driver.proofs.StageAnswers.{read-staged, response-staged}
-use Rattle.wt_driver.proofs.StageEntries.{called-fits}
+use Rattle.wt_driver.proofs.StageEntries.{called-fits, read-so}
 use Rattle.wt_driver.proofs.StageTables.{is-own}
 use Rattle.wt_driver.proofs.StageWork.{passed-waits, received-waits}
 use Rattle.wt_driver.specs.Calling.{IsEarly, called_queue}
@@ -14,7 +15,8 @@ use Rattle.wt_driver.specs.DriverValue.{DriverValue, IsAmong, with_state, withou
 use Rattle.wt_turn.specs.Records.{record_of}
 use Rattle.wt_turn.specs.declared.record.Record.{Record}
 use Rattle.wt_turn.specs.declared.record.Record.TheVariants as records
-use Rattle.wt_driver.specs.Stages.{called_stages, established_stages, read_on}
+use Rattle.wt_scan.specs.Scanning.{unless_given_up}
+use Rattle.wt_driver.specs.Stages.{called_stages, established_stages, is_there}
 use Rattle.wt_driver.specs.Tie.{Follows, TakenIn, unsettled, untaken_since}
 use Rattle.wt_driver_spec.proofs.RestMoments.{open-says}
 use Rattle.wt_driver_spec.specs.DriverState.{DriverState, state_of}
@@ -22,14 +24,14 @@ use Rattle.wt_driver_spec.specs.Moment.{may_release}
 use Rattle.wt_driver_spec.specs.Step.{after_call, remove_request, release}
 use Rattle.wt_inbox.proofs.Passing.{goes-called, passes}
 use Rattle.wt_inbox.specs.Stage as inboxes
-use Rattle.wt_inbox.specs.Stage.{Anywhere, Body, IsAt, Stage, awaits_response, body_offset, stage_from, with_stage}
+use Rattle.wt_inbox.specs.Stage.{Body, GivenUp, Stage, awaits_response, body_offset, with_stage}
 use Rattle.wt_proto.specs.ResponseWalk.{response_offset, response_walk_of}
 use Rattle.wt_inbox.specs.State.{InboxState}
 use Rattle.wt_seam.specs.State as seam
 use Rattle.wt_streams.specs.StreamState.{rows}
 use Rattle.wt_seam_spec.specs.Sent.{is_reset, priority_of}
 use Rattle.wt_seam_spec.specs.Reports.{end_of, initial_credit}
-use Rattle.wt_seam_spec.specs.Streams.{contents, stream_count}
+use Rattle.wt_seam_spec.specs.Streams.{can_receive, contents, stream_count}
 use Rattle.wt_seam_spec.specs.Unread.{ReadPosition}
 use Rattle.wt_spec.specs.Driver.{stream_table}
 use Rattle.wt_spec.specs.Halves as halves
@@ -75,22 +77,6 @@ module _ (side : Side) (t : seam.TransportState) (log : Log) (position : ℕ →
 pub inbox-kept : (side : Side) (x : InboxState) (log : Log) (stage : ℕ → Stage) (untaken : List Action) (r : CallRecord) → TellsNothing r → inboxes.Refines side x log stage untaken → inboxes.Refines side x (Called r ∷ log) stage untaken
 inbox-kept side x log stage untaken r n s = passes side x log stage untaken s x.transport (Called r ∷ log) untaken (goes-called side log r) (transport-kept side x.transport log s.position untaken r n s.transport)
 
--- ---- what is said of a stage may be forgotten
-
-pub forgets : (side : Side) (x : InboxState) (log : Log) (stage : ℕ → Stage) (untaken : List Action) (id : ℕ) (to : Stage) → inboxes.Refines side x log (with_stage stage id to) untaken → inboxes.Refines side x log (with_stage stage id Anywhere) untaken
-forgets side x log stage untaken id to s = record { position = s.position; transport = s.transport; no_uni = s.no_uni; no_bi = s.no_bi; staged = λ k. by (id == k) k (s.staged k) }
-  where
-    by : (b : Bool) (k : ℕ) → IsAt x k (contents log k) (s.position k) (if b then to else stage k) → IsAt x k (contents log k) (s.position k) (if b then Anywhere else stage k)
-    by true k a = tt
-    by false k a = a
-
-pub forgets-one : (side : Side) (x : InboxState) (log : Log) (stage : ℕ → Stage) (untaken : List Action) (id : ℕ) → inboxes.Refines side x log stage untaken → inboxes.Refines side x log (with_stage stage id Anywhere) untaken
-forgets-one side x log stage untaken id s = record { position = s.position; transport = s.transport; no_uni = s.no_uni; no_bi = s.no_bi; staged = λ k. by (id == k) k (s.staged k) }
-  where
-    by : (b : Bool) (k : ℕ) → IsAt x k (contents log k) (s.position k) (stage k) → IsAt x k (contents log k) (s.position k) (if b then Anywhere else stage k)
-    by true k a = tt
-    by false k a = a
-
 -- ---- a record taken in
 
 queue-so : (r : CallRecord) (log : Log) → unsettled (Called r ∷ log) ≡ called_queue r (unsettled log)
@@ -117,10 +103,10 @@ module _ (side : Side) (log : Log) (taken : ℕ) (d : DriverValue) (f : Follows 
   open-before = ap (λ (s : DriverState). s.is_open) f.refines.state_is
 
   -- the record, with what it did
-  pub call-taken : (new : DriverValue) (b : Bool) → inboxes.Refines side new.inbox (Called r ∷ log) (called_stages side r f.refines.stage) (untaken_since taken log) → new.state ≡ record (after_call r d.state) { is_open = b }
+  pub call-taken : (new : DriverValue) (b : Bool) → inboxes.Refines side new.inbox (Called r ∷ log) (called_stages side log r f.refines.stage) (untaken_since taken log) → new.state ≡ record (after_call r d.state) { is_open = b }
       → b ≡ (state_of side log).is_open → new.queue ≡ called_queue r d.queue → new.settings ≡ d.settings → TakenIn side log (Called r) new taken
   call-taken new b x s o q k = record {
-    stage = called_stages side r f.refines.stage;
+    stage = called_stages side log r f.refines.stage;
     inbox = x;
     fit = called-fits side log f.refines.stage r (is-own side log f.refines.fits) a.can f.refines.staged;
     state_is = s ∙ (λ i. record (after_call r (f.refines.state_is i)) { is_open = o i });
@@ -214,17 +200,26 @@ module _ (side : Side) (log : Log) (taken : ℕ) (d : DriverValue) (f : Follows 
     skipped-taken e a = subst (λ (v : DriverValue). TakenIn side log (Called DatagramPassed) v taken) (sym e)
         (call-taken side log taken d f DatagramPassed a settled_value d.state.is_open (kept DatagramPassed tt) (λ i. record d.state { datagrams = sym (add-one d.state.datagrams) i }) opened refl refl)
 
-    pub passed-taken : (id : ℕ) → inboxes.Refines side new.inbox log (with_stage f.refines.stage id Anywhere) (untaken_since taken log)
+    -- a stream that is passed is one of the peer's, so it was given up
+    pub passed-taken : (id : ℕ) → inboxes.Refines side new.inbox log (with_stage f.refines.stage id (unless_given_up (can_receive side log id) (f.refines.stage id))) (untaken_since taken log)
         → (IsAmong 4 id d.state.unis → IsAmong 1 id d.state.bis → new.state ≡ record (release id d.state) { is_open = new.inbox.transport.is_open }) → new.queue ≡ d.queue → new.settings ≡ d.settings → Asks (StreamPassed id) → TakenIn side log (Called (StreamPassed id)) new taken
     passed-taken id x s q k a =
-        let y = inbox-kept side new.inbox log (with_stage f.refines.stage id Anywhere) (untaken_since taken log) (StreamPassed id) tt x in
-        call-taken side log taken d f (StreamPassed id) a new new.inbox.transport.is_open y (s (first id a.may).unis (first id a.may).bis) (behind (StreamPassed id) new.inbox (with_stage f.refines.stage id Anywhere) y) q k
+        let can : can_receive side log id ≡ true = sessions-receive side log id f.refines.fits a.can.0 in
+        let z : inboxes.Refines side new.inbox log (with_stage f.refines.stage id GivenUp) (untaken_since taken log) =
+        subst (λ (b : Bool). inboxes.Refines side new.inbox log (with_stage f.refines.stage id (unless_given_up b (f.refines.stage id))) (untaken_since taken log)) can x in
+        let y = inbox-kept side new.inbox log (with_stage f.refines.stage id GivenUp) (untaken_since taken log) (StreamPassed id) tt z in
+        call-taken side log taken d f (StreamPassed id) a new new.inbox.transport.is_open y (s (first id a.may).unis (first id a.may).bis) (behind (StreamPassed id) new.inbox (with_stage f.refines.stage id GivenUp) y) q k
 
-    pub given-up-taken : (id : ℕ) → inboxes.Refines side new.inbox log (with_stage f.refines.stage id Anywhere) (untaken_since taken log)
+    -- a stream that is given up was let go where it was there
+    pub given-up-taken : (id : ℕ) → inboxes.Refines side new.inbox log (with_stage f.refines.stage id (unless_given_up (can_receive side log id) (f.refines.stage id))) (untaken_since taken log)
         → new.state ≡ record d.state { is_open = new.inbox.transport.is_open } → new.queue ≡ d.queue → new.settings ≡ d.settings → Asks (StreamGivenUp id) → TakenIn side log (Called (StreamGivenUp id)) new taken
     given-up-taken id x s q k a =
-        let y = inbox-kept side new.inbox log (with_stage f.refines.stage id Anywhere) (untaken_since taken log) (StreamGivenUp id) tt x in
-        call-taken side log taken d f (StreamGivenUp id) a new new.inbox.transport.is_open y s (behind (StreamGivenUp id) new.inbox (with_stage f.refines.stage id Anywhere) y) q k
+        let later = called_stages side log (StreamGivenUp id) f.refines.stage in
+        let same : can_receive side log id ≡ is_there side log id = there-is side log id f.refines.fits a.can in
+        let z : inboxes.Refines side new.inbox log later (untaken_since taken log) =
+        subst (λ (b : Bool). inboxes.Refines side new.inbox log (with_stage f.refines.stage id (unless_given_up b (f.refines.stage id))) (untaken_since taken log)) same x in
+        let y = inbox-kept side new.inbox log later (untaken_since taken log) (StreamGivenUp id) tt z in
+        call-taken side log taken d f (StreamGivenUp id) a new new.inbox.transport.is_open y s (behind (StreamGivenUp id) new.inbox later y) q k
 
     pub read-taken : (id count : ℕ)
         → ((offset : ℕ) → body_offset (f.refines.stage id) ≡ Some offset → count ≤ length (drop offset (contents log id)) → inboxes.Refines side new.inbox log (with_stage f.refines.stage id (Body (offset + count))) (untaken_since taken log))
@@ -233,11 +228,11 @@ module _ (side : Side) (log : Log) (taken : ℕ) (d : DriverValue) (f : Follows 
         let at = halves.body_start (verdict_of id (stream_table side log).classified) + halves.total_read id (calls_of log) in
         let e : body_offset (f.refines.stage id) ≡ Some at = read-staged side log f.refines.stage id f.refines.fits f.refines.uses f.refines.staged a.half in
         let z = x at e a.can.1 in
-        let w = subst (λ (o : Option ℕ). inboxes.Refines side new.inbox log (with_stage f.refines.stage id (stage_from (read_on count o))) (untaken_since taken log)) (sym e) z in
-        let y = inbox-kept side new.inbox log (called_stages side (BytesRead id count) f.refines.stage) (untaken_since taken log) (BytesRead id count) tt w in
-        call-taken side log taken d f (BytesRead id count) a new new.inbox.transport.is_open y s (behind (BytesRead id count) new.inbox (called_stages side (BytesRead id count) f.refines.stage) y) q k
+        let w = subst (λ (to : Stage). inboxes.Refines side new.inbox log (with_stage f.refines.stage id to) (untaken_since taken log)) (sym (read-so count at (f.refines.stage id) e)) z in
+        let y = inbox-kept side new.inbox log (called_stages side log (BytesRead id count) f.refines.stage) (untaken_since taken log) (BytesRead id count) tt w in
+        call-taken side log taken d f (BytesRead id count) a new new.inbox.transport.is_open y s (behind (BytesRead id count) new.inbox (called_stages side log (BytesRead id count) f.refines.stage) y) q k
 
-    pub told-taken : (r : CallRecord) → after_call r d.state ≡ d.state → called_queue r d.queue ≡ d.queue → called_stages side r f.refines.stage ≡ f.refines.stage → inboxes.Refines side new.inbox (Called r ∷ log) f.refines.stage (untaken_since taken log)
+    pub told-taken : (r : CallRecord) → after_call r d.state ≡ d.state → called_queue r d.queue ≡ d.queue → called_stages side log r f.refines.stage ≡ f.refines.stage → inboxes.Refines side new.inbox (Called r ∷ log) f.refines.stage (untaken_since taken log)
         → new.state ≡ record d.state { is_open = new.inbox.transport.is_open } → new.queue ≡ d.queue → new.settings ≡ d.settings → Asks r → TakenIn side log (Called r) new taken
     told-taken r same same_queue same_stages x s q k a =
         call-taken side log taken d f r a new new.inbox.transport.is_open (subst (λ (z : ℕ → Stage). inboxes.Refines side new.inbox (Called r ∷ log) z (untaken_since taken log)) (sym same_stages) x)

@@ -1,12 +1,10 @@
-pub mod Restaged
-pub mod ScanSteps
-pub mod Visits
 pub mod Removing
 pub mod Moved
 pub mod Checks
 pub mod Flushed
 pub mod FlushedWhole
 pub mod FlushFacts
+pub mod Receives
 pub mod AcceptLooks
 pub mod AcceptUses
 pub mod AcceptSteps
@@ -18,6 +16,7 @@ pub mod StageTables
 pub mod StageAnswers
 pub mod StageAsks
 pub mod StageUses
+pub mod LetGo
 pub mod StageTurns
 pub mod StageSteps
 pub mod StageWork

@@ -3,7 +3,7 @@ use Rattle.std.proofs.Common.{◌≡◌, ℕ, Bool, true, false, List, refl, sym
 use Rattle.std.specs.Prelude.{◌==◌, ◌&&◌, Option, Some, None, Result, Ok, Err, OnOk}
 use Rattle.wt_driver.specs.DriverValue.{DriverValue, with_state}
 use Rattle.wt_driver.specs.Moving.{Moves}
-use Rattle.wt_driver.specs.Scanning.{Scans, known_by, rule_of}
+use Rattle.wt_scan.specs.Scanning.{Scans, known_by, rule_of}
 use Rattle.wt_driver.specs.Stages.{bi_stages, datagram_checked, uni_stages, unless_ended_stage}
 use Rattle.wt_dispatch.specs.declared.slot.Half.TheVariants.{Bi, Uni}
 use Rattle.wt_driver_spec.specs.DriverState.{DriverState, Slot}

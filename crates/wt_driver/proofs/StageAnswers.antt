@@ -3,12 +3,12 @@ use Rattle.std.proofs.Common.{arith, ◌≡◌, ◌<◌, ℕ, ◌+◌, ◌%◌, 
 use Rattle.std.specs.Prelude.{Option, Some, None, ◌==◌, ◌||◌, ◌&&◌, not, if◌then◌else◌}
 use Rattle.std.specs.List.{list_any}
 use Rattle.std.proofs.lemmas.Bool.{and_parts, eq-eqb, eqb-true, false_from_ne_true, or_parts, true≢false}
-use Rattle.wt_driver.proofs.StageEntries.{IsOwn, client-id, with-fits}
+use Rattle.wt_driver.proofs.StageEntries.{IsOwn, client-id, up-to-says, with-fits}
 use Rattle.wt_driver.proofs.StageScans.{AreOf, none-found, verdict-found}
 use Rattle.std.proofs.lemmas.Bool.Decides.{nat_tests}
 use Rattle.wt_driver.proofs.StageTables.{entry-found, is-own, use-session}
-use Rattle.wt_driver.specs.Scanning.{AllAwait}
-use Rattle.wt_driver.specs.Stages.{ClassifiedSays, FirstSays, ResponseSays, StageFits, StageSays, StagesFit, TableFits, peer_role}
+use Rattle.wt_scan.specs.Scanning.{AllAwait}
+use Rattle.wt_driver.specs.Stages.{BodySays, ClassifiedSays, FirstSays, ResponseSays, StageFits, StageSays, StagesFit, TableFits, is_let_go, is_there, peer_role, stream_use}
 use Rattle.wt_driver_spec.specs.Asking.{AwaitsResponse}
 use Rattle.wt_driver_spec.specs.Uses.{CallUse, ForRequest, OfLocalBi, OfLocalUni, StreamRole, Uses, classified_of, is_sessions, may_give, passes, response_at, role_by, role_of, use_of}
 use Rattle.wt_dispatch.specs.declared.slot.Half.{Half}
@@ -33,11 +33,11 @@ use Rattle.wt_wire.specs.declared.side.Side.TheVariants.{Client, Server}
 -- ---- a scan can read the headers
 
 -- the headers of the streams in these slots can be read
-pub slots-await : (side : Side) (calls : List CallRecord) (half : Half) (d : CallView) (table : StreamTable) (stage : ℕ → Stage) (ks : List ℕ) → AreOf side half ks → TableFits side calls table stage → AllAwait half stage (slots d table ks)
-slots-await side calls half d table stage [] kinds f = tt
-slots-await side calls half d table stage (k ∷ ks) kinds f = by (classified_of k table.classified) refl (slots-await side calls half d table stage ks kinds.1 f)
+pub slots-await : (side : Side) (did : ℕ → CallUse) (half : Half) (d : CallView) (table : StreamTable) (stage : ℕ → Stage) (ks : List ℕ) → AreOf side half ks → TableFits side did table stage → AllAwait half stage (slots d table ks)
+slots-await side did half d table stage [] kinds f = tt
+slots-await side did half d table stage (k ∷ ks) kinds f = by (classified_of k table.classified) refl (slots-await side did half d table stage ks kinds.1 f)
   where
-    first : (half : Half) (role : StreamRole) → role ≡ peer_role half → FirstSays role (use_of k calls) table.progress.ending (stage k) → (dequeued : Bool) → AllAwait half stage (slots d table ks)
+    first : (half : Half) (role : StreamRole) → role ≡ peer_role half → FirstSays role (did k) table.progress.ending (stage k) → (dequeued : Bool) → AllAwait half stage (slots d table ks)
         → AllAwait half stage (record { id = k; place = cond dequeued Dequeued Arrived } ∷ slots d table ks)
     first Uni role e f true rest = ((rw e at f).0, rest)
     first Uni role e f false rest = ((rw e at f).0, rest)
@@ -49,7 +49,7 @@ slots-await side calls half d table stage (k ∷ ks) kinds f = by (classified_of
     held false rest = (tt, rest)
 
     by : (o : Option Classified) → classified_of k table.classified ≡ o → AllAwait half stage (slots d table ks) → AllAwait half stage (slot_by k (d.released k) (has k table.dequeued) (verdict_of k table.classified) ++ slots d table ks)
-    by None e rest = rw (verdict-found k table.classified, e) (first half (role_of side k) kinds.0 (subst (λ (o : Option Classified). StageSays (role_of side k) (use_of k calls) table.progress.ending o (stage k)) e (f k)) (has k table.dequeued) rest)
+    by None e rest = rw (verdict-found k table.classified, e) (first half (role_of side k) kinds.0 (subst (λ (o : Option Classified). StageSays (role_of side k) (did k) table.progress.ending o (stage k)) e (f k)) (has k table.dequeued) rest)
     by (Some c) e rest = rw (verdict-found k table.classified, e) (held (is_released (d.released k) c.verdict) rest)
 
 -- ---- what the calls did
@@ -63,12 +63,17 @@ use-read k (BytesRead id count ∷ calls) = by (id == k) (use-read k calls)
     by false e = omega arith
 use-read k (r ∷ calls) = let e = use-read k calls in omega arith
 
--- a stream that was neither passed nor given up isn't dropped
-pub use-kept : (k : ℕ) (calls : List CallRecord) → list_any (gives_up k) calls ≡ false → list_any (passes k) calls ≡ false → (use_of k calls).is_dropped ≡ false
-use-kept k [] e f = refl
-use-kept k (StreamGivenUp id ∷ calls) e f = let parts = or_parts (id == k) (list_any (gives_up k) calls) e in rw (parts.0, use-kept k calls parts.1 f) refl
-use-kept k (StreamPassed id ∷ calls) e f = let parts = or_parts (id == k) (list_any (passes k) calls) f in rw (parts.0, use-kept k calls e parts.1) refl
-use-kept k (_ ∷ calls) e f = use-kept k calls e f
+-- a stream that was neither passed nor given up isn't let go
+pub not-let-go : (side : Side) (log : Log) (k : ℕ) → list_any (gives_up k) (calls_of log) ≡ false → list_any (passes k) (calls_of log) ≡ false → is_let_go side log k ≡ false
+not-let-go side [] k e f = refl
+not-let-go side (Called (StreamGivenUp id) ∷ log) k e f =
+    let parts = or_parts (id == k) (list_any (gives_up k) (calls_of log)) e in
+    λ i. (parts.0 i && is_there side log id) || not-let-go side log k parts.1 f i
+not-let-go side (Called (StreamPassed id) ∷ log) k e f =
+    let parts = or_parts (id == k) (list_any (passes k) (calls_of log)) f in
+    λ i. parts.0 i || not-let-go side log k e parts.1 i
+not-let-go side (Called _ ∷ log) k e f = not-let-go side log k e f
+not-let-go side (_ ∷ log) k e f = not-let-go side log k e f
 
 -- ---- streams that the application was given
 
@@ -161,7 +166,7 @@ read-staged side log stage k fits uses f half =
     let parts = and_parts (is_accepted log k && not (k % 4 == local_uni side)) (not (list_any (gives_up k) (calls_of log))) half in
     let first = and_parts (is_accepted log k) (not (k % 4 == local_uni side)) parts.0 in
     let given = accepted-given side log k uses first.0 in
-    let kept = use-kept k (calls_of log) (not-so (list_any (gives_up k) (calls_of log)) parts.1) given.kept in
+    let kept = not-let-go side log k (not-so (list_any (gives_up k) (calls_of log)) parts.1) given.kept in
     by kept (not-so (k % 4 == local_uni side) first.1) given.stream
   where
     not-so : (b : Bool) → not b ≡ true → b ≡ false
@@ -171,22 +176,28 @@ read-staged side log stage k fits uses f half =
     cs : List Classified
     cs = (stream_table side log).classified
 
-    says : (o : Option Classified) → classified_of k cs ≡ o → StageSays (role_of side k) (use_of k (calls_of log)) (stream_table side log).progress.ending o (stage k)
-    says o e = subst (λ (o : Option Classified). StageSays (role_of side k) (use_of k (calls_of log)) (stream_table side log).progress.ending o (stage k)) e (f k)
+    ending : Option Ending
+    ending = (stream_table side log).progress.ending
 
-    local : (role : StreamRole) → role ≡ OfLocalBi → FirstSays role (use_of k (calls_of log)) (stream_table side log).progress.ending (stage k) → (use_of k (calls_of log)).is_dropped ≡ false → body_offset (stage k) ≡ Some (0 + total_read k (calls_of log))
-    local role e g kept = (rw e at g) kept ∙ ap (λ n. Some (0 + n)) (use-read k (calls_of log))
+    says : (o : Option Classified) → classified_of k cs ≡ o → StageSays (role_of side k) (stream_use side log k) ending o (stage k)
+    says o e = subst (λ (o : Option Classified). StageSays (role_of side k) (stream_use side log k) ending o (stage k)) e (f k)
 
-    named : (surplus : Bool) (v : Verdict) → is_webtransport v ≡ true → ClassifiedSays surplus v (use_of k (calls_of log)) (stream_table side log).progress.ending (stage k) → (use_of k (calls_of log)).is_dropped ≡ false
+    read-up-to : (at : ℕ) → is_let_go side log k ≡ false → BodySays (stream_use side log k) at (stage k) → body_offset (stage k) ≡ Some (at + total_read k (calls_of log))
+    read-up-to at kept g = up-to-says (is_let_go side log k) (at + (use_of k (calls_of log)).read) (stage k) kept g ∙ ap (λ n. Some (at + n)) (use-read k (calls_of log))
+
+    local : (role : StreamRole) → role ≡ OfLocalBi → FirstSays role (stream_use side log k) ending (stage k) → is_let_go side log k ≡ false → body_offset (stage k) ≡ Some (0 + total_read k (calls_of log))
+    local role e g kept = read-up-to 0 kept (subst (λ (r : StreamRole). FirstSays r (stream_use side log k) ending (stage k)) e g)
+
+    named : (surplus : Bool) (v : Verdict) → is_webtransport v ≡ true → ClassifiedSays surplus v (stream_use side log k) ending (stage k) → is_let_go side log k ≡ false
         → body_offset (stage k) ≡ Some (halves.body_start (Some v) + total_read k (calls_of log))
-    named surplus (verdicts.WebTransport session at) e g kept = g kept ∙ ap (λ n. Some (at + n)) (use-read k (calls_of log))
+    named surplus (verdicts.WebTransport session at) e g kept = read-up-to at kept g
     named surplus _ e g kept = absurd cc
 
-    found : (o : Option Classified) → classified_of k cs ≡ o → is_sessions o ≡ true → (use_of k (calls_of log)).is_dropped ≡ false → body_offset (stage k) ≡ Some (halves.body_start (verdict_of k cs) + total_read k (calls_of log))
+    found : (o : Option Classified) → classified_of k cs ≡ o → is_sessions o ≡ true → is_let_go side log k ≡ false → body_offset (stage k) ≡ Some (halves.body_start (verdict_of k cs) + total_read k (calls_of log))
     found None e g kept = absurd cc
     found (Some c) e g kept = rw (verdict-found k cs, e) (named c.surplus c.verdict g (says (Some c) e) kept)
 
-    by : (use_of k (calls_of log)).is_dropped ≡ false → (k % 4 == local_uni side) ≡ false → (may_give (role_of side k) None ≡ true) ⊎ (is_sessions (classified_of k cs) ≡ true)
+    by : is_let_go side log k ≡ false → (k % 4 == local_uni side) ≡ false → (may_give (role_of side k) None ≡ true) ⊎ (is_sessions (classified_of k cs) ≡ true)
         → body_offset (stage k) ≡ Some (halves.body_start (verdict_of k cs) + total_read k (calls_of log))
     by kept other (inl e) =
         let none = own-unclassified side log k fits e in
@@ -230,10 +241,10 @@ module _ (side : Side) (log : Log) (stage : ℕ → Stage) (id : ℕ) (fits : Fi
   -- a response that is awaited can be read
   pub response-staged : awaits_response (stage id) ≡ true
   response-staged =
-      says-awaits (role_of side id) (use_of id (calls_of log)) (stream_table side log).progress.ending (classified_of id (stream_table side log).classified) (stage id) a.role none (use-session id (calls_of log) ∙ a.unestablished) a.goes_on (f id)
+      says-awaits (role_of side id) (stream_use side log id) (stream_table side log).progress.ending (classified_of id (stream_table side log).classified) (stage id) a.role none (use-session id (calls_of log) ∙ a.unestablished) a.goes_on (f id)
 
   -- the stages fit once it is being read
   pub response-fits : StagesFit side log (with_stage stage id ResponseHead)
   response-fits =
-      with-fits (StageFits side (calls_of log) (stream_table side log)) stage id ResponseHead (λ k e. f k)
-      (awaits-says (role_of side id) (use_of id (calls_of log)) (stream_table side log).progress.ending (classified_of id (stream_table side log).classified) ResponseHead a.role none (use-session id (calls_of log) ∙ a.unestablished) a.goes_on refl)
+      with-fits (StageFits side (stream_use side log) (stream_table side log)) stage id ResponseHead (λ k e. f k)
+      (awaits-says (role_of side id) (stream_use side log id) (stream_table side log).progress.ending (classified_of id (stream_table side log).classified) ResponseHead a.role none (use-session id (calls_of log) ∙ a.unestablished) a.goes_on refl)

@@ -5,7 +5,7 @@ use Rattle.std.proofs.lemmas.Bool.{eq-eqb, eqb-true}
 use Rattle.wt_driver.proofs.StageEntries.{IsOwn, client-id, with-fits}
 use Rattle.wt_driver.proofs.StageScans.{verdict_in, verdict-found, weaker-says}
 use Rattle.wt_driver.specs.Stages.{ClassifiedSays, StageSays, TableFits, check_stages, control_stages, datagram_checked, is_session_over, session_stage, session_stages, unless_ended_stage}
-use Rattle.wt_driver_spec.specs.Uses.{CallUse, ForRequest, StreamRole, classified_of, request_at, response_at, role_of, session_at, use_of}
+use Rattle.wt_driver_spec.specs.Uses.{CallUse, ForRequest, StreamRole, classified_of, request_at, response_at, role_of, session_at}
 use Rattle.wt_driver_spec.specs.Claims.{IsOnce}
 use Rattle.wt_driver_spec.specs.DriverState.{state_by}
 use Rattle.wt_inbox.specs.Stage.{ControlBody, Stage, session_offset}
@@ -17,7 +17,6 @@ use Rattle.wt_proto.specs.declared.verdict.Verdict.TheVariants as verdicts
 use Rattle.wt_spec.specs.Driver.{ControlSent}
 use Rattle.wt_spec.specs.Scan.{check_control, check_datagram, check_qpack, check_session, checked, critical_if, session_ends, unless_ended}
 use Rattle.wt_spec.specs.StreamTable.{CallView, Classified, Ending, Progress, StreamTable, TransportView, control_start, decoder_start, encoder_start, first_at, or_later, paired, verdict_of}
-use Rattle.wt_turn.specs.Log.{CallRecord}
 use Rattle.wt_wire.specs.declared.side.StreamEnd.TheVariants as ends
 use Rattle.wt_wire.specs.declared.side.Side.{Side}
 use Rattle.wt_wire.specs.declared.side.Side.TheVariants.{Client, Server}
@@ -60,7 +59,7 @@ session-says Server role None done s ending stage own is at f = absurd cc
 session-says Server role (Some c) done s ending stage own is at f = by c.surplus c.verdict at
   where
     by : (surplus : Bool) (v : Verdict) → request_at surplus v ≡ Some s.1 → ClassifiedSays surplus v done ending stage
-    by false (verdicts.Request request at) e = λ g h. f h ∙ sym e
+    by false (verdicts.Request request at) e = λ g. f g ∙ sym e
     by true _ e = absurd cc
     by false _ e = absurd cc
 
@@ -85,22 +84,22 @@ over-ends walks.Running b p e f = cc
 over-ends (walks.Closed code reason) b p e f = cc
 over-ends (walks.Fault code) b p e f = cc
 
-module _ (side : Side) (calls : List CallRecord) (cs : List Classified) (t : TransportView) where
+module _ (side : Side) (did : ℕ → CallUse) (cs : List Classified) (t : TransportView) where
   -- each stream is at its stage, where this ends the connection
   abbrev pub FitAt : Option Ending → (ℕ → Stage) → Type 0
-  FitAt ending stage = (k : ℕ) → StageSays (role_of side k) (use_of k calls) ending (classified_of k cs) (stage k)
+  FitAt ending stage = (k : ℕ) → StageSays (role_of side k) (did k) ending (classified_of k cs) (stage k)
 
   weaker : (ending later : Option Ending) (stage : ℕ → Stage) → (later ≡ None → ending ≡ None) → FitAt ending stage → FitAt later stage
-  weaker ending later stage w f k = weaker-says (role_of side k) (use_of k calls) ending later (classified_of k cs) (stage k) w (f k)
+  weaker ending later stage w f k = weaker-says (role_of side k) (did k) ending later (classified_of k cs) (stage k) w (f k)
 
-  module _ (own : IsOwn side cs) (session : Option (ℕ × ℕ)) (kept : (k : ℕ) → (use_of k calls).session ≡ session)
+  module _ (own : IsOwn side cs) (session : Option (ℕ × ℕ)) (kept : (k : ℕ) → (did k).session ≡ session)
       (placed : (s : ℕ × ℕ) → session ≡ Some s → session_at side (role_of side s.0) (classified_of s.0 cs) s.1 ≡ Some s.1) where
     session-fits : (p : Progress) (stage : ℕ → Stage) → p.ending ≡ None → FitAt p.ending stage → FitAt (check_session t session p).ending (session_stages t session stage)
     session-fits p stage runs f = by session refl
       where
-        here : (s : ℕ × ℕ) → session ≡ Some s → (over : Bool) → is_session_over t s ≡ over → StageSays (role_of side s.0) (use_of s.0 calls) (check_session t (Some s) p).ending (classified_of s.0 cs) (session_stage over s.1)
+        here : (s : ℕ × ℕ) → session ≡ Some s → (over : Bool) → is_session_over t s ≡ over → StageSays (role_of side s.0) (did s.0) (check_session t (Some s) p).ending (classified_of s.0 cs) (session_stage over s.1)
         here s e over is =
-            session-says side (role_of side s.0) (classified_of s.0 cs) (use_of s.0 calls) s (check_session t (Some s) p).ending (session_stage over s.1)
+            session-says side (role_of side s.0) (classified_of s.0 cs) (did s.0) s (check_session t (Some s) p).ending (session_stage over s.1)
             (own-none side cs s.0 s.1 own (placed s e)) (kept s.0 ∙ e) (placed s e) (read over is)
           where
             read : (over : Bool) → is_session_over t s ≡ over → (check_session t (Some s) p).ending ≡ None → session_offset (session_stage over s.1) ≡ Some s.1
@@ -109,7 +108,7 @@ module _ (side : Side) (calls : List CallRecord) (cs : List Classified) (t : Tra
 
         by : (o : Option (ℕ × ℕ)) → session ≡ o → FitAt (check_session t o p).ending (session_stages t o stage)
         by None e = f
-        by (Some s) e = with-fits (λ k x. StageSays (role_of side k) (use_of k calls) (check_session t (Some s) p).ending (classified_of k cs) x) stage s.0 (session_stage (is_session_over t s) s.1)
+        by (Some s) e = with-fits (λ k x. StageSays (role_of side k) (did k) (check_session t (Some s) p).ending (classified_of k cs) x) stage s.0 (session_stage (is_session_over t s) s.1)
             (λ k ne. weaker p.ending (check_session t (Some s) p).ending stage (λ g. runs) f k) (here s e (is_session_over t s) refl)
 
     module _ (once : IsOnce cs) where
@@ -118,9 +117,9 @@ module _ (side : Side) (calls : List CallRecord) (cs : List Classified) (t : Tra
         where
           by : (o : Option (ℕ × ℕ)) → first_at control_start cs ≡ o → FitAt later (control_stages o stage)
           by None e = weaker ending later stage w f
-          by (Some c) e = with-fits (λ k x. StageSays (role_of side k) (use_of k calls) later (classified_of k cs) x) stage c.0 (ControlBody c.1)
+          by (Some c) e = with-fits (λ k x. StageSays (role_of side k) (did k) later (classified_of k cs) x) stage c.0 (ControlBody c.1)
               (λ k ne. weaker ending later stage w f k)
-              (control-says (role_of side c.0) (classified_of c.0 cs) (use_of c.0 calls) later c.1 (sym (verdict-found c.0 cs) ∙ control-found c.0 c.1 cs once e))
+              (control-says (role_of side c.0) (classified_of c.0 cs) (did c.0) later c.1 (sym (verdict-found c.0 cs) ∙ control-found c.0 c.1 cs once e))
 
       module _ (d : CallView) (sent : ControlSent) (open_ : Bool) (here : d.session ≡ session) (p : Progress) (stage : ℕ → Stage) (f : FitAt p.ending stage) where
         -- what is known after the check of the datagrams
@@ -166,8 +165,8 @@ module _ (side : Side) (calls : List CallRecord) (cs : List Classified) (t : Tra
         last-fits = weaker fourth.ending _ _ (λ g. went-on (check_qpack t (first_at encoder_start cs)) fourth (went-on (check_qpack t (first_at decoder_start cs)) fifth g)) fourth-fits
 
 -- all checks
-pub checks-fit : (side : Side) (calls : List CallRecord) (t : TransportView) (d : CallView) (sent : ControlSent) (open_ : Bool) (table : StreamTable) (stage : ℕ → Stage) → IsOwn side table.classified → IsOnce table.classified
-    → ((k : ℕ) → (use_of k calls).session ≡ d.session)
+pub checks-fit : (side : Side) (did : ℕ → CallUse) (t : TransportView) (d : CallView) (sent : ControlSent) (open_ : Bool) (table : StreamTable) (stage : ℕ → Stage) → IsOwn side table.classified → IsOnce table.classified
+    → ((k : ℕ) → (did k).session ≡ d.session)
     → ((s : ℕ × ℕ) → d.session ≡ Some s → session_at side (role_of side s.0) (classified_of s.0 table.classified) s.1 ≡ Some s.1)
-    → TableFits side calls table stage → TableFits side calls (checked t d table) (check_stages t (state_by t d sent open_ table) stage)
-checks-fit side calls t d sent open_ table stage own once kept placed f = last-fits side calls table.classified t own d.session kept placed once d sent open_ refl table.progress stage f
+    → TableFits side did table stage → TableFits side did (checked t d table) (check_stages t (state_by t d sent open_ table) stage)
+checks-fit side did t d sent open_ table stage own once kept placed f = last-fits side did table.classified t own d.session kept placed once d sent open_ refl table.progress stage f

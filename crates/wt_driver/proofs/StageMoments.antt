@@ -5,8 +5,8 @@ use Rattle.wt_driver.proofs.StageChecks.{checks-fit}
 use Rattle.wt_driver.proofs.StageEntries.{IsOwn, called-fits}
 use Rattle.wt_driver.proofs.StageScans.{AreOf, scan-fits}
 use Rattle.wt_driver.proofs.StageTables.{is-own, session-is, use-session}
-use Rattle.wt_driver.specs.Stages.{StageSays, StagesFit, TableFits, bi_stages, check_stages, entry_stages, moment_stages, scanned_stages, uni_stages}
-use Rattle.wt_driver_spec.specs.Uses.{ForRequest, MayUseBy, OfLocalBi, OfLocalUni, OfPeerBi, OfPeerUni, StreamRole, no_use, Uses, role_of, session_at, classified_of, use_of}
+use Rattle.wt_driver.specs.Stages.{StageSays, StagesFit, TableFits, bi_stages, check_stages, entry_stages, moment_stages, scanned_stages, stream_use, uni_stages}
+use Rattle.wt_driver_spec.specs.Uses.{CallUse, ForRequest, MayUseBy, OfLocalBi, OfLocalUni, OfPeerBi, OfPeerUni, StreamRole, no_use, Uses, role_of, session_at, classified_of}
 use Rattle.wt_dispatch.specs.declared.slot.Half.TheVariants.{Bi, Uni}
 use Rattle.wt_driver_spec.proofs.Following.{Sound, before_scan, open-more, sound, taken-in, untouched-entry}
 use Rattle.wt_driver_spec.proofs.ScanSlots.{Untouched, scan-later, scan-same, scan-slots, slots-same, untouched-later}
@@ -20,7 +20,7 @@ use Rattle.wt_seam_spec.specs.Streams.{peer_bi, peer_uni}
 use Rattle.wt_spec.specs.Driver.{ControlSent, apply_if, call_view, control_sent, established, flush, is_moment, log_and_flush, pending_actions, stream_table, transport_view}
 use Rattle.wt_spec.specs.Scan.{bi_ids, bi_rule, scan_bis, scan_order, scan_unis, stream_ids, uni_ids, uni_rule, without_stops}
 use Rattle.wt_spec.specs.StreamTable.{CallView, StreamTable, TransportView}
-use Rattle.wt_turn.specs.Log.{CallRecord, Called, Entry, Event, Log, ReportedLate, Sent, calls_of, is_open, with_actions}
+use Rattle.wt_turn.specs.Log.{Called, Entry, Event, Log, ReportedLate, Sent, calls_of, is_open, with_actions}
 use Rattle.wt_turn.specs.declared.action.Action.{Action}
 use Rattle.wt_wire.specs.declared.side.Side.{Side}
 use Rattle.wt_wire.specs.declared.side.Side.TheVariants.{Client, Server}
@@ -45,7 +45,7 @@ bis-of side n (suc count) = (bi-role side (4 * n + peer_bi side) (let low = bi-l
 
 -- ---- the scan of a moment
 
-module _ (t : TransportView) (d : CallView) (sent : ControlSent) (open_ : Bool) (calls : List CallRecord) (s : StreamTable) (un : Untouched (is_local t.side) d s) where
+module _ (t : TransportView) (d : CallView) (sent : ControlSent) (open_ : Bool) (did : ℕ → CallUse) (s : StreamTable) (un : Untouched (is_local t.side) d s) where
   -- the tables after each part of the scan
   abbrev pub begun : StreamTable
   begun = without_stops s
@@ -82,28 +82,28 @@ module _ (t : TransportView) (d : CallView) (sent : ControlSent) (open_ : Bool) 
       slots-same d unis bis (uni_ids t) (λ j e. scan-same t.ready d (bi_rule t) j (bi_ids t) (record { occupied = 0; table = unis }) ((apart-ids t).bi_misses j e)) in
       ap (with_scanned_bis (kept unis)) gone ∙ ap (λ (ls : List Slot). record (kept bis) { unis = ls }) (sym others)
 
-  module _ (stage : ℕ → Stage) (f : TableFits t.side calls s stage) where
-    pub unis-fit : TableFits t.side calls unis (uni_stages t (kept begun) stage)
-    unis-fit = scan-fits t.side calls t.ready Uni t d (is_local t.side) (uni_ids t) (record { occupied = 0; table = begun }) stage (apart-ids t).unis (apart-ids t).uni_peers (unis-of t.side 0 t.unis) untouched-begun f
+  module _ (stage : ℕ → Stage) (f : TableFits t.side did s stage) where
+    pub unis-fit : TableFits t.side did unis (uni_stages t (kept begun) stage)
+    unis-fit = scan-fits t.side did t.ready Uni t d (is_local t.side) (uni_ids t) (record { occupied = 0; table = begun }) stage (apart-ids t).unis (apart-ids t).uni_peers (unis-of t.side 0 t.unis) untouched-begun f
 
-    pub bis-fit : TableFits t.side calls bis (bi_stages t (kept unis) (uni_stages t (kept begun) stage))
-    bis-fit = scan-fits t.side calls t.ready Bi t d (is_local t.side) (bi_ids t) (record { occupied = 0; table = unis }) (uni_stages t (kept begun) stage) (apart-ids t).bis (apart-ids t).bi_peers (bis-of t.side 0 t.bis) untouched-unis unis-fit
+    pub bis-fit : TableFits t.side did bis (bi_stages t (kept unis) (uni_stages t (kept begun) stage))
+    bis-fit = scan-fits t.side did t.ready Bi t d (is_local t.side) (bi_ids t) (record { occupied = 0; table = unis }) (uni_stages t (kept begun) stage) (apart-ids t).bis (apart-ids t).bi_peers (bis-of t.side 0 t.bis) untouched-unis unis-fit
 
-    pub scanned-fits : IsOwn t.side bis.classified → IsOnce bis.classified → ((k : ℕ) → (use_of k calls).session ≡ d.session)
+    pub scanned-fits : IsOwn t.side bis.classified → IsOnce bis.classified → ((k : ℕ) → (did k).session ≡ d.session)
         → ((x : ℕ × ℕ) → d.session ≡ Some x → session_at t.side (role_of t.side x.0) (classified_of x.0 bis.classified) x.1 ≡ Some x.1)
-        → TableFits t.side calls (scan_order t d s) (scanned_stages t (kept s) stage)
+        → TableFits t.side did (scan_order t d s) (scanned_stages t (kept s) stage)
     scanned-fits own once same placed =
-        let last = checks-fit t.side calls t d sent open_ bis (bi_stages t (kept unis) (uni_stages t (kept begun) stage)) own once same placed bis-fit in
+        let last = checks-fit t.side did t d sent open_ bis (bi_stages t (kept unis) (uni_stages t (kept begun) stage)) own once same placed bis-fit in
         let back : check_stages t (kept bis) (bi_stages t (kept unis) (uni_stages t (kept begun) stage)) ≡ scanned_stages t (kept s) stage =
         ap (λ (x : DriverState). check_stages t x (bi_stages t (kept unis) (uni_stages t (kept begun) stage))) (sym after-bis)
         ∙ ap (λ (x : DriverState). check_stages t (scan_bi_slots t x) (bi_stages t x (uni_stages t (kept begun) stage))) (sym after-unis) in
-        subst (TableFits t.side calls (scan_order t d s)) back last
+        subst (TableFits t.side did (scan_order t d s)) back last
 
 -- ---- each entry
 
 -- an entry leaves what is known of the calls to a stream, and its stages fit the table before its scan
 pub entry-fits : (side : Side) (log : Log) (stage : ℕ → Stage) (m : Entry) → IsOwn side (stream_table side log).classified → MayUseBy side log m → StagesFit side log stage
-    → TableFits side (calls_of (m ∷ log)) (stream_table side log) (entry_stages side m stage)
+    → TableFits side (stream_use side (m ∷ log)) (stream_table side log) (entry_stages side log m stage)
 entry-fits side log stage (Called r) own may f = called-fits side log stage r own may f
 entry-fits side log stage _ own may f = f
 
@@ -113,12 +113,12 @@ scanned-where : (b : Bool) (side : Side) (log : Log) (m : Entry) (stage : ℕ �
     → IsOnce (apply_if b (scan_order (transport_view side (m ∷ log)) (call_view (m ∷ log))) (stream_table side log)).classified
     → ((x : ℕ × ℕ) → established (calls_of (m ∷ log)) ≡ Some x
     → session_at side (role_of side x.0) (classified_of x.0 (apply_if b (scan_order (transport_view side (m ∷ log)) (call_view (m ∷ log))) (stream_table side log)).classified) x.1 ≡ Some x.1)
-    → TableFits side (calls_of (m ∷ log)) (stream_table side log) stage
-    → TableFits side (calls_of (m ∷ log)) (apply_if b (scan_order (transport_view side (m ∷ log)) (call_view (m ∷ log))) (stream_table side log))
+    → TableFits side (stream_use side (m ∷ log)) (stream_table side log) stage
+    → TableFits side (stream_use side (m ∷ log)) (apply_if b (scan_order (transport_view side (m ∷ log)) (call_view (m ∷ log))) (stream_table side log))
     (apply_if b (scanned_stages (transport_view side (m ∷ log)) (before_scan side log m)) stage)
 scanned-where false side log m stage un own once placed f = f
 scanned-where true side log m stage un own once placed f =
-    scanned-fits (transport_view side (m ∷ log)) (call_view (m ∷ log)) (control_sent side (m ∷ log)) (is_open (m ∷ log)) (calls_of (m ∷ log)) (stream_table side log) un stage f own once (λ k. use-session k (calls_of (m ∷ log))) placed
+    scanned-fits (transport_view side (m ∷ log)) (call_view (m ∷ log)) (control_sent side (m ∷ log)) (is_open (m ∷ log)) (stream_use side (m ∷ log)) (stream_table side log) un stage f own once (λ k. use-session k (calls_of (m ∷ log))) placed
 
 -- the state as the scan begins, by the entry before it
 pub same-stages : (side : Side) (log : Log) (m : Entry) (stage : ℕ → Stage) → MayFollow side log m → Sound side log
@@ -128,7 +128,7 @@ unfolding state_of
 same-stages side log m stage may s = λ i. apply_if (is_moment m && open-more m log i) (scanned_stages (transport_view side (m ∷ log)) (taken-in side log m may s i)) stage
 
 -- where the stages fit behind the entry, they do behind its scan
-pub scan-staged : (side : Side) (log : Log) (m : Entry) (stage : ℕ → Stage) → MayFollow side log m → MayUseBy side log m → Fits side log → Uses side log → TableFits side (calls_of (m ∷ log)) (stream_table side log) stage
+pub scan-staged : (side : Side) (log : Log) (m : Entry) (stage : ℕ → Stage) → MayFollow side log m → MayUseBy side log m → Fits side log → Uses side log → TableFits side (stream_use side (m ∷ log)) (stream_table side log) stage
     → StagesFit side (m ∷ log) (apply_if (scans m (after_entry (transport_view side log) m (state_of side log))) (scanned_stages (transport_view side (m ∷ log)) (after_entry (transport_view side log) m (state_of side log))) stage)
 unfolding stream_table
 scan-staged side log m stage may can fits uses f =
@@ -138,8 +138,8 @@ scan-staged side log m stage may can fits uses f =
 
 -- each entry, with its scan, leaves each stream at a stage that fits
 pub entry-staged : (side : Side) (log : Log) (m : Entry) (stage : ℕ → Stage) → MayFollow side log m → MayUseBy side log m → Fits side log → Uses side log → StagesFit side log stage
-    → StagesFit side (m ∷ log) (moment_stages (transport_view side log) (transport_view side (m ∷ log)) m (state_of side log) stage)
-entry-staged side log m stage may can fits uses f = scan-staged side log m (entry_stages side m stage) may can fits uses (entry-fits side log stage m (is-own side log fits) can f)
+    → StagesFit side (m ∷ log) (moment_stages log (transport_view side log) (transport_view side (m ∷ log)) m (state_of side log) stage)
+entry-staged side log m stage may can fits uses f = scan-staged side log m (entry_stages side log m stage) may can fits uses (entry-fits side log stage m (is-own side log fits) can f)
 
 -- ---- what goes out
 
@@ -168,9 +168,9 @@ flush-staged side log m stage f = by (is_moment m && is_open (m ∷ log))
 
 -- A whole moment leads from stages that fit to stages that fit.
 pub moment-staged : (side : Side) (log : Log) (m : Entry) (stage : ℕ → Stage) → MayFollow side log m → MayUseBy side log m → Fits side log → Uses side log → StagesFit side log stage
-    → StagesFit side (log_and_flush side log m) (moment_stages (transport_view side log) (transport_view side (m ∷ log)) m (state_of side log) stage)
+    → StagesFit side (log_and_flush side log m) (moment_stages log (transport_view side log) (transport_view side (m ∷ log)) m (state_of side log) stage)
 moment-staged side log m stage may can fits uses f =
-    flush-staged side log m (moment_stages (transport_view side log) (transport_view side (m ∷ log)) m (state_of side log) stage) (entry-staged side log m stage may can fits uses f)
+    flush-staged side log m (moment_stages log (transport_view side log) (transport_view side (m ∷ log)) m (state_of side log) stage) (entry-staged side log m stage may can fits uses f)
 
 -- ---- what may follow, behind a moment
 
@@ -189,10 +189,10 @@ moment-uses side log m may uses = by (is_moment m && is_open (m ∷ log))
 -- ---- before anything happened
 
 start-says : (role : StreamRole) → StageSays role no_use None None (all_untouched 0)
-start-says OfPeerUni = (refl, refl)
-start-says OfPeerBi = (refl, refl)
+start-says OfPeerUni = (refl, refl, refl)
+start-says OfPeerBi = (refl, refl, refl)
 start-says ForRequest = refl
-start-says OfLocalBi = λ e. refl
+start-says OfLocalBi = refl
 start-says OfLocalUni = tt
 
 -- at first nothing of any stream was read

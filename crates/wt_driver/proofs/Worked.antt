@@ -3,12 +3,13 @@ use Rattle.std.proofs.Common.{arith, ◌≡◌, ◌≤◌, ◌-◌, ℕ, suc, Bo
 use Rattle.std.specs.Prelude.{◌&&◌, ◌||◌, Option, Some, None, not}
 use Rattle.wt_driver.proofs.Flushed.{send-later}
 use Rattle.wt_driver.proofs.FlushFacts.{may_flush}
+use Rattle.wt_driver.proofs.Receives.{entry-receives}
 use Rattle.wt_driver.proofs.StageSteps.{may-scan}
 use Rattle.wt_driver.proofs.StageWork.{idle-refines, work-asks, work-datagram, work-refines}
 use Rattle.wt_driver.specs.DriverValue.{DriverValue}
 use Rattle.wt_driver.specs.Flushing.{Flushes, MayFlush}
 use Rattle.wt_driver_spec.specs.Asking.{SendFacts}
-use Rattle.wt_driver.specs.Moving.{HasDatagram, MayScan, Moves}
+use Rattle.wt_driver.specs.Moving.{CanGiveUp, HasDatagram, MayScan, Moves}
 use Rattle.wt_driver.specs.PeerSettings.{settings_scanned}
 use Rattle.wt_driver.specs.Stages.{scanned_stages}
 use Rattle.wt_driver.specs.Tie.{Follows, Refines, TakenIn, untaken_since}
@@ -151,6 +152,9 @@ module _ (side : Side) (log : Log) (m : Entry) (taken : ℕ) (d : DriverValue) (
 
     pub scan-may : MayScan u d.state in_.stage
     scan-may = may-scan u d.state in_.stage (work-asks side log m in_.stage in_.may in_.can in_.fits in_.uses in_.fit d in_.state_is in_.queue_is (counts true o))
+
+    pub scan-receives : CanGiveUp side (m ∷ log) d.state
+    scan-receives = subst (λ (s : DriverState). CanGiveUp side (m ∷ log) s) (sym in_.state_is) (entry-receives side log m in_.may in_.fits)
 
     module _ (scanned : DriverValue) (moved : Moves side (m ∷ log) (untaken_since taken (m ∷ log)) d scanned (scanned_stages u d.state in_.stage) (scan_state u d.state) (settings_scanned u d.state d.settings)) where
       -- the scan led to the state of the log with the entry

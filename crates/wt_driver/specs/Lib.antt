@@ -1,5 +1,4 @@
 pub mod Given
-pub mod Scanning
 pub mod Stages
 pub mod Moving
 pub mod Flushing

@@ -1,7 +1,7 @@
 -- What a step within a moment leaves of a driver, for a log.
 use Rattle.std.specs.Prelude.{[], ◌∷◌, ◌≡◌, List, None, Option, Some, ℕ}
 use Rattle.wt_driver.specs.DriverValue.{DriverValue}
-use Rattle.wt_driver.specs.Scanning.{AllAwait}
+use Rattle.wt_scan.specs.Scanning.{AllAwait, SlotsReceive}
 use Rattle.wt_driver.specs.Stages.{bi_stages, datagram_checked, session_stages, uni_stages, unless_ended_stage}
 use Rattle.wt_dispatch.specs.declared.slot.Half.TheVariants.{Bi, Uni}
 use Rattle.wt_driver_spec.specs.Bounds.{AreDistinct, IsBounded}
@@ -58,3 +58,8 @@ pub record MayScan (t : TransportView) (s : DriverState) (stage : ℕ → Stage)
   pub bis_distinct : AreDistinct s.bis
   pub bis_bounded : IsBounded 1 0 s.bis
   pub checks : MayCheck t (scan_bi_slots t (scan_uni_slots t (begin_scan s))) (bi_stages t (scan_uni_slots t (begin_scan s)) (uni_stages t (begin_scan s) stage))
+
+-- Each stream that has a slot can be given up: it is there, with a receiving half.
+pub record CanGiveUp (side : Side) (log : Log) (s : DriverState) : Type 0 where
+  pub unis : SlotsReceive side log s.unis
+  pub bis : SlotsReceive side log s.bis

@@ -3,7 +3,7 @@ use Rattle.std.specs.Prelude.{◌-◌, ◌≡◌, ◌≤◌, ◌∷◌, List, dr
 use Rattle.wt_driver.specs.DriverValue.{DriverValue}
 use Rattle.wt_driver.specs.PeerSettings.{KeepsSettings}
 use Rattle.wt_driver_spec.specs.Asking.{SendsWhileOpen}
-use Rattle.wt_driver.specs.Stages.{StagesFit, TableFits}
+use Rattle.wt_driver.specs.Stages.{StagesFit, TableFits, stream_use}
 use Rattle.wt_driver_spec.specs.Uses.{MayUseBy, Uses}
 use Rattle.wt_driver_spec.specs.DriverState.{state_of}
 use Rattle.wt_driver_spec.specs.Moment.{Fits, MayFollow}
@@ -49,7 +49,7 @@ pub record Follows (side : Side) (d : DriverValue) (log : Log) (taken : ℕ) : T
 pub record TakenIn (side : Side) (log : Log) (m : Entry) (d : DriverValue) (taken : ℕ) : Type 0 where
   pub stage : ℕ → Stage
   pub inbox : inboxes.Refines side d.inbox (m ∷ log) stage (untaken_since taken (m ∷ log))
-  pub fit : TableFits side (calls_of (m ∷ log)) (stream_table side log) stage
+  pub fit : TableFits side (stream_use side (m ∷ log)) (stream_table side log) stage
   pub state_is : d.state ≡ after_entry (transport_view side log) m (state_of side log)
   pub queue_is : d.queue ≡ unsettled (m ∷ log)
   pub settings : KeepsSettings side log d.settings

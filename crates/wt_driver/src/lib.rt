@@ -4,7 +4,6 @@
 #![tactic(auto)]
 
 pub mod driver;
-mod scan;
 
 pub use wt_channel::{bichannel, shared_result, utils};
 pub use wt_critical::{connect, qpack, settings};

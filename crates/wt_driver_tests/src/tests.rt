@@ -3,4 +3,6 @@ mod calls;
 mod clients;
 mod drivers;
 mod floods;
+mod harness;
 mod sessions;
+mod words;

@@ -1,8 +1,7 @@
 //! What the contracts leave open: that memory suffices where there is enough, and worked cases.
 mod configuration;
 mod fields;
-mod frames;
 mod messages;
 mod readers;
+mod shown;
 mod table;
-mod walks;

@@ -97,6 +97,6 @@ control_credit_now t = credit_now t (local_uni t.side)
 abbrev pub control_stopped_now : TransportState → Bool
 control_stopped_now t = is_some (stop_now t (local_uni t.side))
 
--- this end's SETTINGS are out, or can go out whole
+-- the connection was established, a unidirectional stream is allowed at all, and credit covers the type and the SETTINGS of this end's control stream
 abbrev pub ready_now : TransportState → Bool
 ready_now t = t.is_connected && may_open_uni_now t && not (nat_lt (control_credit_now t) (length local_control_bytes))

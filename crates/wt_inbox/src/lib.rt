@@ -2,8 +2,8 @@
 //! the control stream, sessions' streams, responses.
 //!
 //! An [`Inbox`] feeds each reader the unread bytes of its stream as it is asked, and consumes what the
-//! reader takes. What it answers doesn't depend on when it was asked before: the definitions beside it
-//! say the same of the whole log of a connection.
+//! reader takes. What it answers of a stream as one kind doesn't depend on when it was asked that
+//! before: the definitions beside it say the same of the whole log of a connection.
 #![tactic(auto)]
 
 mod copies;

@@ -16,7 +16,7 @@ use Rattle.wt_turn.specs.Log.{Acked, BytesRead, Connected, Datagram, DatagramLim
 use Rattle.wt_turn.specs.declared.action.Action.{Action}
 use Rattle.wt_turn.specs.declared.call.Call.{Call}
 use Rattle.wt_turn.specs.declared.datagram_fact.DatagramFact.{DatagramFact}
-use Rattle.wt_turn.specs.declared.reply.Reply.{Reply}
+use Rattle.wt_reply.specs.declared.reply.Reply.{Reply}
 use Rattle.wt_error.specs.declared.stream_error.StreamWriteError.{StreamWriteError}
 use Rattle.wt_turn.specs.declared.turn.Turn.{Turn}
 use Rattle.wt_wire.specs.Ids.{is_bidirectional}
@@ -43,7 +43,7 @@ use Rattle.wt_error.specs.declared.stream_error.StreamReadExactError.TheVariants
 use Rattle.wt_turn.specs.declared.datagram_fact.DatagramFact.TheVariants as facts
 use Rattle.wt_error.specs.declared.stream_error.StreamOpeningError.TheVariants as openings
 use Rattle.wt_error.specs.declared.stream_error.StreamReadError.TheVariants as reads
-use Rattle.wt_turn.specs.declared.reply.Reply.TheVariants as replies
+use Rattle.wt_reply.specs.declared.reply.Reply.TheVariants as replies
 use Rattle.wt_turn.specs.declared.turn.Turn.TheVariants as turns
 use Rattle.wt_error.specs.declared.stream_error.StreamWriteError.TheVariants as writes
 

@@ -17,7 +17,7 @@ use Rattle.wt_message.specs.Settings.{pairs_from, with_pair}
 use Rattle.wt_proto.specs.Uni.{uni_verdict_of}
 use Rattle.wt_turn.specs.declared.action.Action.{Action}
 use Rattle.wt_turn.specs.declared.answer.Answer.{Answer}
-use Rattle.wt_turn.specs.declared.reply.Reply.{Reply}
+use Rattle.wt_reply.specs.declared.reply.Reply.{Reply}
 use Rattle.wt_turn.specs.declared.turn.Turn.{Turn}
 use Rattle.wt_wire.specs.FieldSection.{line_at, lines_from, string_at}
 use Rattle.wt_wire.specs.Frames.{frame_at}
@@ -48,7 +48,7 @@ use Rattle.wt_error.specs.declared.stream_error.StreamOpeningError.TheVariants a
 use Rattle.wt_wire.specs.declared.lookup.ConnectOutcome.TheVariants as outcomes
 use Rattle.wt_error.specs.declared.stream_error.StreamReadError.TheVariants as reads
 use Rattle.wt_error.specs.declared.connecting_error.UrlRefusal.TheVariants as refusals
-use Rattle.wt_turn.specs.declared.reply.Reply.TheVariants as replies
+use Rattle.wt_reply.specs.declared.reply.Reply.TheVariants as replies
 use Rattle.wt_turn.specs.declared.turn.Turn.TheVariants as turns
 use Rattle.wt_error.specs.declared.stream_error.StreamWriteError.TheVariants as writes
 

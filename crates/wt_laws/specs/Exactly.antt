@@ -14,7 +14,7 @@ use Rattle.wt_seam_spec.specs.Streams.{contents, local_bi, local_count, local_un
 use Rattle.wt_turn.specs.Log.{Log, actions_of, all_events_of, calls_of, events_of, is_open}
 use Rattle.wt_turn.specs.declared.call.Call.{Call}
 use Rattle.wt_error.specs.declared.connecting_error.ConnectingError.{ConnectingError}
-use Rattle.wt_turn.specs.declared.reply.Reply.{Reply}
+use Rattle.wt_reply.specs.declared.reply.Reply.{Reply}
 use Rattle.wt_error.specs.declared.stream_error.StreamWriteError.{StreamWriteError}
 use Rattle.wt_wire.specs.HeaderList.{Fields}
 use Rattle.wt_wire.specs.declared.addr.Addr.{Addr}
@@ -43,7 +43,7 @@ use Rattle.wt_wire.specs.declared.error.ErrorCode.TheVariants as h3
 use Rattle.wt_error.specs.declared.stream_error.StreamOpeningError.TheVariants as openings
 use Rattle.wt_error.specs.declared.stream_error.StreamReadError.TheVariants as reads
 use Rattle.wt_error.specs.declared.connecting_error.UrlRefusal.TheVariants as refusals
-use Rattle.wt_turn.specs.declared.reply.Reply.TheVariants as replies
+use Rattle.wt_reply.specs.declared.reply.Reply.TheVariants as replies
 use Rattle.wt_proto.specs.declared.response_walk.ResponseWalk.TheVariants as responses
 use Rattle.wt_turn.specs.declared.turn.Turn.TheVariants as turns
 use Rattle.wt_error.specs.declared.stream_error.StreamWriteError.TheVariants as writes

@@ -13,7 +13,7 @@ use Rattle.wt_turn.specs.Log.{Log, actions_of, calls_of, events_of, is_open, wit
 use Rattle.wt_turn.specs.declared.action.Action.{Action}
 use Rattle.wt_error.specs.declared.connecting_error.ConnectingError.{ConnectingError}
 use Rattle.wt_error.specs.declared.connection_error.ConnectionError.{ConnectionError}
-use Rattle.wt_turn.specs.declared.reply.Reply.{Reply}
+use Rattle.wt_reply.specs.declared.reply.Reply.{Reply}
 use Rattle.wt_error.specs.declared.stream_error.SendDatagramError.{SendDatagramError}
 use Rattle.wt_error.specs.declared.stream_error.StreamReadError.{StreamReadError}
 use Rattle.wt_error.specs.declared.stream_error.StreamReadExactError.{StreamReadExactError}
@@ -45,7 +45,7 @@ use Rattle.wt_wire.specs.declared.error.ErrorCode.TheVariants as h3
 use Rattle.wt_error.specs.declared.stream_error.StreamOpeningError.TheVariants as openings
 use Rattle.wt_error.specs.declared.stream_error.StreamReadError.TheVariants as reads
 use Rattle.wt_error.specs.declared.connecting_error.UrlRefusal.TheVariants as refusals
-use Rattle.wt_turn.specs.declared.reply.Reply.TheVariants as replies
+use Rattle.wt_reply.specs.declared.reply.Reply.TheVariants as replies
 use Rattle.wt_proto.specs.declared.response_walk.ResponseWalk.TheVariants as responses
 use Rattle.wt_turn.specs.declared.turn.Turn.TheVariants as turns
 use Rattle.wt_error.specs.declared.stream_error.StreamWriteError.TheVariants as writes

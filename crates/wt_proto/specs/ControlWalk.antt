@@ -33,8 +33,8 @@ abbrev pub on_skipped : Option Settings → ℕ → ℕ → Step (Option Setting
 on_skipped None size kind = if frames.is_exercise kind then faulted None MissingSettings size else Goes None size
 on_skipped (Some settings) size kind = Goes (Some settings) size
 
--- the state is the settings that came
--- DATA and HEADERS are one fault, before SETTINGS too (this repository's rule; RFC 9114 asks H3_FRAME_UNEXPECTED in sections 7.2.1 and 7.2.2, and before SETTINGS also H3_MISSING_SETTINGS in section 6.2.1)
+-- the state is the settings that came;
+-- DATA and HEADERS are one fault, before SETTINGS too (this repository's rule; RFC 9114 asks H3_FRAME_UNEXPECTED in sections 7.2.1 and 7.2.2, and before SETTINGS also H3_MISSING_SETTINGS in section 6.2.1);
 -- a signal is the same fault, 0x105 (this repository's rule; draft-ietf-webtrans-http3, section 4.3, asks H3_FRAME_ERROR)
 abbrev pub control_effect : Option Settings → ℕ → frames.Frame → Step (Option Settings) ControlWalk
 control_effect settings size (frames.Data payload) = faulted settings FrameUnexpected size

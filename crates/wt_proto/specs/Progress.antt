@@ -67,7 +67,7 @@ pub record Reading (S O : Type 0) : Type 0 where
   pub progress : Progress S O
   pub end : StreamEnd
 
--- these are the bytes that a reader took, and the end that it was told
+-- the reader stands where one does that took these bytes, from this state on, and was told this end
 abbrev pub HasRead : {S O : Type 0} → (S → List ℕ → Step S O) → S → Reading S O → List ℕ → StreamEnd → Type 0
 HasRead decide start r bytes end = r ≡ record { progress = progress_over decide start None 0 bytes; end = end }
 

@@ -25,8 +25,8 @@ abbrev pub on_capsule : ℕ → Option (List ℕ) → Step (Unit {0}) SessionWal
 on_capsule size None = Goes tt size
 on_capsule size (Some value) = Stops (closed_by (close_of value)) size
 
--- the walk has one state
--- HEADERS are skipped (this repository's rule; RFC 9114, section 4.4, asks H3_FRAME_UNEXPECTED)
+-- the walk has one state;
+-- HEADERS are skipped (this repository's rule; RFC 9114, section 4.4, asks H3_FRAME_UNEXPECTED);
 -- a signal is the fault of an unexpected frame (this repository's rule; draft-ietf-webtrans-http3, section 4.3, asks H3_FRAME_ERROR)
 abbrev pub session_effect : Unit {0} → ℕ → frames.Frame → Step (Unit {0}) SessionWalk
 session_effect state size (frames.Data payload) = on_capsule size (close_value_at payload)

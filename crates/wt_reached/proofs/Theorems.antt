@@ -36,7 +36,7 @@ use Rattle.wt_spec.specs.Handshake.{Responding, handshake_state, requested}
 use Rattle.wt_turn.specs.Log.{CallRecord, Called, Entry, Log, SessionEstablished, actions_of, calls_of, with_actions}
 use Rattle.wt_turn.specs.declared.action.Action.{Action}
 use Rattle.wt_turn.specs.declared.call.Call.{Call}
-use Rattle.wt_turn.specs.declared.reply.Reply.{Reply}
+use Rattle.wt_reply.specs.declared.reply.Reply.{Reply}
 use Rattle.wt_turn.specs.declared.turn.Turn.TheVariants as turns
 use Rattle.wt_wire.specs.declared.side.Side.{Side}
 

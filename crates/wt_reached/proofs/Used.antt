@@ -27,12 +27,12 @@ use Rattle.wt_spec.specs.StreamTable.{Classified, is_webtransport}
 use Rattle.wt_turn.specs.Log.{Acked, CallRecord, Called, Connected, Datagram, DatagramLimit, DatagramPassed, DatagramReceived, End, Entry, Event, Log, Loss, MaxBi, MaxData, MaxUni, PeerBi, PeerUni, Polled, Received, Reported, ReportedLate, Reset, Sent, SessionEstablished, Stop, StreamAccepted, StreamPassed, calls_of, events_of, is_open, with_actions}
 use Rattle.wt_turn.specs.declared.action.Action.{Action}
 use Rattle.wt_turn.specs.declared.call.Call.{Call}
-use Rattle.wt_turn.specs.declared.reply.Reply.{Reply}
+use Rattle.wt_reply.specs.declared.reply.Reply.{Reply}
 use Rattle.wt_turn.specs.declared.turn.Turn.{Turn}
 use Rattle.wt_wire.specs.Codes.{code_of}
 use Rattle.wt_wire.specs.declared.side.Side.{Side}
 use Rattle.wt_turn.specs.declared.action.Action.TheVariants as actions
-use Rattle.wt_turn.specs.declared.reply.Reply.TheVariants as replies
+use Rattle.wt_reply.specs.declared.reply.Reply.TheVariants as replies
 use Rattle.wt_turn.specs.declared.turn.Turn.TheVariants as turns
 use Rattle.wt_wire.specs.declared.error.ErrorCode.TheVariants as h3
 

@@ -22,7 +22,7 @@ ghost use Rattle.wt_spec.specs.Handshake.{Responding, handshake_state, requested
 ghost use Rattle.wt_turn.specs.Log.{CallRecord, Called, Entry, Log, SessionEstablished, actions_of, calls_of, with_actions};
 ghost use Rattle.wt_turn.specs.declared.action.Action.{Action};
 ghost use Rattle.wt_turn.specs.declared.call.Call.{Call};
-ghost use Rattle.wt_turn.specs.declared.reply.Reply.{Reply};
+ghost use Rattle.wt_reply.specs.declared.reply.Reply.{Reply};
 ghost use Rattle.wt_turn.specs.declared.turn.Turn.TheVariants as turns;
 ghost use Rattle.wt_wire.specs.declared.side.Side.{Side};
 

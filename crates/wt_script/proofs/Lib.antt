@@ -1,5 +1,4 @@
 pub mod HeaderLaws
 pub mod NumberLaws
-pub mod PrintLaws
 pub mod ScriptLaws
 pub mod UrlLaws

@@ -6,5 +6,3 @@ pub mod Events
 pub mod Calls
 pub mod Lines
 pub mod Script
-pub mod PrintErrors
-pub mod Print

@@ -39,8 +39,8 @@ use Rattle.wt_turn.specs.Log.{CallRecord, HandshakeOver, Log, Polled, calls_of, 
 use Rattle.wt_turn.specs.declared.action.Action.{Action}
 use Rattle.wt_turn.specs.declared.action.Action.TheVariants as actions
 use Rattle.wt_turn.specs.declared.call.Call.TheVariants as calls
-use Rattle.wt_turn.specs.declared.reply.Reply.{Reply}
-use Rattle.wt_turn.specs.declared.reply.Reply.TheVariants as replies
+use Rattle.wt_reply.specs.declared.reply.Reply.{Reply}
+use Rattle.wt_reply.specs.declared.reply.Reply.TheVariants as replies
 use Rattle.wt_error.specs.declared.connecting_error.ConnectingError.TheVariants as failures
 use Rattle.wt_error.specs.declared.connection_error.ConnectionError.{ConnectionError}
 use Rattle.wt_wire.specs.declared.error.OutOfMemory.{OutOfMemory}

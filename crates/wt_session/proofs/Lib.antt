@@ -1,13 +1,8 @@
-pub mod Told
-pub mod Sending
-pub mod Receiving
-pub mod Sessions
 pub mod Over
 pub mod Beginning
 pub mod Delivering
 pub mod Responding
 pub mod Connects
-pub mod Leaves
-pub mod Stays
+pub mod Waits
 pub mod Outlasts
-pub mod Gives
+pub mod LetGo

@@ -14,7 +14,7 @@ use Rattle.wt_plan.specs.Tells.{KeepsRequestEnd}
 use Rattle.wt_session.specs.Connecting.{Connect, IsConnecting}
 use Rattle.wt_session.specs.Incoming.{IsUnanswered, Request}
 use Rattle.wt_session.specs.Responding.{IsResponse, Response}
-use Rattle.wt_session.specs.Staying.{is_past_handshake}
+use Rattle.wt_connection.specs.Staying.{is_past_handshake}
 use Rattle.wt_session_spec.specs.SessionState.{is_answering}
 use Rattle.wt_spec.specs.Answers.{call_effect, is_client, is_first, may_call}
 use Rattle.wt_spec.specs.Handshake.{awaits_request, handshake_state, requested}

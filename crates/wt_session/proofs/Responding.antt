@@ -3,7 +3,7 @@ use Rattle.std.specs.Prelude.{[], ◌&&◌, ◌∷◌, ◌≡◌, Bool, IfOk, Li
 use Rattle.std.proofs.Common.{◌∙◌, ap, refl, subst, sym}
 use Rattle.wt_session.specs.Incoming.{IsUnanswered, Request, unbegun}
 use Rattle.wt_session.specs.Responding.{IsCallOf, IsPollOf, IsResponse, IsResponseReply, Response, StandsWith, response_state, waiting_record}
-use Rattle.wt_session.specs.Standing.{IsEstablished}
+use Rattle.wt_connection.specs.Standing.{IsEstablished}
 use Rattle.wt_driver.specs.DriverValue.{DriverValue}
 use Rattle.wt_driver.specs.Tie.{Follows, untaken_since}
 use Rattle.wt_laws.proofs.SessionLaws.{has_request}
@@ -36,8 +36,8 @@ use Rattle.wt_turn.specs.Log.{CallRecord, HandshakeOver, Log, Polled, ResponseSt
 use Rattle.wt_turn.specs.declared.action.Action.{Action}
 use Rattle.wt_turn.specs.declared.call.Call.{Call}
 use Rattle.wt_turn.specs.declared.call.Call.TheVariants as calls
-use Rattle.wt_turn.specs.declared.reply.Reply.{Reply}
-use Rattle.wt_turn.specs.declared.reply.Reply.TheVariants as replies
+use Rattle.wt_reply.specs.declared.reply.Reply.{Reply}
+use Rattle.wt_reply.specs.declared.reply.Reply.TheVariants as replies
 use Rattle.wt_wire.specs.declared.error.OutOfMemory.{OutOfMemory}
 use Rattle.wt_wire.specs.declared.side.Side.{Side}
 

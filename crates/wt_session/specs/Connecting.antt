@@ -1,13 +1,13 @@
 -- A client's connect as it goes on (RFC 9220, section 3), and what its calls reply.
 use Rattle.std.specs.Prelude.{◌≡◌, Err, List, Ok, Option, Result, ℕ}
-use Rattle.wt_session.specs.Standing.{IsEstablished}
+use Rattle.wt_connection.specs.Standing.{IsEstablished}
 use Rattle.wt_spec.specs.Handshake as handshake
 use Rattle.wt_turn.specs.Log.{Log, calls_of}
 use Rattle.wt_error.specs.declared.connecting_error.ConnectingError.{ConnectingError}
 use Rattle.wt_turn.specs.declared.poll.Poll.{Poll}
 use Rattle.wt_turn.specs.declared.poll.Poll.TheVariants.{Pending, Ready}
-use Rattle.wt_turn.specs.declared.reply.Reply.{Reply}
-use Rattle.wt_turn.specs.declared.reply.Reply.TheVariants as replies
+use Rattle.wt_reply.specs.declared.reply.Reply.{Reply}
+use Rattle.wt_reply.specs.declared.reply.Reply.TheVariants as replies
 
 -- a connect: the first name of a field that only the session layer sets, and the frame of its request
 pub record Connect : Type 0 where

@@ -1,10 +1,3 @@
 pub mod Connecting
-pub mod Datagrams
-pub mod Halves
 pub mod Incoming
-pub mod Lending
-pub mod Openings
-pub mod Replies
 pub mod Responding
-pub mod Standing
-pub mod Staying

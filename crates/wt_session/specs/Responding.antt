@@ -1,6 +1,6 @@
 -- The response to a request as it goes on (RFC 9220, section 3; RFC 9114, section 4.1), and what a poll of it replies.
 use Rattle.std.specs.Prelude.{◌≡◌, Bool, Err, List, Ok, Result, codes, false, true, ℕ}
-use Rattle.wt_session.specs.Standing.{IsEstablished}
+use Rattle.wt_connection.specs.Standing.{IsEstablished}
 use Rattle.wt_message.specs.FixedBytes.{response_bytes}
 use Rattle.wt_plan.specs.Tells.{KeepsRequestEnd}
 use Rattle.wt_spec.specs.Handshake.{HandshakeState, Requested, Responding, handshake_state, requested, response_head}
@@ -10,8 +10,8 @@ use Rattle.wt_turn.specs.declared.call.Call.TheVariants as calls
 use Rattle.wt_error.specs.declared.connection_error.ConnectionError.{ConnectionError}
 use Rattle.wt_turn.specs.declared.poll.Poll.{Poll}
 use Rattle.wt_turn.specs.declared.poll.Poll.TheVariants.{Pending, Ready}
-use Rattle.wt_turn.specs.declared.reply.Reply.{Reply}
-use Rattle.wt_turn.specs.declared.reply.Reply.TheVariants as replies
+use Rattle.wt_reply.specs.declared.reply.Reply.{Reply}
+use Rattle.wt_reply.specs.declared.reply.Reply.TheVariants as replies
 use Rattle.wt_wire.specs.declared.side.Side.{Side}
 
 -- ---- a response

@@ -8,10 +8,10 @@ ghost use Rattle.wt_turn.specs.Log.{Log};
 ghost use Rattle.wt_turn.specs.declared.call.Call.{Call};
 ghost use Rattle.wt_wire.specs.declared.side.Side.{Side};
 
-use crate::connection::Connection;
 use crate::response::Response;
 use std::alloc::Global;
 use std::marker::Model;
+use wt_connection::connection::Connection;
 use wt_driver::driver::Driver;
 use wt_turn::connection_error::ConnectionError;
 use wt_turn::poll::Poll;

@@ -21,8 +21,6 @@ ghost use Rattle.wt_turn.specs.declared.action.Action.TheVariants as actions;
 ghost use Rattle.wt_turn.specs.declared.call.Call.TheVariants as calls;
 ghost use Rattle.wt_wire.specs.declared.side.Side.{Side};
 
-use crate::calling::perform;
-use crate::connection::Connection;
 use std::alloc::Global;
 use std::marker::Model;
 use wt_calls::acting::step;
@@ -31,7 +29,9 @@ use wt_calls::plans::facts::driver_error;
 use wt_calls::plans::handshake::connect;
 use wt_connect::connect_request::{request_head, reserved_name};
 use wt_connect::connect_target::{ConnectTarget, connect_target};
+use wt_connection::connection::Connection;
 use wt_driver::driver::Driver;
+use wt_halves::calling::perform;
 use wt_plan::plan::{Plan, one};
 use wt_proto::response_walk::ResponseWalk;
 use wt_turn::action::Action;

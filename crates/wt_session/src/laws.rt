@@ -1,18 +1,22 @@
 //! What stands for a log stands for the logs behind it, so that calls can come one after another: functions
 //! with empty bodies, whose contracts are the laws.
 ghost use Rattle.std.specs.Prelude.{◌≡◌, [], Bool, false, true, ℕ};
+ghost use Rattle.wt_driver.specs.DriverValue.{DriverValue};
+ghost use Rattle.wt_driver.specs.Tie.{Follows};
+ghost use Rattle.wt_driver_spec.specs.Uses.{use_of};
 ghost use Rattle.wt_laws.specs.Causes.{polls_opening};
 ghost use Rattle.wt_laws.specs.Reachable.{IsReachable};
+ghost use Rattle.wt_seam.specs.Step.{unread_now};
 ghost use Rattle.wt_spec.specs.Turns.{is_call};
 ghost use Rattle.wt_session.specs.Connecting.{Connect, IsConnecting};
 ghost use Rattle.wt_session.specs.Incoming.{IsUnanswered, Request};
-ghost use Rattle.wt_session.specs.Openings.{IsOpening, OpeningStream};
+ghost use Rattle.wt_connection.specs.Openings.{IsOpening, OpeningStream};
 ghost use Rattle.wt_session.specs.Responding.{IsResponse, Response};
-ghost use Rattle.wt_session.specs.Standing.{IsEstablished};
-ghost use Rattle.wt_session.specs.Staying.{gives_half_up, is_past_handshake};
+ghost use Rattle.wt_connection.specs.Standing.{IsEstablished};
+ghost use Rattle.wt_connection.specs.Staying.{gives_half_up, is_past_handshake};
 ghost use Rattle.wt_spec.specs.Answers.{call_effect, is_lawful, log_after, may_call};
 ghost use Rattle.wt_spec.specs.Halves.{has_receiving_half, has_sending_half};
-ghost use Rattle.wt_turn.specs.Log.{Log};
+ghost use Rattle.wt_turn.specs.Log.{Log, calls_of};
 ghost use Rattle.wt_turn.specs.declared.call.Call.{Call};
 ghost use Rattle.wt_turn.specs.declared.call.Call.TheVariants as calls;
 ghost use Rattle.wt_turn.specs.declared.turn.Turn.{Turn};
@@ -54,4 +58,9 @@ pub fn handshakes_outlast_calls()
     ensures request { (side : Side) (log : Log) (call : Call) (request : Request) → IsReachable side log → may_call side log call ≡ true → is_past_handshake call ≡ true → IsUnanswered side log request → IsUnanswered side (call_effect side log call).log request }
     ensures response { (side : Side) (log : Log) (call : Call) (accepts : Bool) (response : Response) → IsReachable side log → may_call side log call ≡ true → is_past_handshake call ≡ true → IsResponse side log accepts response → IsResponse side (call_effect side log call).log accepts response }
     ensures connect { (side : Side) (log : Log) (call : Call) (connect : Connect) → may_call side log call ≡ true → is_past_handshake call ≡ true → IsConnecting log connect → IsConnecting (call_effect side log call).log connect }
+{}
+
+/// After lawful turns a driver holds no byte of a stream that a call passed or gave up.
+pub fn dropped_streams_are_let_go()
+    ensures { (side : Side) (d : DriverValue) (log : Log) (taken k : ℕ) → IsReachable side log → Follows side d log taken → (use_of k (calls_of log)).is_dropped ≡ true → unread_now d.inbox.transport k ≡ [] }
 {}

@@ -14,10 +14,10 @@ ghost use Rattle.wt_turn.specs.Records.{record_of};
 ghost use Rattle.wt_turn.specs.declared.call.Call.{Call};
 ghost use Rattle.wt_wire.specs.declared.side.Side.{Side};
 
-use crate::calling::perform;
 use std::alloc::Global;
 use std::marker::Model;
 use wt_driver::driver::Driver;
+use wt_halves::calling::perform;
 use wt_plan::handshake_plans;
 use wt_plan::plan::Plan;
 use wt_turn::piece::Piece;

@@ -61,7 +61,7 @@ use Rattle.wt_session_spec.specs.SessionState.{session_state}
 use Rattle.wt_spec.specs.Handshake.{Connecting, HandshakeState, Responding, awaits_answer, handshake_state, has_success, requested, response_head}
 use Rattle.wt_error.specs.declared.connecting_error.ConnectingError.TheVariants as connects
 use Rattle.wt_streams.specs.HalfRules.{is_closed}
-use Rattle.wt_turn.specs.declared.reply.Reply.TheVariants as replies
+use Rattle.wt_reply.specs.declared.reply.Reply.TheVariants as replies
 use Rattle.wt_spec.specs.Effect.{is_empty}
 use Rattle.wt_turn.specs.Log.{CallRecord, Log, Polled, ResetUnsent, Sent, actions_of, all_events_of, calls_of, events_of, is_open, with_actions}
 use Rattle.wt_turn.specs.declared.action.Action.{Action}

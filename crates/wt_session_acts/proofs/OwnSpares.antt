@@ -48,7 +48,7 @@ use Rattle.wt_turn.specs.declared.datagram_fact.DatagramFact.{DatagramFact}
 use Rattle.wt_turn.specs.declared.datagram_fact.DatagramFact.TheVariants as facts
 use Rattle.wt_turn.specs.declared.poll.Poll.{Poll}
 use Rattle.wt_turn.specs.declared.poll.Poll.TheVariants.{Pending, Ready}
-use Rattle.wt_turn.specs.declared.reply.Reply.TheVariants as replies
+use Rattle.wt_reply.specs.declared.reply.Reply.TheVariants as replies
 use Rattle.wt_error.specs.declared.stream_error.SendDatagramError.TheVariants as datagrams
 use Rattle.wt_error.specs.declared.stream_error.StreamReadExactError.{StreamReadExactError}
 use Rattle.wt_error.specs.declared.stream_error.StreamReadExactError.TheVariants as exacts

@@ -20,7 +20,7 @@ use Rattle.wt_session_spec.specs.HalfPlans.{bytes_out, exact_plan, finish_plan, 
 use Rattle.wt_session_spec.specs.HalfPlans as plans
 use Rattle.wt_session_spec.specs.Plan.{Step, perform, send_and_reply}
 use Rattle.wt_wire.specs.declared.side.StreamEnd.TheVariants as ends
-use Rattle.wt_turn.specs.declared.reply.Reply.TheVariants as replies
+use Rattle.wt_reply.specs.declared.reply.Reply.TheVariants as replies
 use Rattle.wt_error.specs.declared.stream_error.StreamReadError.TheVariants as reads
 use Rattle.wt_error.specs.declared.stream_error.StreamReadExactError.TheVariants as exacts
 use Rattle.wt_error.specs.declared.stream_error.StreamWriteError.TheVariants as writes

@@ -33,7 +33,7 @@ use Rattle.wt_session_spec.specs.HandshakePlans.{awaited, continued_by, continue
 use Rattle.wt_session_spec.specs.Plan.{Plan, only_reply, perform}
 use Rattle.wt_session_spec.specs.SessionState.{session_state}
 use Rattle.wt_turn.specs.declared.action.Action.TheVariants as actions
-use Rattle.wt_turn.specs.declared.reply.Reply.TheVariants as replies
+use Rattle.wt_reply.specs.declared.reply.Reply.TheVariants as replies
 use Rattle.wt_proto.specs.declared.response_walk.ResponseWalk.TheVariants as responses
 
 -- credit covers the bytes exactly where there are no more of them

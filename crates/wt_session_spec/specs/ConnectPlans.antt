@@ -15,7 +15,7 @@ use Rattle.wt_session_spec.specs.Plan.{Plan, Step}
 use Rattle.wt_turn.specs.declared.action.Action.TheVariants as actions
 use Rattle.wt_error.specs.declared.connecting_error.ConnectingError.TheVariants as connects
 use Rattle.wt_error.specs.declared.connecting_error.UrlRefusal.TheVariants as refusals
-use Rattle.wt_turn.specs.declared.reply.Reply.TheVariants as replies
+use Rattle.wt_reply.specs.declared.reply.Reply.TheVariants as replies
 
 -- the transport is asked for a connection to this address, with this server name
 abbrev pub dialling : List ℕ → List ℕ → List ℕ → Fields → Addr → Plan

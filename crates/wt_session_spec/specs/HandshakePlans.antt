@@ -20,7 +20,7 @@ use Rattle.wt_turn.specs.declared.action.Action.TheVariants as actions
 use Rattle.wt_error.specs.declared.connecting_error.ConnectingError.TheVariants as connects
 use Rattle.wt_error.specs.declared.connection_error.ConnectionError.TheVariants as errors
 use Rattle.wt_wire.specs.declared.error.ErrorCode.TheVariants as h3
-use Rattle.wt_turn.specs.declared.reply.Reply.TheVariants as replies
+use Rattle.wt_reply.specs.declared.reply.Reply.TheVariants as replies
 use Rattle.wt_proto.specs.declared.response_walk.ResponseWalk.TheVariants as responses
 
 -- ---- a stream's head, which goes out as credit lets it

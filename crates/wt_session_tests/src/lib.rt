@@ -1,4 +1,4 @@
-//! Tests of the public types and of the core. There are tests here and no code.
+//! Tests of the public types. There are tests here and no code.
 #![tactic(auto)]
 
 #[cfg(test)]

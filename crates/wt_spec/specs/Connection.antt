@@ -11,7 +11,7 @@ use Rattle.wt_seam_spec.specs.Reports.{datagram_fact, datagrams_of}
 use Rattle.wt_seam_spec.specs.Streams.{peer_count}
 use Rattle.wt_turn.specs.Log.{CallRecord, DatagramPassed, DatagramReceived, Log, OpeningFailed, OpeningStarted, StreamAccepted, StreamPassed, calls_of, events_of, is_open}
 use Rattle.wt_turn.specs.declared.datagram_fact.DatagramFact.{DatagramFact}
-use Rattle.wt_turn.specs.declared.reply.Reply.{Reply}
+use Rattle.wt_reply.specs.declared.reply.Reply.{Reply}
 use Rattle.wt_wire.specs.Codes.{code_of}
 use Rattle.wt_wire.specs.Ids.{is_bidirectional}
 use Rattle.wt_wire.specs.Varint.{varint_bytes}
@@ -25,7 +25,7 @@ use Rattle.wt_error.specs.declared.stream_error.SendDatagramError.TheVariants as
 use Rattle.wt_turn.specs.declared.datagram_fact.DatagramFact.TheVariants as facts
 use Rattle.wt_wire.specs.declared.error.ErrorCode.TheVariants as h3
 use Rattle.wt_error.specs.declared.stream_error.StreamOpeningError.TheVariants as openings
-use Rattle.wt_turn.specs.declared.reply.Reply.TheVariants as replies
+use Rattle.wt_reply.specs.declared.reply.Reply.TheVariants as replies
 use Rattle.wt_proto.specs.declared.verdict.Verdict.TheVariants as verdicts
 
 -- ---- accepting streams

@@ -15,7 +15,7 @@ use Rattle.wt_turn.specs.Log.{CallRecord, ConnectStarted, HandshakeOver, Log, Po
 use Rattle.wt_turn.specs.declared.action.Action.{Action}
 use Rattle.wt_error.specs.declared.connecting_error.ConnectingError.{ConnectingError}
 use Rattle.wt_error.specs.declared.connection_error.ConnectionError.{ConnectionError}
-use Rattle.wt_turn.specs.declared.reply.Reply.{Reply}
+use Rattle.wt_reply.specs.declared.reply.Reply.{Reply}
 use Rattle.wt_wire.specs.Codes.{code_of}
 use Rattle.wt_wire.specs.HeaderList.{Fields, with_field}
 use Rattle.wt_wire.specs.Status.{is_successful}
@@ -27,7 +27,7 @@ use Rattle.wt_turn.specs.declared.action.Action.TheVariants as actions
 use Rattle.wt_error.specs.declared.connecting_error.ConnectingError.TheVariants as connects
 use Rattle.wt_error.specs.declared.connection_error.ConnectionError.TheVariants as errors
 use Rattle.wt_wire.specs.declared.error.ErrorCode.TheVariants as h3
-use Rattle.wt_turn.specs.declared.reply.Reply.TheVariants as replies
+use Rattle.wt_reply.specs.declared.reply.Reply.TheVariants as replies
 use Rattle.wt_proto.specs.declared.response_walk.ResponseWalk.TheVariants as responses
 use Rattle.wt_proto.specs.declared.verdict.Verdict.TheVariants as verdicts
 

@@ -1,6 +1,4 @@
 //! What no clause says of errors: their texts, and that memory suffices for a copy where there is enough.
 mod copies;
-mod table;
 mod texts;
-mod turns;
 mod values;

@@ -1,11 +1,15 @@
 -- What a driver that refines a log of lawful turns tells of it, as the functions' contracts say it.
 use Rattle.std.specs.Prelude.{[], ◌∷◌, ◌≡◌, Bool, List, None, Option, Some, if◌then◌else◌, true, ℕ}
 use Rattle.std.proofs.Common.{◌∙◌, ap, refl, subst, sym}
+use Rattle.wt_driver.proofs.LetGo.{let-go-gone, unwanted-gone}
 use Rattle.wt_driver.proofs.StageAnswers.{read-staged}
 use Rattle.wt_driver.specs.DriverValue.{DriverValue}
 use Rattle.wt_dispatch.specs.Requests.{first_request, request_in}
+use Rattle.wt_driver.specs.Stages.{is_let_go, is_unwanted}
 use Rattle.wt_driver.specs.Tie.{Refines}
 use Rattle.wt_driver_spec.specs.DriverState.{DriverState, requests_now, state_of}
+use Rattle.wt_driver_spec.specs.Uses.{classified_of}
+use Rattle.wt_inbox.specs.Stage.{GivenUp, IsAt, Stage}
 use Rattle.wt_laws.specs.Reachable.{IsReachable}
 use Rattle.wt_plan.proofs.AnswersSame.{answers_same}
 use Rattle.wt_plan.proofs.ReadsSame.{inbox_tells}
@@ -14,12 +18,18 @@ use Rattle.wt_plan.specs.Tells.{AnswersLog, KeepsRequestEnd, TellsFacts, driver_
 use Rattle.wt_proto.specs.declared.response_walk.ResponseWalk.{ResponseWalk}
 use Rattle.wt_proto.specs.declared.verdict.Verdict.{Verdict}
 use Rattle.wt_proto.specs.declared.verdict.Verdict.TheVariants as verdicts
+use Rattle.wt_seam.proofs.Refining.{refined_unread}
 use Rattle.wt_seam.specs.State.{TransportState}
+use Rattle.wt_seam.specs.Step.{unread_now}
+use Rattle.wt_seam_spec.specs.Streams.{contents}
+use Rattle.wt_seam_spec.specs.Unread.{ReadPosition, from_position}
+use Rattle.wt_seam_spec.specs.Unread as positions
 use Rattle.wt_session_spec.specs.CallFacts.{facts_of}
 use Rattle.wt_session_spec.specs.Plan.{Step}
 use Rattle.wt_session_spec.specs.Plans.{plan_of}
 use Rattle.wt_session_spec.specs.SessionState.{session_state}
 use Rattle.wt_spec.specs.Answers.{call_effect, is_first, may_call}
+use Rattle.wt_spec.specs.Driver.{stream_table}
 use Rattle.wt_spec.specs.Effect.{driver_error, pending_or_failed}
 use Rattle.wt_spec.specs.Handshake.{Connecting, handshake_state, queued_requests}
 use Rattle.wt_spec.specs.StreamTable.{Classified}
@@ -27,8 +37,8 @@ use Rattle.wt_told.proofs.Theorems.{delivered_theorem}
 use Rattle.wt_turn.specs.Log.{Log, RequestDelivered, calls_of, is_open}
 use Rattle.wt_turn.specs.declared.action.Action.{Action}
 use Rattle.wt_turn.specs.declared.call.Call.{Call}
-use Rattle.wt_turn.specs.declared.reply.Reply.{Reply}
-use Rattle.wt_turn.specs.declared.reply.Reply.TheVariants as replies
+use Rattle.wt_reply.specs.declared.reply.Reply.{Reply}
+use Rattle.wt_reply.specs.declared.reply.Reply.TheVariants as replies
 use Rattle.wt_wire.specs.HeaderList.{Fields}
 use Rattle.wt_wire.specs.declared.side.Side.{Side}
 
@@ -92,3 +102,18 @@ pub told_end_theorem : (side : Side) (d : DriverValue) (log : Log) (untaken : Li
 told_end_theorem side d log untaken call own k reply id headers at r l e f =
     let t = first-told id headers at (requests_now d.state) f in
     delivered_theorem side log call own k reply t.0 t.1 headers at l e (sym (requests_theorem side d log untaken r) ∙ t.2) t.3
+
+-- ---- streams that are let go
+
+module _ (side : Side) (d : DriverValue) (log : Log) (untaken : List Action) (k : ℕ) (r : Refines side d log untaken) where
+  -- no byte of a stream that is given up is held
+  none-held : r.stage k ≡ GivenUp → unread_now d.inbox.transport k ≡ []
+  none-held e =
+      let place : r.inbox.position k ≡ positions.GivenUp = subst (λ (s : Stage). IsAt d.inbox k (contents log k) (r.inbox.position k) s) e (r.inbox.staged k) in
+      refined_unread side d.inbox.transport log r.inbox.position untaken r.inbox.transport k ∙ ap (λ (p : ReadPosition). from_position p (contents log k)) place
+
+  pub let_go_theorem : is_let_go side log k ≡ true → unread_now d.inbox.transport k ≡ []
+  let_go_theorem e = none-held (let-go-gone side log r.stage k r.fits r.uses r.staged e)
+
+  pub unwanted_theorem : is_unwanted (classified_of k (stream_table side log).classified) ≡ true → unread_now d.inbox.transport k ≡ []
+  unwanted_theorem e = none-held (unwanted-gone side log r.stage k r.staged e)

@@ -23,7 +23,7 @@ use Rattle.wt_told.specs.Delivering.{DeliversFirst, delivers_request}
 use Rattle.wt_turn.specs.Log.{CallRecord, Log, Polled, RequestDelivered, StreamAccepted, calls_of}
 use Rattle.wt_turn.specs.declared.action.Action.{Action}
 use Rattle.wt_turn.specs.declared.call.Call.{Call}
-use Rattle.wt_turn.specs.declared.reply.Reply.{Reply}
+use Rattle.wt_reply.specs.declared.reply.Reply.{Reply}
 use Rattle.wt_turn.specs.declared.turn.Turn.{Turn}
 use Rattle.wt_turn.specs.declared.turn.Turn.TheVariants as turns
 use Rattle.wt_wire.specs.HeaderList.{Fields}

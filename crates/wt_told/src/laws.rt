@@ -19,7 +19,7 @@ ghost use Rattle.wt_told.specs.Delivering.{DeliversFirst, delivers_request};
 ghost use Rattle.wt_turn.specs.Log.{CallRecord, Log, Polled, RequestDelivered, StreamAccepted, calls_of};
 ghost use Rattle.wt_turn.specs.declared.action.Action.{Action};
 ghost use Rattle.wt_turn.specs.declared.call.Call.{Call};
-ghost use Rattle.wt_turn.specs.declared.reply.Reply.{Reply};
+ghost use Rattle.wt_reply.specs.declared.reply.Reply.{Reply};
 ghost use Rattle.wt_turn.specs.declared.turn.Turn.{Turn};
 ghost use Rattle.wt_turn.specs.declared.turn.Turn.TheVariants as turns;
 ghost use Rattle.wt_wire.specs.HeaderList.{Fields};

@@ -8,7 +8,7 @@ use Rattle.wt_turn.specs.declared.turn.Turn.{Turn}
 use Rattle.wt_script.specs.Lines.{Lines}
 use Rattle.wt_script.specs.Script.{is_left_out, read_lines, turn_of, with_lines, with_turn}
 use Rattle.wt_script.specs.Words.{lines}
-use Rattle.wt_trace.specs.Command.{server_turns, with_first}
+use Rattle.wt_commands.specs.Command.{server_turns, with_first}
 
 -- these turns of this side, so far
 abbrev pub so_far : Side → List Turn → Lines

@@ -4,10 +4,10 @@ use Rattle.std.specs.Prelude.{Option, Some, None, IfSome, IsTrue, Result, Ok, Er
 use Rattle.std.specs.Io.KnownBytes.{Appends, Consumes}
 use Rattle.wt_script.specs.declared.script.Script.{Script}
 use Rattle.wt_script.specs.declared.script.ScriptRefused.{ScriptRefused}
-use Rattle.wt_trace.specs.declared.command.Command.{Command}
-use Rattle.wt_trace.specs.Command.{command_script}
+use Rattle.wt_commands.specs.declared.command.Command.{Command}
+use Rattle.wt_commands.specs.Command.{command_script}
 use Rattle.wt_trace.specs.Program.{AnswersInput, AnswersKeepLaws, is_run_status, script_limit, too_long, script_outcome}
-use Rattle.wt_trace.proofs.LawsHold.{laws}
+use Rattle.wt_run.proofs.LawsHold.{laws}
 
 of-script : (command : Command) (left_before left_now took_before took_now : Option (List ℕ)) (input : List ℕ) (b : Bool) (r : Result Script ScriptRefused) → command_script command input ≡ r
     → Consumes left_before left_now input → IsTrue (is_run_status (if b then too_long else script_outcome command r).status) → Appends took_before took_now (if b then too_long else script_outcome command r).text

@@ -1,15 +1,12 @@
-//! Traces: a list of turns in, the one answer to each out.
+//! The program: a script or a generated run in, its answers out.
 //!
-//! [`run_trace`] answers a list of turns, [`run_program`] does it for a script of them,
-//! [`generate::generate`] makes a long list by rule, and [`summary::Summary`] is what its answers come to.
+//! [`run_program`] does it, by the runs of wt_run and the commands of wt_commands, whose modules are offered again:
+//! [`run_trace`] answers a list of turns, [`generate::generate`] makes a long list by rule, and
+//! [`summary::Summary`] is what its answers come to.
 #![tactic(auto)]
 
-pub mod command;
-pub mod generate;
-pub mod outside;
 pub mod program;
-pub mod summary;
-pub mod trace;
 
 pub use program::run_program;
-pub use trace::{TraceError, run_trace};
+pub use wt_commands::{command, generate, outside, summary};
+pub use wt_run::{TraceError, run_trace, trace};

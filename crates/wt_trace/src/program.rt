@@ -3,19 +3,19 @@ ghost use Rattle.std.specs.Prelude.{◌≡◌, ◌+◌, ◌++◌, ◌<◌, ◌�
 ghost use Rattle.std.specs.Fmt.{decimal};
 ghost use Rattle.std.specs.Io.KnownBytes.{Consumes, Appends, Keeps, IsAtEnd};
 ghost use Rattle.wt_spec.specs.Answers.{run};
-ghost use Rattle.wt_trace.specs.Outside.{Rose, AppendsPart, Passes};
-ghost use Rattle.wt_script.specs.Print.{answer_line, print};
-ghost use Rattle.wt_trace.specs.Command.{command_of, command_script, server_turns, with_first};
-ghost use Rattle.wt_trace.specs.Summary.{summary_line, summary_of};
+ghost use Rattle.wt_commands.specs.Outside.{Rose, AppendsPart, Passes};
+ghost use Rattle.wt_print.specs.Print.{answer_line, print};
+ghost use Rattle.wt_commands.specs.Command.{command_of, command_script, server_turns, with_first};
+ghost use Rattle.wt_commands.specs.Summary.{summary_line, summary_of};
 ghost use Rattle.wt_trace.specs.Program.{is_cut_short, is_script_status, is_input_status, is_run_status, script_limit, usage, refused_at, stop_line, finished_text, stopped_text, run_outcome, input_outcome, asked_outcome, outcome, ReadsFew, AnswersInput, AnswersKeepLaws};
 
-use crate::command::{Command, read_command};
-use crate::generate::generate;
-use crate::outside::{Sink, Source};
-use crate::summary::{Summary, push_number};
-use crate::trace::{TraceError, run_trace};
 use std::alloc::Global;
-use wt_script::print::push_answer;
+use wt_commands::command::{Command, read_command};
+use wt_commands::generate::generate;
+use wt_commands::outside::{Sink, Source};
+use wt_commands::summary::{Summary, push_number};
+use wt_print::print::push_answer;
+use wt_run::trace::{TraceError, run_trace};
 use wt_script::script::{Script, ScriptRefused, read_more_turns, read_script};
 use wt_turn::answer::Answer;
 use wt_turn::turn::Turns;
@@ -243,7 +243,7 @@ fn answer_input<K: Sink>(
 }
 
 /// The script that a command makes of its input.
-#[tactic(auto, unfolding(crate::specs::Command::command_script))]
+#[tactic(auto, unfolding(wt_commands::specs::Command::command_script))]
 fn script_for(
     alloc: Global,
     command: Command,

@@ -76,6 +76,6 @@ since_item (polls.Ready (Ok item)) bytes = []
 since_item (polls.Ready (Err error)) bytes = bytes
 since_item polls.Pending bytes = bytes
 
--- these bytes came since the last item was handed out
+-- the reader stands where one does that took these bytes, from this state on
 abbrev pub HasBegun : {S O : Type 0} → (S → List ℕ → Step S O) → S → Progress S O → List ℕ → Type 0
 HasBegun decide s p bytes = p ≡ progress_over decide s None 0 bytes

@@ -41,7 +41,7 @@ abbrev pub after_pending : Bool → SendingHalf → Pending → Pending
 after_pending open_ half p =
     if not open_ then p else (if is_some half.stop then p else (if nat_lt half.left (length (rest p)) then record p { out = p.out + half.left } else nothing_begun))
 
--- how many of these bytes go out now: none where the write can't go on, else as many as credit covers
+-- which of these bytes go out now: none where the write can't go on, else the first ones, as many as credit covers
 abbrev pub going_out : Bool → SendingHalf → List ℕ → List ℕ
 going_out open_ half bytes = if not open_ then [] else (if is_some half.stop then [] else take half.left bytes)
 

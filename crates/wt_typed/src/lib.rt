@@ -1,4 +1,4 @@
-//! The typed streams of a connection: each upgrade is a type, so that a stream can't be misused.
+//! The typed streams of a connection: each upgrade is a type, so that its calls are those of its stage.
 #![tactic(auto)]
 
 pub mod accepted;

@@ -141,14 +141,15 @@ impl Stream<Pair, Session> {
         can_write(self.halves.0.id, t)
     }
 
-    /// Whether a write of this frame may begin or go on: none is half written, or the same one.
+    /// Whether a write of this frame may begin or go on: none was begun that isn't through, or the
+    /// same one.
     pub fn continues(&self, frame: &Frame) -> Result<bool, OutOfMemory>
         ensures { IfOk result (λ b. IsTrue b ↔ Continues self.now.stage.writing (frame_bytes frame.now)) }
     {
         self.stage.writing.continues_frame(frame)
     }
 
-    /// Whether a frame is half written.
+    /// Whether a write was begun that isn't through; it may be that nothing of it went out.
     pub fn is_writing(&self) -> bool
         ensures { result ≡ is_begun self.now.stage.writing }
     {

@@ -44,7 +44,7 @@ abbrev pub is_exercise : ℕ → Bool
 is_exercise kind = kind % 0x1f == 2 && nat_lt 0x20 kind
 
 -- a frame of this type with a header of so many bytes and a payload of size bytes, and how many bytes it takes;
--- one of a known type whose payload is longer than the bound is judged by its header alone
+-- one of a known type whose payload is longer than the bound is judged by its header alone;
 -- every other type is one to skip, whatever its length, and so are those that HTTP/2 had, 0x02, 0x06, 0x08 and 0x09
 -- (this repository's rule; RFC 9114, section 7.2.8, asks H3_FRAME_UNEXPECTED for these four, and sections 7.2.3 and 7.2.5 to 7.2.7 give further types a meaning)
 abbrev pub frame_with_header : List ℕ → ℕ → ℕ → ℕ → Option (Frame × ℕ)

@@ -5,13 +5,14 @@ ghost use Rattle.wt_dispatch.specs.Found.{due_as};
 ghost use Rattle.wt_driver.specs.Given.{ended_or_pending, given_by, is_own, next_datagram_now, payload_by, payload_in};
 ghost use Rattle.wt_driver.specs.Moving.{front_of};
 ghost use Rattle.wt_driver.specs.Results.{result_of};
+ghost use Rattle.wt_scan.specs.Scanning.{unless_given_up};
 ghost use Rattle.wt_driver.specs.Tie.{Follows};
 ghost use Rattle.wt_driver_spec.specs.Asking.{MayBeCalled};
 ghost use Rattle.wt_driver_spec.specs.Due.{accepted, due_stream, log_streams, passing, received, state_next_due, take_due};
 ghost use Rattle.wt_driver_spec.specs.Step.{release, without_slot};
-ghost use Rattle.wt_inbox.specs.Stage.{Anywhere, Refines, Stage, with_stage};
+ghost use Rattle.wt_inbox.specs.Stage.{Refines, Stage, with_stage};
 ghost use Rattle.wt_seam_spec.specs.Acting.{MayAct};
-ghost use Rattle.wt_seam_spec.specs.Streams.{peer_bi, peer_uni};
+ghost use Rattle.wt_seam_spec.specs.Streams.{can_receive, peer_bi, peer_uni};
 ghost use Rattle.wt_spec.specs.Connection.{pass_stream, read_datagram};
 ghost use Rattle.wt_spec.specs.Driver.{log_and_flush, settles_datagram};
 ghost use Rattle.wt_turn.specs.Log.{CallRecord, Called, Log, Sent, StreamAccepted, StreamPassed};
@@ -19,10 +20,10 @@ ghost use Rattle.wt_turn.specs.declared.action.Action.{Action};
 ghost use Rattle.wt_wire.specs.declared.side.Side.{Side};
 
 use super::Driver;
-use crate::scan::remove_at;
 use std::collections::VecDeque;
 use wt_dispatch::slot::{Slot, peer_bi, peer_uni};
 use wt_proto::datagram::H3Datagram;
+use wt_scan::scan::remove_at;
 use wt_turn::action::Action;
 use wt_turn::driver_error::DriverError;
 use wt_turn::piece::Piece;
@@ -72,9 +73,9 @@ impl Driver {
         self.dispatched.release(id);
     }
 
-    /// Nothing of a stream is read any more.
+    /// Nothing of a stream is read any more, where it can receive: its bytes are let go.
     pub(super) fn give_up(&mut self, id: StreamId)
-        ensures log { (side : Side) (log : Log) (stage : ℕ → Stage) (untaken : List Action) → Refines side self.old.inbox log stage untaken → Refines side self.new.inbox log (with_stage stage id Anywhere) untaken }
+        ensures log { (side : Side) (log : Log) (stage : ℕ → Stage) (untaken : List Action) → Refines side self.old.inbox log stage untaken → Refines side self.new.inbox log (with_stage stage id (unless_given_up (can_receive side log id) (stage id))) untaken }
         ensures state { self.new.state ≡ record self.old.state { is_open = self.new.inbox.transport.is_open } }
         ensures queue { self.new.queue ≡ self.old.queue }
         ensures settings { self.new.settings ≡ self.old.settings }
@@ -85,9 +86,9 @@ impl Driver {
         }
     }
 
-    /// An accept passed the stream.
+    /// An accept passed the stream: its bytes are let go.
     pub(super) fn pass(&mut self, id: StreamId)
-        ensures log { (side : Side) (log : Log) (stage : ℕ → Stage) (untaken : List Action) → Refines side self.old.inbox log stage untaken → Refines side self.new.inbox log (with_stage stage id Anywhere) untaken }
+        ensures log { (side : Side) (log : Log) (stage : ℕ → Stage) (untaken : List Action) → Refines side self.old.inbox log stage untaken → Refines side self.new.inbox log (with_stage stage id (unless_given_up (can_receive side log id) (stage id))) untaken }
         ensures state { IsAmong 4 id self.old.state.unis → IsAmong 1 id self.old.state.bis → self.new.state ≡ record (release id self.old.state) { is_open = self.new.inbox.transport.is_open } }
         ensures queue { self.new.queue ≡ self.old.queue }
         ensures settings { self.new.settings ≡ self.old.settings }

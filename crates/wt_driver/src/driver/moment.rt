@@ -1,10 +1,10 @@
 //! The work of a moment.
 ghost use Rattle.std.specs.Prelude.{◌≡◌, ◌↔◌, None, IsTrue, ◌==◌, ◌&&◌, List, ℕ, Some, IfOk, OnOk, drop, false, true, not};
 ghost use Rattle.wt_driver.specs.DriverValue.{with_state};
-ghost use Rattle.wt_driver.specs.Moving.{HasDatagram, MayCheck, MayScan, Moves, WalkFrom, front_of};
+ghost use Rattle.wt_driver.specs.Moving.{CanGiveUp, HasDatagram, MayCheck, MayScan, Moves, WalkFrom, front_of};
 ghost use Rattle.std.specs.Option.{option_or};
 ghost use Rattle.wt_driver.specs.PeerSettings.{settings_checked, settings_noted, settings_read, settings_scanned};
-ghost use Rattle.wt_driver.specs.Scanning.{AllAwait};
+ghost use Rattle.wt_scan.specs.Scanning.{AllAwait, SlotsReceive};
 ghost use Rattle.wt_driver.specs.Stages.{bi_stages, check_stages, control_stages, datagram_checked, scanned_stages, session_stage, session_stages, uni_stages, unless_ended_stage};
 ghost use Rattle.wt_driver.specs.Tie.{Follows, TakenIn};
 ghost use Rattle.wt_dispatch.specs.declared.slot.Half.TheVariants as halves;
@@ -22,10 +22,10 @@ ghost use Rattle.wt_turn.specs.declared.action.Action.{Action};
 ghost use Rattle.wt_wire.specs.declared.side.Side.{Side};
 
 use super::Driver;
-use crate::scan::scan;
 use wt_dispatch::slot::Half;
 use wt_proto::control_walk::ControlWalk;
 use wt_proto::session_walk::SessionWalk;
+use wt_scan::scan::scan;
 use wt_wire::error::OutOfMemory;
 use wt_wire::ids::StreamId;
 use wt_wire::side::StreamEnd;
@@ -52,7 +52,7 @@ impl Driver {
 
     fn scan_unis(&mut self) -> Result<(), OutOfMemory>
         ensures log { (side : Side) (log : Log) (stage : ℕ → Stage) (untaken : List Action) → Refines side self.old.inbox log stage untaken → is_open log ≡ true
-            → AllAwait halves.Uni stage self.old.state.unis → AreDistinct self.old.state.unis → IsBounded 4 0 self.old.state.unis
+            → AllAwait halves.Uni stage self.old.state.unis → SlotsReceive side log self.old.state.unis → AreDistinct self.old.state.unis → IsBounded 4 0 self.old.state.unis
             → OnOk result (Moves side log untaken self.old self.new (uni_stages (transport_view side log) self.old.state stage) (scan_uni_slots (transport_view side log) self.old.state) self.old.settings) }
         ensures has_given { OnOk result (self.new.has_given_settings ≡ self.old.has_given_settings) }
     {
@@ -67,7 +67,7 @@ impl Driver {
 
     fn scan_bis(&mut self) -> Result<(), OutOfMemory>
         ensures log { (side : Side) (log : Log) (stage : ℕ → Stage) (untaken : List Action) → Refines side self.old.inbox log stage untaken → is_open log ≡ true
-            → AllAwait halves.Bi stage self.old.state.bis → AreDistinct self.old.state.bis → IsBounded 1 0 self.old.state.bis
+            → AllAwait halves.Bi stage self.old.state.bis → SlotsReceive side log self.old.state.bis → AreDistinct self.old.state.bis → IsBounded 1 0 self.old.state.bis
             → OnOk result (Moves side log untaken self.old self.new (bi_stages (transport_view side log) self.old.state stage) (scan_bi_slots (transport_view side log) self.old.state) self.old.settings) }
         ensures has_given { OnOk result (self.new.has_given_settings ≡ self.old.has_given_settings) }
     {
@@ -359,7 +359,7 @@ impl Driver {
     /// The whole scan of a moment.
     fn scan(&mut self) -> Result<(), OutOfMemory>
         ensures log { (side : Side) (log : Log) (stage : ℕ → Stage) (untaken : List Action) → Refines side self.old.inbox log stage untaken → is_open log ≡ true → HasDatagram side log self.old
-            → MayScan (transport_view side log) self.old.state stage
+            → MayScan (transport_view side log) self.old.state stage → CanGiveUp side log self.old.state
             → OnOk result (Moves side log untaken self.old self.new (scanned_stages (transport_view side log) self.old.state stage) (scan_state (transport_view side log) self.old.state)
             (settings_scanned (transport_view side log) self.old.state self.old.settings)) }
         ensures has_given { OnOk result (self.new.has_given_settings ≡ self.old.has_given_settings) }

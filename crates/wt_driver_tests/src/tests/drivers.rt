@@ -1,57 +1,33 @@
-//! A driver in a test: each call stands in a function of its own, so that a test is cheap to prove.
+//! A driver's calls, with what they answer as a reply. Each stands in a function of its own that promises nothing, so
+//! that what calls it is cheap to prove.
 use std::alloc::Global;
 use std::process::Abort;
 use wt_driver::driver::Driver;
-use wt_turn::action::Action;
-use wt_turn::datagram_fact::DatagramFact;
+use wt_proto::response_walk::ResponseWalk;
+use wt_turn::action::{Action, Actions};
+use wt_turn::connection_error::{ConnectionError, H3Error};
 use wt_turn::driver_error::DriverError;
 use wt_turn::piece::Piece;
 use wt_turn::poll::Poll;
 use wt_turn::record::Record;
+use wt_turn::reply::Reply;
 use wt_turn::turn::Turn;
+use wt_wire::addr::Addr;
 use wt_wire::ids::{SessionId, StreamId};
 use wt_wire::side::Side;
+use wt_wire::text::Text;
 use wt_wire::varint::VarInt;
-
-/// The head of this end's control stream.
-pub const LOCAL_CONTROL: &[u8] = &[
-    0x00, 0x04, 0x16, 0x01, 0x00, 0x07, 0x00, 0x08, 0x01, 0x33, 0x01, 0xab, 0x60, 0x37, 0x42, 0x01,
-    0xc0, 0x00, 0x00, 0x00, 0xc6, 0x71, 0x70, 0x6a, 0x01,
-];
-
-/// A request for https://h/.
-pub const REQUEST: &[u8] = &[
-    0x01, 0x40, 0x50, 0x00, 0x00, 0x27, 0x03, 0x3a, 0x61, 0x75, 0x74, 0x68, 0x6f, 0x72, 0x69, 0x74,
-    0x79, 0x01, 0x68, 0x27, 0x00, 0x3a, 0x6d, 0x65, 0x74, 0x68, 0x6f, 0x64, 0x07, 0x43, 0x4f, 0x4e,
-    0x4e, 0x45, 0x43, 0x54, 0x25, 0x3a, 0x70, 0x61, 0x74, 0x68, 0x01, 0x2f, 0x27, 0x02, 0x3a, 0x70,
-    0x72, 0x6f, 0x74, 0x6f, 0x63, 0x6f, 0x6c, 0x0c, 0x77, 0x65, 0x62, 0x74, 0x72, 0x61, 0x6e, 0x73,
-    0x70, 0x6f, 0x72, 0x74, 0x27, 0x00, 0x3a, 0x73, 0x63, 0x68, 0x65, 0x6d, 0x65, 0x05, 0x68, 0x74,
-    0x74, 0x70, 0x73,
-];
-
-/// An action, as a test writes it.
-#[derive(Clone, Copy)]
-pub enum Out<'a> {
-    Opened(u32),
-    Send(u32, &'a [u8]),
-    Stop(u32, u32),
-    Reset(u32, u32),
-    Close(u32),
-}
-
-pub fn number(value: u32) -> VarInt {
-    VarInt::from_u32(value)
-}
 
 pub fn stream(id: u32) -> StreamId {
     StreamId::new(VarInt::from_u32(id))
 }
 
-pub fn session(rt: &impl Abort, id: u32) -> SessionId {
-    match SessionId::try_from_session_stream(stream(id)) {
-        Some(session) => session,
-        None => panic!(rt; "no session"),
-    }
+fn session(rt: &impl Abort) -> SessionId {
+    SessionId::try_from_session_stream(stream(0)).expect(rt, "no session")
+}
+
+pub fn new_driver(alloc: Global, side: Side) -> Driver {
+    Driver::init(alloc, side)
 }
 
 pub fn take(rt: &impl Abort, driver: &mut Driver, turn: &Turn) {
@@ -60,180 +36,147 @@ pub fn take(rt: &impl Abort, driver: &mut Driver, turn: &Turn) {
     driver.turn(turn).expect(rt, "no memory");
 }
 
-/// The connection stands, with so many streams and so much credit.
-pub fn connect(rt: &impl Abort, driver: &mut Driver, uni: u64, bi: u64, credit: u64) {
-    let turn = Turn::Connected {
-        uni,
-        bi,
-        credit,
-        datagrams: DatagramFact::Limit(1200),
-    };
-    take(rt, driver, &turn);
+fn take_byte(rt: &impl Abort, alloc: Global, driver: &mut Driver, id: StreamId, byte: u8) {
+    let piece = Piece::from_slice(alloc, &[byte]).expect(rt, "no memory");
+    take(rt, driver, &Turn::Bytes { id, piece });
 }
 
-pub fn connected(rt: &impl Abort, alloc: Global, uni: u64, bi: u64, credit: u64) -> Driver {
-    let mut driver = Driver::init(alloc, Side::Server);
-    connect(rt, &mut driver, uni, bi, credit);
-    driver
-}
-
-/// A server's driver with SETTINGS out.
-pub fn server(rt: &impl Abort, alloc: Global) -> Driver {
-    let mut driver = connected(rt, alloc, 9, 9, 1000);
-    expect(
-        rt,
-        &mut driver,
-        &[Out::Opened(3), Out::Send(3, LOCAL_CONTROL)],
-    );
-    driver
-}
-
-pub fn peer_uni(rt: &impl Abort, driver: &mut Driver) {
-    take(rt, driver, &Turn::PeerUni);
-}
-
-pub fn peer_bi(rt: &impl Abort, driver: &mut Driver) {
-    take(rt, driver, &Turn::PeerBi);
-}
-
-fn piece(rt: &impl Abort, alloc: Global, bytes: &[u8]) -> Piece {
-    Piece::from_slice(alloc, bytes).expect(rt, "no memory")
-}
-
-fn bytes_turn(rt: &impl Abort, alloc: Global, id: u32, bytes: &[u8]) -> Turn {
-    Turn::Bytes {
-        id: stream(id),
-        piece: piece(rt, alloc, bytes),
-    }
-}
-
-/// Bytes of a stream, in one turn or in turns of one byte.
-pub fn bytes(
-    rt: &impl Abort,
-    alloc: Global,
-    driver: &mut Driver,
-    id: u32,
-    bytes: &[u8],
-    whole: bool,
-) {
-    if whole {
-        take(rt, driver, &bytes_turn(rt, alloc, id, bytes));
-        return;
-    }
+/// Bytes of a stream, in turns of one byte.
+pub fn take_each(rt: &impl Abort, alloc: Global, driver: &mut Driver, id: StreamId, bytes: &[u8]) {
     for byte in bytes {
-        take(rt, driver, &bytes_turn(rt, alloc, id, &[*byte]));
+        take_byte(rt, alloc, driver, id, *byte);
     }
 }
 
-pub fn end(rt: &impl Abort, driver: &mut Driver, id: u32) {
-    take(rt, driver, &Turn::End { id: stream(id) });
+pub fn actions(driver: &mut Driver) -> Actions {
+    driver.take_actions()
 }
 
-pub fn reset(rt: &impl Abort, driver: &mut Driver, id: u32, code: u32) {
-    let turn = Turn::Reset {
-        id: stream(id),
-        code: number(code),
-    };
-    take(rt, driver, &turn);
-}
-
-pub fn stop(rt: &impl Abort, driver: &mut Driver, id: u32, code: u32) {
-    let turn = Turn::Stop {
-        id: stream(id),
-        code: number(code),
-    };
-    take(rt, driver, &turn);
-}
-
-pub fn max_data(rt: &impl Abort, driver: &mut Driver, id: u32, total: u64) {
-    let turn = Turn::MaxData {
-        id: stream(id),
-        total,
-    };
-    take(rt, driver, &turn);
-}
-
-pub fn datagram(rt: &impl Abort, alloc: Global, driver: &mut Driver, bytes: &[u8]) {
-    let turn = Turn::Datagram {
-        piece: piece(rt, alloc, bytes),
-    };
-    take(rt, driver, &turn);
-}
-
-fn is_out(action: &Action, out: &Out) -> bool {
-    match out {
-        Out::Opened(id) => matches!(action, Action::Opened { id: other } if *other == stream(*id)),
-        Out::Send(id, bytes) =>
-            matches!(action, Action::Send { id: other, piece } if *other == stream(*id) && piece.as_slice() == *bytes),
-        Out::Stop(id, code) =>
-            matches!(action, Action::StopOut { id: other, code: sent } if *other == stream(*id) && *sent == number(*code)),
-        Out::Reset(id, code) =>
-            matches!(action, Action::ResetOut { id: other, code: sent } if *other == stream(*id) && *sent == number(*code)),
-        Out::Close(code) =>
-            matches!(action, Action::Close { code: sent, reason } if *sent == number(*code) && reason.as_slice().is_empty()),
-    }
-}
-
-/// The actions that went out are exactly these.
-pub fn expect(rt: &impl Abort, driver: &mut Driver, outs: &[Out]) {
-    let actions = driver.take_actions();
-    assert_eq!(rt; actions.as_slice().len(), outs.len());
-    for (action, out) in actions.as_slice().iter().zip(outs.iter()) {
-        assert!(rt; is_out(action, out));
-    }
-}
-
-fn called(rt: &impl Abort, driver: &mut Driver, record: &Record) {
+pub fn called(rt: &impl Abort, driver: &mut Driver, record: &Record) -> Reply {
     driver.called(record).expect(rt, "no memory");
+    Reply::Done
 }
 
-/// The session of stream 0 is established, as a server does it.
-pub fn establish(rt: &impl Abort, driver: &mut Driver) {
-    called(rt, driver, &Record::RequestDelivered(stream(0)));
-    establish_at(rt, driver, 83);
+pub fn act(rt: &impl Abort, driver: &mut Driver, action: Action) -> Reply {
+    driver.act(action).expect(rt, "no memory");
+    Reply::Done
 }
 
-/// The session of stream 0 is established, and its part begins at this offset.
-pub fn establish_at(rt: &impl Abort, driver: &mut Driver, at: usize) {
-    called(rt, driver, &Record::SessionEstablished(stream(0), at));
+pub fn dial(rt: &impl Abort, alloc: Global) -> Action {
+    let address = Addr::V4 {
+        ip: 0x7f00_0001,
+        port: 443,
+    };
+    let name = Text::from_text(alloc, "h").expect(rt, "no memory");
+    Action::Dial { address, name }
 }
 
-/// A server's driver with an established session: SETTINGS and a request came.
-pub fn with_session(rt: &impl Abort, alloc: Global, whole: bool) -> Driver {
-    let mut driver = server(rt, alloc);
-    peer_uni(rt, &mut driver);
-    bytes(rt, alloc, &mut driver, 2, &[0x00, 0x04, 0x00], whole);
-    peer_bi(rt, &mut driver);
-    bytes(rt, alloc, &mut driver, 0, REQUEST, whole);
-    assert!(rt; driver.have_settings_come());
-    assert!(rt; has_request(&driver, 0));
-    establish(rt, &mut driver);
-    expect(rt, &mut driver, &[]);
-    driver
+/// How the connection ended. One that isn't there is told as closed by this end.
+fn ended(error: DriverError) -> ConnectionError {
+    match error {
+        DriverError::Proto(code) => ConnectionError::LocalH3Error(H3Error::new(code)),
+        DriverError::ApplicationClosed(close) => ConnectionError::ApplicationClosed(close),
+        DriverError::NotConnected => ConnectionError::LocallyClosed,
+    }
 }
 
-/// Whether the queued request is that of this stream.
-pub fn has_request(driver: &Driver, id: u32) -> bool {
+pub fn accept_uni(rt: &impl Abort, driver: &mut Driver) -> Reply {
+    match driver.accept_uni_id(session(rt)).expect(rt, "no memory") {
+        Poll::Ready(Ok(id)) => Reply::Uni(id),
+        Poll::Ready(Err(error)) => Reply::Failed(ended(error)),
+        Poll::Pending => Reply::Pending,
+    }
+}
+
+pub fn accept_bi(rt: &impl Abort, driver: &mut Driver) -> Reply {
+    match driver.accept_bi_id(session(rt)).expect(rt, "no memory") {
+        Poll::Ready(Ok(id)) => Reply::Bi(id),
+        Poll::Ready(Err(error)) => Reply::Failed(ended(error)),
+        Poll::Pending => Reply::Pending,
+    }
+}
+
+/// The datagram, whole.
+pub fn receive_datagram(rt: &impl Abort, driver: &mut Driver) -> Reply {
+    let answer = driver.receive_datagram_piece(session(rt));
+    match answer.expect(rt, "no memory") {
+        Poll::Ready(Ok(piece)) => Reply::Datagram(piece),
+        Poll::Ready(Err(error)) => Reply::Failed(ended(error)),
+        Poll::Pending => Reply::Pending,
+    }
+}
+
+/// The request, which ends at the offset 83 as every one does that is given in these tests.
+pub fn accept_session(rt: &impl Abort, driver: &mut Driver) -> Reply {
+    match driver.accept_session().expect(rt, "no memory") {
+        Poll::Ready(Ok((id, headers, at))) => {
+            assert_eq!(rt; at, 83);
+            let id = SessionId::try_from_session_stream(id).expect(rt, "no session");
+            Reply::Request { id, headers }
+        }
+        Poll::Ready(Err(error)) => Reply::Failed(ended(error)),
+        Poll::Pending => Reply::Pending,
+    }
+}
+
+pub fn accept_settings(rt: &impl Abort, driver: &mut Driver) -> Reply {
+    match driver.accept_settings().expect(rt, "no memory") {
+        Poll::Ready(Ok(_)) => Reply::Done,
+        Poll::Ready(Err(error)) => Reply::Failed(ended(error)),
+        Poll::Pending => Reply::Pending,
+    }
+}
+
+pub fn open_session(rt: &impl Abort, driver: &mut Driver) -> Reply {
+    match driver.open_session().expect(rt, "no memory") {
+        Ok(Some(id)) => Reply::Opening(id),
+        Ok(None) => Reply::Pending,
+        Err(error) => Reply::Failed(ended(error)),
+    }
+}
+
+pub fn register(rt: &impl Abort, driver: &mut Driver, id: StreamId, at: usize) -> Reply {
+    match driver.register_session(id, at).expect(rt, "no memory") {
+        Ok(()) => Reply::Done,
+        Err(error) => Reply::Failed(ended(error)),
+    }
+}
+
+/// How many bytes the response has, where it is there; a stream that ended without one is told as a rejection.
+pub fn response(rt: &impl Abort, driver: &mut Driver) -> Reply {
+    match driver.response(stream(0)).expect(rt, "no memory") {
+        ResponseWalk::Waiting => Reply::Pending,
+        ResponseWalk::Response(_, at) => Reply::Count(at as u64),
+        ResponseWalk::Ended => Reply::Rejected,
+        ResponseWalk::Fault(code) => Reply::Failed(ended(DriverError::Proto(code))),
+    }
+}
+
+pub fn close(rt: &impl Abort, driver: &mut Driver, code: VarInt, reason: Piece) -> Reply {
+    driver.close(code, reason).expect(rt, "no memory");
+    Reply::Done
+}
+
+pub fn result(rt: &impl Abort, driver: &Driver) -> Reply {
+    match driver.result().expect(rt, "no memory") {
+        Some(error) => Reply::Closed(ended(error)),
+        None => Reply::Pending,
+    }
+}
+
+pub fn error(rt: &impl Abort, driver: &Driver) -> Reply {
+    let error = driver.error().expect(rt, "no memory");
+    Reply::Failed(ended(error))
+}
+
+/// Whether the queued request is that of this stream, and ends at this offset.
+pub fn has_request(driver: &Driver, id: StreamId, at: usize) -> bool {
     match driver.next_request() {
-        Some((next, _, at)) => next == stream(id) && at == 83,
+        Some((next, _, end)) => next == id && end == at,
         None => false,
     }
 }
 
-/// What an accept answers: the stream's number, or whether it is pending.
-pub fn accept_uni(rt: &impl Abort, driver: &mut Driver) -> Poll<Result<StreamId, DriverError>> {
-    let session = session(rt, 0);
-    driver.accept_uni_id(session).expect(rt, "no memory")
-}
-
-pub fn accept_bi(rt: &impl Abort, driver: &mut Driver) -> Poll<Result<StreamId, DriverError>> {
-    let session = session(rt, 0);
-    driver.accept_bi_id(session).expect(rt, "no memory")
-}
-
-pub fn gives(rt: &impl Abort, answer: Poll<Result<StreamId, DriverError>>, id: u32) {
-    match answer {
-        Poll::Ready(Ok(given)) => assert!(rt; given == stream(id)),
-        _ => panic!(rt; "no stream"),
-    }
+pub fn unread(driver: &Driver, id: StreamId) -> u64 {
+    driver.inbox().unread(id)
 }

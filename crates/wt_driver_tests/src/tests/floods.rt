@@ -1,28 +1,41 @@
 //! Many streams.
-use super::drivers::{accept_uni, bytes, expect, peer_uni, server, with_session};
-use wt_turn::poll::Poll;
+use super::drivers::{accept_uni, actions};
+use super::harness::{Run, SERVER, SESSION};
+use std::alloc::Global;
+use std::process::Abort;
+use wt_turn::reply::Reply;
+use wt_wire::side::Side;
 
 #[test]
 fn a_thousand_streams_without_a_byte(rt: HostRuntime) {
-    let mut driver = server(&rt, rt.alloc());
+    let mut run = Run::new(&rt, rt.alloc(), Side::Server, true);
+    run.take_lines(&rt, SERVER);
     for _ in 0..1000 {
-        peer_uni(&rt, &mut driver);
+        run.take_lines(&rt, "peer_uni");
     }
-    expect(&rt, &mut driver, &[]);
-    assert_eq!(rt; driver.readers(), 4);
+    run.take_lines(&rt, "readers\n> count 4");
+}
+
+/// A stream of session 4.
+fn foreign_stream(rt: &impl Abort, alloc: Global, run: &mut Run, id: u32) {
+    let lines = format!(in alloc; "peer_uni\nbytes {id} 405404");
+    run.take_lines(rt, lines.expect(rt, "no memory").as_str());
+}
+
+/// The session's stream is awaited, which passes all that are there, and stops them.
+fn passes(rt: &impl Abort, run: &mut Run, count: usize) {
+    let reply = accept_uni(rt, &mut run.driver);
+    assert!(rt; reply.is_equal(&Reply::Pending));
+    let actions = actions(&mut run.driver);
+    assert_eq!(rt; actions.as_slice().len(), count);
 }
 
 #[test]
 fn a_thousand_foreign_streams_are_passed(rt: HostRuntime) {
-    let alloc = rt.alloc();
-    let mut driver = with_session(&rt, alloc, true);
+    let mut run = Run::new(&rt, rt.alloc(), Side::Server, true);
+    run.take_lines(&rt, SESSION);
     for index in 1..1001u32 {
-        peer_uni(&rt, &mut driver);
-        let id = 4 * index + 2;
-        bytes(&rt, alloc, &mut driver, id, &[0x40, 0x54, 0x04], true);
+        foreign_stream(&rt, rt.alloc(), &mut run, 4 * index + 2);
     }
-    expect(&rt, &mut driver, &[]);
-    assert!(rt; accept_uni(&rt, &mut driver) == Poll::Pending);
-    let actions = driver.take_actions();
-    assert_eq!(rt; actions.as_slice().len(), 1000);
+    passes(&rt, &mut run, 1000);
 }

@@ -187,8 +187,8 @@ impl Inbox {
         self.stop_code(self.control_id()).is_some()
     }
 
-    /// Whether this end's SETTINGS are out, or can go out whole: one unidirectional stream is allowed, with
-    /// credit for all of them.
+    /// Whether the connection was established, a unidirectional stream is allowed at all, and credit covers
+    /// the type and the SETTINGS of this end's control stream.
     pub fn is_ready(&self) -> bool
         ensures now { result ≡ ready_now self.now.transport }
         ensures log { (side : Side) (log : Log) (stage : ℕ → Stage) (untaken : List Action) → Refines side self.now log stage untaken → is_open log ≡ true → result ≡ (is_connected (events_of log) && nat_lt 0 (unis_allowed (events_of log)) && not (nat_lt (credit (events_of log) (local_uni side)) (length local_control_bytes))) }
@@ -211,7 +211,7 @@ impl Inbox {
     }
 }
 
-/// Whether SETTINGS can go out whole, by what the transport tells.
+/// The same, by what the transport tells.
 #[tactic(auto, using(crate::proofs::Passing::head_length))]
 fn is_ready_by(connected: bool, may_open: bool, credit: u64) -> bool
     ensures { result ≡ (connected && may_open && not (nat_lt credit (length local_control_bytes))) }

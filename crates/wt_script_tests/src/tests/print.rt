@@ -1,7 +1,7 @@
 //! Answers and their lines.
 use std::alloc::Global;
 use std::process::Abort;
-use wt_script::print::print_answer;
+use wt_print::print::print_answer;
 use wt_turn::{Action, Actions, Answer, Piece, Reply};
 use wt_wire::addr::Addr;
 use wt_wire::header_list::HeaderList;

@@ -1,36 +1,40 @@
-//! A server's driver with an established session, in a test: each call stands in a function of its own,
-//! so that a test is cheap to prove.
+//! A driver in a test. What comes is lines of a script; what a call answers, with what goes out, is a
+//! printed line (docs/FORMATS.md, "Scripts" and "Printed lines"). Each call stands in a function of its
+//! own, so that a test is cheap to prove.
 use std::alloc::Global;
 use std::process::Abort;
 use wt_driver::driver::Driver;
+use wt_print::print::print_answer;
+use wt_script::script::{Script, read_more_turns};
+use wt_session::accepting::Accepting;
 use wt_session::connection::Connection;
 use wt_session::incoming::{IncomingSession, SessionRequest};
-use wt_turn::action::Action;
+use wt_turn::answer::Answer;
 use wt_turn::connection_error::ConnectionError;
-use wt_turn::datagram_fact::DatagramFact;
-use wt_turn::piece::Piece;
 use wt_turn::poll::Poll;
-use wt_turn::turn::Turn;
-use wt_wire::ids::StreamId;
+use wt_turn::reply::Reply;
+use wt_turn::turn::{Turn, Turns};
 use wt_wire::side::Side;
-use wt_wire::varint::VarInt;
 
-/// A request for https://h/.
-const REQUEST: &[u8] = &[
-    0x01, 0x40, 0x50, 0x00, 0x00, 0x27, 0x03, 0x3a, 0x61, 0x75, 0x74, 0x68, 0x6f, 0x72, 0x69, 0x74,
-    0x79, 0x01, 0x68, 0x27, 0x00, 0x3a, 0x6d, 0x65, 0x74, 0x68, 0x6f, 0x64, 0x07, 0x43, 0x4f, 0x4e,
-    0x4e, 0x45, 0x43, 0x54, 0x25, 0x3a, 0x70, 0x61, 0x74, 0x68, 0x01, 0x2f, 0x27, 0x02, 0x3a, 0x70,
-    0x72, 0x6f, 0x74, 0x6f, 0x63, 0x6f, 0x6c, 0x0c, 0x77, 0x65, 0x62, 0x74, 0x72, 0x61, 0x6e, 0x73,
-    0x70, 0x6f, 0x72, 0x74, 0x27, 0x00, 0x3a, 0x73, 0x63, 0x68, 0x65, 0x6d, 0x65, 0x05, 0x68, 0x74,
-    0x74, 0x70, 0x73,
-];
+/// A client connects, and asks for the session of https://h/.
+const REQUEST: &str = "connected 9 9 30 12\npeer_uni\nbytes 2 000400\npeer_bi\n\
+    bytes 0 014050000027033a617574686f726974790168\
+    27003a6d6574686f6407434f4e4e454354253a70617468012f\
+    27023a70726f746f636f6c0c7765627472616e73706f7274\
+    27003a736368656d65056874747073\n";
 
-pub fn number(value: u32) -> VarInt {
-    VarInt::from_u32(value)
-}
+/// The session's id, and what went out before: SETTINGS and the response.
+const ACCEPTED: &str = "id 0 ; opened 3 ; \
+    send 3 0004160100070008013301ab60374201c0000000c671706a01 ; \
+    send 0 010f000027003a73746174757303323030";
 
-pub fn stream(id: u32) -> StreamId {
-    StreamId::new(VarInt::from_u32(id))
+fn read(rt: &impl Abort, alloc: Global, lines: &str) -> Turns {
+    let begun = Script {
+        side: Side::Server,
+        turns: Turns::new(alloc),
+    };
+    let read = read_more_turns(alloc, begun, lines.as_bytes()).expect(rt, "no memory");
+    read.ok().expect(rt, "no lines of turns").turns
 }
 
 fn take(rt: &impl Abort, driver: &mut Driver, turn: &Turn) {
@@ -39,84 +43,20 @@ fn take(rt: &impl Abort, driver: &mut Driver, turn: &Turn) {
     driver.turn(turn).expect(rt, "no memory");
 }
 
-fn connect(rt: &impl Abort, driver: &mut Driver) {
-    let turn = Turn::Connected {
-        uni: 9,
-        bi: 9,
-        credit: 100,
-        datagrams: DatagramFact::Limit(1200),
-    };
-    take(rt, driver, &turn);
+/// The driver takes the turns of these lines.
+pub fn turns(rt: &impl Abort, alloc: Global, driver: &mut Driver, lines: &str) {
+    let turns = read(rt, alloc, lines);
+    for turn in turns.as_slice() {
+        take(rt, driver, turn);
+    }
 }
 
-pub fn peer_uni(rt: &impl Abort, driver: &mut Driver) {
-    take(rt, driver, &Turn::PeerUni);
-}
-
-pub fn peer_bi(rt: &impl Abort, driver: &mut Driver) {
-    take(rt, driver, &Turn::PeerBi);
-}
-
-fn piece(rt: &impl Abort, alloc: Global, bytes: &[u8]) -> Piece {
-    Piece::from_slice(alloc, bytes).expect(rt, "no memory")
-}
-
-pub fn bytes(rt: &impl Abort, alloc: Global, driver: &mut Driver, id: u32, bytes: &[u8]) {
-    let turn = Turn::Bytes {
-        id: stream(id),
-        piece: piece(rt, alloc, bytes),
-    };
-    take(rt, driver, &turn);
-}
-
-pub fn end(rt: &impl Abort, driver: &mut Driver, id: u32) {
-    take(rt, driver, &Turn::End { id: stream(id) });
-}
-
-pub fn acknowledge(rt: &impl Abort, driver: &mut Driver, id: u32) {
-    take(rt, driver, &Turn::Acked { id: stream(id) });
-}
-
-pub fn datagram(rt: &impl Abort, alloc: Global, driver: &mut Driver, bytes: &[u8]) {
-    let turn = Turn::Datagram {
-        piece: piece(rt, alloc, bytes),
-    };
-    take(rt, driver, &turn);
-}
-
-/// A server's driver at which SETTINGS and a request came.
-fn server(rt: &impl Abort, alloc: Global) -> Driver {
-    let mut driver = Driver::init(alloc, Side::Server);
-    connect(rt, &mut driver);
-    peer_uni(rt, &mut driver);
-    bytes(rt, alloc, &mut driver, 2, &[0x00, 0x04, 0x00]);
-    peer_bi(rt, &mut driver);
-    bytes(rt, alloc, &mut driver, 0, REQUEST);
-    driver
-}
-
-fn request(rt: &impl Abort, alloc: Global, driver: &mut Driver) -> SessionRequest {
-    let mut incoming = IncomingSession::new().into_future();
-    given(rt, incoming.poll(alloc, driver).expect(rt, "no memory"))
-}
-
-fn accepted(
-    rt: &impl Abort,
-    alloc: Global,
-    driver: &mut Driver,
-    request: SessionRequest,
-) -> Connection {
-    let mut accepting = request.accept(alloc).expect(rt, "no memory");
-    given(rt, accepting.poll(alloc, driver).expect(rt, "no memory"))
-}
-
-/// A server's driver with the session of stream 0, and the session. What went out is taken.
-pub fn established(rt: &impl Abort, alloc: Global) -> (Driver, Connection) {
-    let mut driver = server(rt, alloc);
-    let request = request(rt, alloc, &mut driver);
-    let session = accepted(rt, alloc, &mut driver, request);
-    let _out = driver.take_actions();
-    (driver, session)
+/// This reply, with the actions that went out, prints as this line.
+pub fn prints(rt: &impl Abort, alloc: Global, driver: &mut Driver, reply: Reply, line: &str) {
+    let actions = driver.take_actions();
+    let answer = Answer { reply, actions };
+    let text = print_answer(alloc, &answer).expect(rt, "no memory");
+    assert_eq!(rt; text.as_str(), line);
 }
 
 /// What an answer gives.
@@ -127,40 +67,38 @@ pub fn given<T: Drop>(rt: &impl Abort, answer: Poll<Result<T, ConnectionError>>)
     }
 }
 
-/// An action, as a test writes it.
-#[derive(Clone, Copy)]
-pub enum Out<'a> {
-    Opened(u32),
-    Send(u32, &'a [u8]),
-    Finish(u32),
-    Stop(u32, u32),
-    Reset(u32, u32),
-    Datagram(&'a [u8]),
-    Close(u32, &'a [u8]),
+/// A server's driver at which a request came.
+pub fn server(rt: &impl Abort, alloc: Global) -> Driver {
+    let mut driver = Driver::init(alloc, Side::Server);
+    turns(rt, alloc, &mut driver, REQUEST);
+    driver
 }
 
-fn is_out(action: &Action, out: &Out) -> bool {
-    match out {
-        Out::Opened(id) => matches!(action, Action::Opened { id: other } if *other == stream(*id)),
-        Out::Send(id, bytes) =>
-            matches!(action, Action::Send { id: other, piece } if *other == stream(*id) && piece.as_slice() == *bytes),
-        Out::Finish(id) => matches!(action, Action::Finish { id: other } if *other == stream(*id)),
-        Out::Stop(id, code) =>
-            matches!(action, Action::StopOut { id: other, code: sent } if *other == stream(*id) && *sent == number(*code)),
-        Out::Reset(id, code) =>
-            matches!(action, Action::ResetOut { id: other, code: sent } if *other == stream(*id) && *sent == number(*code)),
-        Out::Datagram(bytes) =>
-            matches!(action, Action::DatagramOut { piece } if piece.as_slice() == *bytes),
-        Out::Close(code, bytes) =>
-            matches!(action, Action::Close { code: sent, reason } if *sent == number(*code) && reason.as_slice() == *bytes),
-    }
+/// The request that came.
+pub fn request(rt: &impl Abort, alloc: Global, driver: &mut Driver) -> SessionRequest {
+    let mut incoming = IncomingSession::new().into_future();
+    given(rt, incoming.poll(alloc, driver).expect(rt, "no memory"))
 }
 
-/// The actions that went out are exactly these.
-pub fn expect(rt: &impl Abort, driver: &mut Driver, outs: &[Out]) {
-    let actions = driver.take_actions();
-    assert_eq!(rt; actions.as_slice().len(), outs.len());
-    for (action, out) in actions.as_slice().iter().zip(outs.iter()) {
-        assert!(rt; is_out(action, out));
-    }
+fn accept(rt: &impl Abort, alloc: Global, request: SessionRequest) -> Accepting {
+    request.accept(alloc).expect(rt, "no memory")
+}
+
+fn accepted(
+    rt: &impl Abort,
+    alloc: Global,
+    driver: &mut Driver,
+    accepting: &mut Accepting,
+) -> Connection {
+    given(rt, accepting.poll(alloc, driver).expect(rt, "no memory"))
+}
+
+/// The session of the request that came. What went out is taken.
+pub fn established(rt: &impl Abort, alloc: Global, driver: &mut Driver) -> Connection {
+    let request = request(rt, alloc, driver);
+    let mut accepting = accept(rt, alloc, request);
+    let session = accepted(rt, alloc, driver, &mut accepting);
+    let id = Reply::Id(session.session_id());
+    prints(rt, alloc, driver, id, ACCEPTED);
+    session
 }

@@ -3,7 +3,7 @@
 ghost use Rattle.std.specs.Prelude.{◌≡◌, IfOk, IfSome, false, length, true, ℕ};
 ghost use Rattle.wt_driver.specs.Tie.{Follows};
 ghost use Rattle.wt_laws.specs.Reachable.{IsReachable};
-ghost use Rattle.wt_session.specs.Openings.{IsOpening};
+ghost use Rattle.wt_connection.specs.Openings.{IsOpening};
 ghost use Rattle.wt_session_spec.specs.HalfPlans.{read_reply, write_reply};
 ghost use Rattle.wt_spec.specs.Answers.{call_effect};
 ghost use Rattle.wt_spec.specs.Halves.{has_receiving_half};

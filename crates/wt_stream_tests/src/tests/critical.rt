@@ -1,376 +1,250 @@
-//! Worked bytes, as they come and go out.
+//! Worked bytes of the streams on which a connection rests, as they come and go out.
+use super::rows::{Asked, debugged, rows, says, server};
+use super::typed::{behind_header, into_session, local_control, request};
 use std::alloc::Global;
 use std::process::Abort;
 use wt_critical::connect::ConnectStream;
 use wt_critical::qpack::{RemoteQPackDecStream, RemoteQPackEncStream};
 use wt_critical::settings::{LocalSettingsStream, RemoteSettingsStream, RemoteSettingsWatcher};
-use wt_proto::session::SessionRequest;
-use wt_proto::settings::{SettingId, Settings};
-use wt_proto::stream_header::{StreamHeader, StreamKind};
+use wt_proto::settings::SettingId;
+use wt_proto::stream_header::StreamKind;
 use wt_seam::Transport;
-use wt_turn::action::Action;
-use wt_turn::close::ApplicationClose;
-use wt_turn::datagram_fact::DatagramFact;
-use wt_turn::driver_error::DriverError;
-use wt_turn::loss::LossReason;
-use wt_turn::piece::Piece;
 use wt_turn::poll::Poll;
-use wt_turn::turn::Turn;
-use wt_typed::{
-    Accepted, StreamBiRemoteQuic, StreamSession, StreamUniLocalH3, StreamUniLocalQuic,
-    StreamUniRemoteH3, StreamUniRemoteQuic,
-};
-use wt_wire::error::ErrorCode;
-use wt_wire::ids::StreamId;
-use wt_wire::side::Side;
-use wt_wire::varint::VarInt;
+use wt_typed::{StreamSession, StreamUniLocalH3, StreamUniRemoteH3};
 
-const CLOSED: Poll<DriverError> = Poll::Ready(DriverError::Proto(ErrorCode::ClosedCriticalStream));
-
-const LOST: Poll<DriverError> = Poll::Ready(DriverError::NotConnected);
-
-fn stream(id: u32) -> StreamId {
-    StreamId::new(VarInt::from_u32(id))
-}
-
-// Each call stands in a function of its own: a test then knows nothing of its contract, which makes the
-// test cheap to prove.
-
-fn take(rt: &impl Abort, transport: &mut Transport, turn: &Turn) {
-    let fits = transport.fits(turn);
-    assert!(rt; fits);
-    transport.take(turn).expect(rt, "no memory");
-}
-
-fn come(rt: &impl Abort, transport: &mut Transport, id: u32, bytes: &[u8]) {
-    let id = stream(id);
-    let fit = transport.bytes_fit(id);
-    assert!(rt; fit);
-    transport.take_bytes(id, bytes).expect(rt, "no memory");
-}
-
-fn end(rt: &impl Abort, transport: &mut Transport, id: u32) {
-    take(rt, transport, &Turn::End { id: stream(id) });
-}
-
-fn lose(rt: &impl Abort, transport: &mut Transport) {
-    let reason = LossReason::TimedOut;
-    take(rt, transport, &Turn::Loss { reason });
-}
-
-fn connected(rt: &impl Abort, alloc: Global, credit: u64) -> Transport {
-    let mut transport = Transport::new(alloc, Side::Server);
-    let turn = Turn::Connected {
-        uni: 2,
-        bi: 2,
-        credit,
-        datagrams: DatagramFact::Limit(1200),
-    };
-    take(rt, &mut transport, &turn);
-    transport
-}
-
-/// The bytes that went out since the last such call.
-fn sent(rt: &impl Abort, transport: &mut Transport, bytes: &[u8]) {
-    let mut at = 0;
-    let actions = transport.take_actions();
-    for action in actions.as_slice() {
-        if let Action::Send { id: _, piece } = action {
-            for byte in piece.as_slice() {
-                assert!(rt; at < bytes.len());
-                assert_eq!(rt; *byte, bytes[at]);
-                at += 1;
-            }
-        }
-    }
-    assert_eq!(rt; at, bytes.len());
-}
-
-/// The peer's first unidirectional stream, of this type.
-fn remote(rt: &impl Abort, alloc: Global, t: &mut Transport, kind: u8) -> StreamUniRemoteH3 {
-    take(rt, t, &Turn::PeerUni);
-    let mut accepted = Accepted::new();
-    let answer = StreamUniRemoteQuic::accept_uni(alloc, &mut accepted, t);
-    let mut quic = answer.expect(rt, "no stream");
-    come(rt, t, 2, &[kind]);
-    upgraded(rt, t, &mut quic)
-}
-
-fn upgraded(
-    rt: &impl Abort,
-    t: &mut Transport,
-    quic: &mut StreamUniRemoteQuic,
-) -> StreamUniRemoteH3 {
-    let can_receive = t.can_receive(quic.id());
-    assert!(rt; can_receive && !quic.is_spent());
-    match quic.upgrade(t).expect(rt, "no memory") {
-        Poll::Ready(Ok(http)) => http,
-        _ => panic!(rt; "no header"),
-    }
-}
-
-/// A control stream of this end.
-fn local(rt: &impl Abort, alloc: Global, t: &mut Transport) -> StreamUniLocalH3 {
-    let answer = StreamUniLocalQuic::open_uni(alloc, t).expect(rt, "no memory");
-    let mut quic = answer.expect(rt, "no stream");
-    let header = StreamHeader::new_control();
-    let continues = quic.continues(header).expect(rt, "no memory");
-    let can_write = quic.can_write(t);
-    assert!(rt; continues && can_write && !quic.is_spent());
-    match quic.upgrade(t, header).expect(rt, "no memory") {
-        Poll::Ready(Ok(http)) => http,
-        _ => panic!(rt; "not through"),
-    }
-}
-
-/// The stream of a session, of which nothing was read.
-fn session(rt: &impl Abort, alloc: Global, t: &mut Transport) -> StreamSession {
-    take(rt, t, &Turn::PeerBi);
-    let mut accepted = Accepted::new();
-    let answer = StreamBiRemoteQuic::accept_bi(&mut accepted, t);
-    let http = answer.expect(rt, "no stream").upgrade(alloc);
-    let request = SessionRequest::new(alloc, "h", "/").expect(rt, "no memory");
-    let id = http.id().into_u64();
-    assert!(rt; id % 4 == 0);
-    http.into_session(request)
-}
-
-fn set_control(rt: &impl Abort, s: &mut RemoteSettingsStream, stream: StreamUniRemoteH3) {
-    assert!(rt; s.is_empty());
+fn control_of(rt: &impl Abort, alloc: Global, stream: StreamUniRemoteH3) -> RemoteSettingsStream {
+    let mut s = RemoteSettingsStream::empty(alloc).expect(rt, "no memory");
     let is_control = stream.kind() == StreamKind::Control;
     assert!(rt; is_control);
     s.set_stream(stream);
+    s
 }
 
-fn set_encoder(rt: &impl Abort, s: &mut RemoteQPackEncStream, stream: StreamUniRemoteH3) {
-    assert!(rt; s.is_empty());
+impl Asked for RemoteSettingsStream {
+    fn ask(&mut self, rt: &impl Abort, alloc: Global, t: &mut Transport) -> String {
+        let answer = self.run(t).expect(rt, "no memory");
+        debugged(rt, alloc, &answer)
+    }
+}
+
+fn encoder_of(rt: &impl Abort, alloc: Global, stream: StreamUniRemoteH3) -> RemoteQPackEncStream {
+    let mut s = RemoteQPackEncStream::empty(alloc).expect(rt, "no memory");
     let is_encoder = stream.kind() == StreamKind::QPackEncoder;
     assert!(rt; is_encoder);
     s.set_stream(stream);
+    s
 }
 
-fn set_decoder(rt: &impl Abort, s: &mut RemoteQPackDecStream, stream: StreamUniRemoteH3) {
-    assert!(rt; s.is_empty());
+impl Asked for RemoteQPackEncStream {
+    fn ask(&mut self, rt: &impl Abort, alloc: Global, t: &mut Transport) -> String {
+        let answer = self.run(t).expect(rt, "no memory");
+        debugged(rt, alloc, &answer)
+    }
+}
+
+fn decoder_of(rt: &impl Abort, alloc: Global, stream: StreamUniRemoteH3) -> RemoteQPackDecStream {
+    let mut s = RemoteQPackDecStream::empty(alloc).expect(rt, "no memory");
     let is_decoder = stream.kind() == StreamKind::QPackDecoder;
     assert!(rt; is_decoder);
     s.set_stream(stream);
+    s
 }
 
-fn set_local(rt: &impl Abort, s: &mut LocalSettingsStream, stream: StreamUniLocalH3) {
-    assert!(rt; s.is_empty());
+impl Asked for RemoteQPackDecStream {
+    fn ask(&mut self, rt: &impl Abort, alloc: Global, t: &mut Transport) -> String {
+        let answer = self.run(t).expect(rt, "no memory");
+        debugged(rt, alloc, &answer)
+    }
+}
+
+fn local_of(rt: &impl Abort, alloc: Global, stream: StreamUniLocalH3) -> LocalSettingsStream {
+    let mut s = LocalSettingsStream::empty(alloc).expect(rt, "no memory");
     let is_control = stream.kind() == StreamKind::Control;
     assert!(rt; is_control);
     s.set_stream(stream);
+    s
 }
 
-fn run_control(
+impl Asked for LocalSettingsStream {
+    fn ask(&mut self, rt: &impl Abort, alloc: Global, t: &mut Transport) -> String {
+        let can_send = self.can_send(t);
+        let continues = self.continues().expect(rt, "no memory");
+        assert!(rt; can_send && continues);
+        let answer = self.send_settings(t).expect(rt, "no memory");
+        debugged(rt, alloc, &answer)
+    }
+}
+
+fn connect_of(rt: &impl Abort, alloc: Global, stream: StreamSession) -> ConnectStream {
+    let mut s = ConnectStream::empty(alloc).expect(rt, "no memory");
+    s.set_stream(stream);
+    s
+}
+
+impl Asked for ConnectStream {
+    fn ask(&mut self, rt: &impl Abort, alloc: Global, t: &mut Transport) -> String {
+        let answer = self.run(t).expect(rt, "no memory");
+        debugged(rt, alloc, &answer)
+    }
+}
+
+/// A watcher gives how many blocked streams the peer's SETTINGS allow, as this text says.
+fn gives(
     rt: &impl Abort,
-    s: &mut RemoteSettingsStream,
-    t: &mut Transport,
-) -> Poll<DriverError> {
-    s.run(t).expect(rt, "no memory")
-}
-
-fn run_encoder(
-    rt: &impl Abort,
-    s: &mut RemoteQPackEncStream,
-    t: &mut Transport,
-) -> Poll<DriverError> {
-    s.run(t).expect(rt, "no memory")
-}
-
-fn run_decoder(
-    rt: &impl Abort,
-    s: &mut RemoteQPackDecStream,
-    t: &mut Transport,
-) -> Poll<DriverError> {
-    s.run(t).expect(rt, "no memory")
-}
-
-fn run_local(rt: &impl Abort, s: &mut LocalSettingsStream, t: &mut Transport) -> Poll<DriverError> {
-    s.run(t).expect(rt, "no memory")
-}
-
-fn run_session(rt: &impl Abort, s: &mut ConnectStream, t: &mut Transport) -> Poll<DriverError> {
-    s.run(t).expect(rt, "no memory")
-}
-
-fn send(
-    rt: &impl Abort,
-    s: &mut LocalSettingsStream,
-    t: &mut Transport,
-) -> Poll<Result<(), DriverError>> {
-    let can_send = s.can_send(t);
-    let continues = s.continues().expect(rt, "no memory");
-    assert!(rt; can_send && continues);
-    s.send_settings(t).expect(rt, "no memory")
-}
-
-fn watch(watcher: &mut RemoteSettingsWatcher, s: &RemoteSettingsStream) -> Poll<Settings> {
-    watcher.accept_settings(s)
-}
-
-fn fault(code: ErrorCode) -> Poll<DriverError> {
-    Poll::Ready(DriverError::Proto(code))
-}
-
-fn closed(rt: &impl Abort, alloc: Global, code: u32, reason: &[u8]) -> Poll<DriverError> {
-    let reason = Piece::from_slice(alloc, reason).expect(rt, "no memory");
-    let close = ApplicationClose::new(VarInt::from_u32(code), reason);
-    Poll::Ready(DriverError::ApplicationClosed(close))
+    alloc: Global,
+    watcher: &mut RemoteSettingsWatcher,
+    s: &RemoteSettingsStream,
+    text: &str,
+) {
+    let given = match watcher.accept_settings(s) {
+        Poll::Ready(settings) => settings.get(SettingId::QPackBlockedStreams),
+        Poll::Pending => None,
+    };
+    says(rt, alloc, &given, text);
 }
 
 #[test]
 fn settings_come_in_pieces_and_are_given_once(rt: HostRuntime) {
     let alloc = rt.alloc();
-    let mut t = connected(&rt, alloc, 9);
-    let mut s = RemoteSettingsStream::empty(alloc).expect(&rt, "no memory");
-    assert!(rt; run_control(&rt, &mut s, &mut t) == Poll::Pending);
-    let stream = remote(&rt, alloc, &mut t, 0x00);
-    set_control(&rt, &mut s, stream);
+    let mut t = server(&rt, alloc, "connected 2 2 9 1200\npeer_uni");
+    let stream = behind_header(&rt, alloc, &mut t, "bytes 2 00\n> Control");
+    let mut s = control_of(&rt, alloc, stream);
     let mut first = s.subscribe();
-    come(&rt, &mut t, 2, &[0x04, 0x02]);
-    assert!(rt; run_control(&rt, &mut s, &mut t) == Poll::Pending);
-    assert!(rt; watch(&mut first, &s) == Poll::Pending);
-    come(&rt, &mut t, 2, &[0x07, 0x05, 0x21, 0x01]);
-    assert!(rt; run_control(&rt, &mut s, &mut t) == Poll::Pending);
-    match watch(&mut first, &s) {
-        Poll::Ready(settings) => {
-            let value = Some(VarInt::from_u32(5));
-            assert!(rt; settings.get(SettingId::QPackBlockedStreams) == value);
-        }
-        Poll::Pending => panic!(&rt; "no settings"),
-    }
-    assert!(rt; watch(&mut first, &s) == Poll::Pending);
+    rows(&rt, alloc, &mut t, &mut s, "bytes 2 0402\n> Pending");
+    gives(&rt, alloc, &mut first, &s, "None");
+    rows(&rt, alloc, &mut t, &mut s, "bytes 2 07052101\n> Pending");
+    gives(&rt, alloc, &mut first, &s, "Some(VarInt { value: 5 })");
+    gives(&rt, alloc, &mut first, &s, "None");
     let mut second = s.subscribe();
-    assert!(rt; watch(&mut second, &s) != Poll::Pending);
-    come(&rt, &mut t, 2, &[0x00, 0x00, 0x00, 0x00]);
-    let unexpected = fault(ErrorCode::FrameUnexpected);
-    assert!(rt; run_control(&rt, &mut s, &mut t) == unexpected);
-    assert_eq!(rt; t.unread(self::stream(2)), 0);
-    lose(&rt, &mut t);
-    assert!(rt; run_control(&rt, &mut s, &mut t) == unexpected);
+    gives(&rt, alloc, &mut second, &s, "Some(VarInt { value: 5 })");
+    let again = "bytes 2 00000000\n\
+        > Ready(Proto(FrameUnexpected))\n\
+        loss timed_out\n\
+        > Ready(Proto(FrameUnexpected))";
+    rows(&rt, alloc, &mut t, &mut s, again);
 }
 
-fn control(rt: &impl Abort, alloc: Global, bytes: &[u8], turn: Option<Turn>) -> Poll<DriverError> {
-    let mut t = connected(rt, alloc, 9);
-    let mut s = RemoteSettingsStream::empty(alloc).expect(rt, "no memory");
-    let stream = remote(rt, alloc, &mut t, 0x00);
-    set_control(rt, &mut s, stream);
-    come(rt, &mut t, 2, bytes);
-    if let Some(turn) = turn {
-        take(rt, &mut t, &turn);
-    }
-    run_control(rt, &mut s, &mut t)
+/// The peer's control stream, whose header came alone.
+fn control(rt: &impl Abort, alloc: Global, text: &str) {
+    let mut t = server(rt, alloc, "connected 2 2 9 1200\npeer_uni");
+    let stream = behind_header(rt, alloc, &mut t, "bytes 2 00\n> Control");
+    let mut s = control_of(rt, alloc, stream);
+    rows(rt, alloc, &mut t, &mut s, text);
 }
 
 #[test]
 fn control_streams_at_fault(rt: HostRuntime) {
-    let alloc = rt.alloc();
-    let id = stream(2);
-    let code = VarInt::from_u32(1);
-    let reason = LossReason::Reset;
-    let settings = [0x04, 0x00];
-    assert!(rt; control(&rt, alloc, &settings, None) == Poll::Pending);
-    assert!(rt; control(&rt, alloc, &settings, Some(Turn::End { id })) == CLOSED);
-    assert!(rt; control(&rt, alloc, &[], Some(Turn::Reset { id, code })) == CLOSED);
-    assert!(rt; control(&rt, alloc, &settings, Some(Turn::Loss { reason })) == LOST);
-    let missing = fault(ErrorCode::MissingSettings);
-    assert!(rt; control(&rt, alloc, &[0x21, 0x00], None) == missing);
-    let again = fault(ErrorCode::FrameUnexpected);
-    assert!(rt; control(&rt, alloc, &[0x04, 0x00, 0x04, 0x00], None) == again);
+    let cases = [
+        "bytes 2 0400\n> Pending",
+        "bytes 2 0400\nend 2\n> Ready(Proto(ClosedCriticalStream))",
+        "reset 2 1\n> Ready(Proto(ClosedCriticalStream))",
+        "bytes 2 0400\nloss reset\n> Ready(NotConnected)",
+        "bytes 2 2100\n> Ready(Proto(MissingSettings))",
+        "bytes 2 04000400\n> Ready(Proto(FrameUnexpected))",
+    ];
+    for text in cases {
+        control(&rt, rt.alloc(), text);
+    }
 }
 
 #[test]
 fn an_encoder_stream_ends(rt: HostRuntime) {
     let alloc = rt.alloc();
-    let mut t = connected(&rt, alloc, 9);
-    let mut s = RemoteQPackEncStream::empty(alloc).expect(&rt, "no memory");
-    let stream = remote(&rt, alloc, &mut t, 0x02);
-    set_encoder(&rt, &mut s, stream);
-    come(&rt, &mut t, 2, &[0x3f, 0xbd, 0x01]);
-    assert!(rt; run_encoder(&rt, &mut s, &mut t) == Poll::Pending);
-    assert_eq!(rt; t.unread(self::stream(2)), 0);
-    end(&rt, &mut t, 2);
-    assert!(rt; run_encoder(&rt, &mut s, &mut t) == CLOSED);
-    lose(&rt, &mut t);
-    assert!(rt; run_encoder(&rt, &mut s, &mut t) == CLOSED);
+    let mut t = server(&rt, alloc, "connected 2 2 9 1200\npeer_uni");
+    let stream = behind_header(&rt, alloc, &mut t, "bytes 2 02\n> QPackEncoder");
+    let mut s = encoder_of(&rt, alloc, stream);
+    let text = "bytes 2 3fbd01\n\
+        > Pending\n\
+        end 2\n\
+        > Ready(Proto(ClosedCriticalStream))\n\
+        loss timed_out\n\
+        > Ready(Proto(ClosedCriticalStream))";
+    rows(&rt, alloc, &mut t, &mut s, text);
 }
 
 #[test]
 fn a_decoder_stream_is_lost(rt: HostRuntime) {
     let alloc = rt.alloc();
-    let mut t = connected(&rt, alloc, 9);
-    let mut s = RemoteQPackDecStream::empty(alloc).expect(&rt, "no memory");
-    let stream = remote(&rt, alloc, &mut t, 0x03);
-    set_decoder(&rt, &mut s, stream);
-    assert!(rt; run_decoder(&rt, &mut s, &mut t) == Poll::Pending);
-    lose(&rt, &mut t);
-    assert!(rt; run_decoder(&rt, &mut s, &mut t) == LOST);
-    let mut none = RemoteQPackDecStream::empty(alloc).expect(&rt, "no memory");
-    assert!(rt; run_decoder(&rt, &mut none, &mut t) == Poll::Pending);
+    let mut t = server(&rt, alloc, "connected 2 2 9 1200\npeer_uni");
+    let stream = behind_header(&rt, alloc, &mut t, "bytes 2 03\n> QPackDecoder");
+    let mut s = decoder_of(&rt, alloc, stream);
+    let text = "> Pending\nloss timed_out\n> Ready(NotConnected)";
+    rows(&rt, alloc, &mut t, &mut s, text);
 }
 
 #[test]
-fn settings_go_out_as_credit_comes(rt: HostRuntime) {
+fn settings_go_out_once_as_credit_comes(rt: HostRuntime) {
     let alloc = rt.alloc();
-    let mut t = connected(&rt, alloc, 3);
-    let mut s = LocalSettingsStream::empty(alloc).expect(&rt, "no memory");
-    let http = local(&rt, alloc, &mut t);
-    set_local(&rt, &mut s, http);
-    assert!(rt; send(&rt, &mut s, &mut t) == Poll::Pending);
-    sent(&rt, &mut t, &[0x00, 0x04, 0x16]);
-    let id = stream(3);
-    take(&rt, &mut t, &Turn::MaxData { id, total: 99 });
-    assert!(rt; send(&rt, &mut s, &mut t) == Poll::Ready(Ok(())));
-    let rest = [
-        0x01, 0x00, 0x07, 0x00, 0x08, 0x01, 0x33, 0x01, 0xab, 0x60, 0x37, 0x42, 0x01, 0xc0, 0x00,
-        0x00, 0x00, 0xc6, 0x71, 0x70, 0x6a, 0x01,
-    ];
-    sent(&rt, &mut t, &rest);
-    assert!(rt; run_local(&rt, &mut s, &mut t) == Poll::Pending);
-    let code = VarInt::from_u32(7);
-    take(&rt, &mut t, &Turn::Stop { id, code });
-    assert!(rt; run_local(&rt, &mut s, &mut t) == CLOSED);
-    let stopped = Poll::Ready(Err(DriverError::Proto(ErrorCode::ClosedCriticalStream)));
-    assert!(rt; send(&rt, &mut s, &mut t) == stopped);
-    lose(&rt, &mut t);
-    assert!(rt; run_local(&rt, &mut s, &mut t) == CLOSED);
-    let lost = Poll::Ready(Err(DriverError::NotConnected));
-    assert!(rt; send(&rt, &mut s, &mut t) == lost);
+    let mut t = server(&rt, alloc, "connected 2 2 3 1200");
+    let stream = local_control(&rt, alloc, &mut t);
+    let mut s = local_of(&rt, alloc, stream);
+    let text = "> Pending\n\
+        done ; opened 3 ; send 3 000416\n\
+        max_data 3 99\n\
+        > Ready(Ok(()))\n\
+        done ; send 3 0100070008013301ab60374201c0000000c671706a01\n\
+        stop 3 7\n\
+        > Ready(Ok(()))\n\
+        done\n\
+        loss timed_out\n\
+        > Ready(Err(NotConnected))";
+    rows(&rt, alloc, &mut t, &mut s, text);
 }
 
-fn connect(rt: &impl Abort, alloc: Global, bytes: &[u8], turn: Option<Turn>) -> Poll<DriverError> {
-    let mut t = connected(rt, alloc, 9);
-    let mut s = ConnectStream::empty(alloc).expect(rt, "no memory");
-    assert!(rt; s.is_empty());
-    s.set_stream(session(rt, alloc, &mut t));
-    for byte in bytes {
-        assert!(rt; run_session(rt, &mut s, &mut t) == Poll::Pending);
-        come(rt, &mut t, 0, &[*byte]);
-    }
-    if let Some(turn) = turn {
-        take(rt, &mut t, &turn);
-    }
-    run_session(rt, &mut s, &mut t)
+#[test]
+fn a_stop_before_settings_are_out_is_told(rt: HostRuntime) {
+    let alloc = rt.alloc();
+    let mut t = server(&rt, alloc, "connected 2 2 3 1200");
+    let stream = local_control(&rt, alloc, &mut t);
+    let mut s = local_of(&rt, alloc, stream);
+    let text = "> Pending\n\
+        stop 3 7\n\
+        > Ready(Err(Proto(ClosedCriticalStream)))";
+    rows(&rt, alloc, &mut t, &mut s, text);
 }
+
+/// A session's stream.
+fn connect(rt: &impl Abort, alloc: Global, text: &str) {
+    let mut t = server(rt, alloc, "connected 2 2 9 1200\npeer_bi");
+    let request = request(rt, alloc, &mut t);
+    let session = into_session(rt, alloc, request);
+    let mut s = connect_of(rt, alloc, session);
+    rows(rt, alloc, &mut t, &mut s, text);
+}
+
+/// A capsule that closes the session, byte by byte.
+const CAPSULE: &str = "bytes 0 00\n> Pending\n\
+    bytes 0 09\n> Pending\n\
+    bytes 0 68\n> Pending\n\
+    bytes 0 43\n> Pending\n\
+    bytes 0 06\n> Pending\n\
+    bytes 0 00\n> Pending\n\
+    bytes 0 00\n> Pending\n\
+    bytes 0 00\n> Pending\n\
+    bytes 0 07\n> Pending\n\
+    bytes 0 68\n> Pending\n\
+    bytes 0 69\n\
+    > Ready(ApplicationClosed(PeerClose { code: VarInt { value: 7 }, \
+    reason: Piece { bytes: [104, 105] }, by: PhantomData<_> }))";
+
+/// The end between frames.
+const END: &str = "bytes 0 00\n> Pending\n\
+    bytes 0 0100\n> Pending\n\
+    end 0\n\
+    > Ready(ApplicationClosed(PeerClose { code: VarInt { value: 0 }, \
+    reason: Piece { bytes: [] }, by: PhantomData<_> }))";
 
 #[test]
 fn sessions_end(rt: HostRuntime) {
-    let alloc = rt.alloc();
-    let id = stream(0);
-    let code = VarInt::from_u32(1);
-    let reason = LossReason::Reset;
-    let capsule = [
-        0x00, 0x09, 0x68, 0x43, 0x06, 0x00, 0x00, 0x00, 0x07, 0x68, 0x69,
+    let cases = [
+        CAPSULE,
+        END,
+        "bytes 0 00\nend 0\n> Ready(Proto(ClosedCriticalStream))",
+        "bytes 0 000100\nreset 0 1\n> Ready(Proto(ClosedCriticalStream))",
+        "bytes 0 000100\nloss reset\n> Ready(NotConnected)",
+        "bytes 0 0006684303000007\n> Ready(Proto(Message))",
     ];
-    assert!(rt; connect(&rt, alloc, &capsule, None) == closed(&rt, alloc, 7, b"hi"));
-    let data = [0x00, 0x01, 0x00];
-    assert!(rt; connect(&rt, alloc, &data, None) == Poll::Pending);
-    assert!(rt; connect(&rt, alloc, &data, Some(Turn::End { id })) == closed(&rt, alloc, 0, b""));
-    assert!(rt; connect(&rt, alloc, &[0x00], Some(Turn::End { id })) == CLOSED);
-    assert!(rt; connect(&rt, alloc, &data, Some(Turn::Reset { id, code })) == CLOSED);
-    assert!(rt; connect(&rt, alloc, &data, Some(Turn::Loss { reason })) == LOST);
-    let short = [0x00, 0x06, 0x68, 0x43, 0x03, 0x00, 0x00, 0x07];
-    assert!(rt; connect(&rt, alloc, &short, None) == fault(ErrorCode::Message));
+    for text in cases {
+        connect(&rt, rt.alloc(), text);
+    }
 }

@@ -1,32 +1,18 @@
-//! What the contracts leave open: that memory suffices where there is enough. Bytes come from outside.
+//! Worked cases of an inbox as lines of text, one after another:
+//!
+//! ```text
+//! bytes 2 40     an event, as a script spells it: the inbox takes it
+//! uni > false    the question answers this, as it is debugged
+//! ```
+//!
+//! Of the peer's unidirectional streams its stream 2 is asked, of the others its stream 0.
+use super::rows::{debugged, event, stream};
 use std::alloc::Global;
 use std::process::Abort;
 use wt_inbox::inbox::Inbox;
-use wt_proto::control_walk::ControlWalk;
 use wt_proto::response_walk::ResponseWalk;
-use wt_proto::session_walk::SessionWalk;
-use wt_proto::verdict::Verdict;
-use wt_turn::datagram_fact::DatagramFact;
 use wt_turn::turn::Turn;
-use wt_wire::error::ErrorCode;
-use wt_wire::ids::StreamId;
 use wt_wire::side::Side;
-use wt_wire::varint::VarInt;
-
-const RESPONSE: &[u8] = b"\x01\x0f\x00\x00\x27\x00:status\x03200";
-
-/// A capsule that closes a session with code 7.
-const CLOSE: &[u8] = b"\x00\x0a\x68\x43\x07\x00\x00\x00\x07bye";
-
-/// SETTINGS behind the type of a control stream.
-const CONTROL: &[u8] = b"\x00\x0d\x02ab\x04\x02\x08\x01";
-
-fn stream(id: u32) -> StreamId {
-    StreamId::new(VarInt::from_u32(id))
-}
-
-// Each call stands in a function of its own: a test then knows nothing of its contract, which makes the
-// test cheap to prove.
 
 fn take(rt: &impl Abort, inbox: &mut Inbox, turn: &Turn) {
     let fits = inbox.fits(turn);
@@ -34,202 +20,221 @@ fn take(rt: &impl Abort, inbox: &mut Inbox, turn: &Turn) {
     inbox.take(turn).expect(rt, "no memory");
 }
 
-fn take_bytes(rt: &impl Abort, inbox: &mut Inbox, id: StreamId, bytes: &[u8]) {
+fn take_bytes(rt: &impl Abort, inbox: &mut Inbox, bytes: &[u8]) {
+    let id = stream(0);
     let fit = inbox.bytes_fit(id);
     assert!(rt; fit);
     inbox.take_bytes(id, bytes).expect(rt, "no memory");
 }
 
-fn connected(rt: &impl Abort, alloc: Global) -> Inbox {
+fn has_uni(rt: &impl Abort, inbox: &mut Inbox) -> bool {
+    inbox.has_uni_verdict(stream(2)).expect(rt, "no memory")
+}
+
+/// The verdict of a unidirectional stream, which is released by it; `false` before there is one.
+fn uni(rt: &impl Abort, alloc: Global, inbox: &mut Inbox) -> String {
+    if !has_uni(rt, inbox) {
+        return debugged(rt, alloc, &false);
+    }
+    let verdict = inbox.release_uni(stream(2)).expect(rt, "no memory");
+    debugged(rt, alloc, &verdict)
+}
+
+fn has_bi(rt: &impl Abort, inbox: &mut Inbox) -> bool {
+    inbox.has_bi_verdict(stream(0)).expect(rt, "no memory")
+}
+
+/// The verdict of a bidirectional stream alike.
+fn bi(rt: &impl Abort, alloc: Global, inbox: &mut Inbox) -> String {
+    if !has_bi(rt, inbox) {
+        return debugged(rt, alloc, &false);
+    }
+    let verdict = inbox.release_bi(stream(0)).expect(rt, "no memory");
+    debugged(rt, alloc, &verdict)
+}
+
+/// Whether SETTINGS came, and the fault.
+fn control(rt: &impl Abort, alloc: Global, inbox: &mut Inbox) -> String {
+    let walk = inbox.control_walk(stream(2)).expect(rt, "no memory");
+    debugged(rt, alloc, &(walk.settings.is_some(), walk.fault))
+}
+
+fn has_end(rt: &impl Abort, inbox: &mut Inbox) -> bool {
+    inbox.has_session_end(stream(0)).expect(rt, "no memory")
+}
+
+/// The end of a session, and whether its bytes alone ended it; `false` before.
+fn session(rt: &impl Abort, alloc: Global, inbox: &mut Inbox) -> String {
+    if !has_end(rt, inbox) {
+        return debugged(rt, alloc, &false);
+    }
+    let end = inbox.release_session(stream(0)).expect(rt, "no memory");
+    debugged(rt, alloc, &end)
+}
+
+fn has_response(rt: &impl Abort, inbox: &mut Inbox) -> bool {
+    inbox.has_response(stream(0)).expect(rt, "no memory")
+}
+
+/// The offset of a response, of which the reader is kept; None before it is there.
+fn offset(rt: &impl Abort, inbox: &mut Inbox) -> Option<usize> {
+    match inbox.response(stream(0)).expect(rt, "no memory") {
+        ResponseWalk::Response(_, at) => Some(at),
+        _ => None,
+    }
+}
+
+/// The offset of a response, which is released by it; `false` before.
+fn response(rt: &impl Abort, alloc: Global, inbox: &mut Inbox) -> String {
+    if !has_response(rt, inbox) {
+        return debugged(rt, alloc, &false);
+    }
+    let walk = inbox.release_response(stream(0)).expect(rt, "no memory");
+    debugged(rt, alloc, &walk)
+}
+
+/// How many bytes of both streams are unread, and how many readers are kept.
+fn kept(rt: &impl Abort, alloc: Global, inbox: &Inbox) -> String {
+    let uni = inbox.unread(stream(2));
+    let bi = inbox.unread(stream(0));
+    debugged(rt, alloc, &(uni, bi, inbox.readers()))
+}
+
+fn ask(rt: &impl Abort, alloc: Global, inbox: &mut Inbox, question: &str) -> String {
+    if question == "uni" {
+        return uni(rt, alloc, inbox);
+    }
+    if question == "bi" {
+        return bi(rt, alloc, inbox);
+    }
+    if question == "control" {
+        return control(rt, alloc, inbox);
+    }
+    if question == "session" {
+        return session(rt, alloc, inbox);
+    }
+    if question == "offset" {
+        return debugged(rt, alloc, &offset(rt, inbox));
+    }
+    if question == "response" {
+        return response(rt, alloc, inbox);
+    }
+    kept(rt, alloc, inbox)
+}
+
+fn row(rt: &impl Abort, alloc: Global, inbox: &mut Inbox, line: &str) {
+    match line.split_once(" > ") {
+        Some((question, answer)) => {
+            let said = ask(rt, alloc, inbox, question);
+            assert_eq!(rt; said.as_str(), answer);
+        }
+        None => take(rt, inbox, &event(rt, alloc, line)),
+    }
+}
+
+fn rows(rt: &impl Abort, alloc: Global, inbox: &mut Inbox, text: &str) {
+    for line in text.lines() {
+        row(rt, alloc, inbox, line);
+    }
+}
+
+/// The inbox of a server to which the peer opened both streams, after these lines.
+fn after(rt: &impl Abort, alloc: Global, text: &str) -> Inbox {
     let mut inbox = Inbox::new(alloc, Side::Server);
-    let turn = Turn::Connected {
-        uni: 3,
-        bi: 3,
-        credit: 100,
-        datagrams: DatagramFact::Limit(1200),
-    };
-    take(rt, &mut inbox, &turn);
-    take(rt, &mut inbox, &Turn::PeerUni);
-    take(rt, &mut inbox, &Turn::PeerBi);
+    let opening = "connected 3 3 100 1200\npeer_uni\npeer_bi";
+    rows(rt, alloc, &mut inbox, opening);
+    rows(rt, alloc, &mut inbox, text);
     inbox
 }
 
-fn has_uni(rt: &impl Abort, inbox: &mut Inbox, id: StreamId) -> bool {
-    inbox.has_uni_verdict(id).expect(rt, "no memory")
-}
+/// A header, whole; its body stays.
+const WHOLE: &str = "uni > false\n\
+    kept > (0, 0, 1)\n\
+    bytes 2 4054006869\n\
+    uni > WebTransport(SessionId { id: StreamId { id: VarInt { value: 0 } } }, 3)\n\
+    kept > (2, 0, 0)";
 
-fn has_bi(rt: &impl Abort, inbox: &mut Inbox, id: StreamId) -> bool {
-    inbox.has_bi_verdict(id).expect(rt, "no memory")
-}
+/// The same in single bytes.
+const SINGLE_BYTES: &str = "bytes 2 40\n\
+    uni > false\n\
+    bytes 2 54\n\
+    uni > false\n\
+    bytes 2 00\n\
+    bytes 2 6869\n\
+    uni > WebTransport(SessionId { id: StreamId { id: VarInt { value: 0 } } }, 3)\n\
+    kept > (2, 0, 0)";
 
-fn release_uni(rt: &impl Abort, inbox: &mut Inbox, id: StreamId) -> Verdict {
-    inbox.release_uni(id).expect(rt, "no memory")
-}
-
-fn release_bi(rt: &impl Abort, inbox: &mut Inbox, id: StreamId) -> Verdict {
-    inbox.release_bi(id).expect(rt, "no memory")
-}
-
-fn control(rt: &impl Abort, inbox: &mut Inbox, id: StreamId) -> ControlWalk {
-    inbox.control_walk(id).expect(rt, "no memory")
-}
-
-fn has_end(rt: &impl Abort, inbox: &mut Inbox, id: StreamId) -> bool {
-    inbox.has_session_end(id).expect(rt, "no memory")
-}
-
-fn release_session(rt: &impl Abort, inbox: &mut Inbox, id: StreamId) -> (SessionWalk, bool) {
-    inbox.release_session(id).expect(rt, "no memory")
-}
-
-fn has_response(rt: &impl Abort, inbox: &mut Inbox, id: StreamId) -> bool {
-    inbox.has_response(id).expect(rt, "no memory")
-}
-
-fn is_response_there(rt: &impl Abort, inbox: &mut Inbox, id: StreamId) -> bool {
-    let walk = inbox.response(id).expect(rt, "no memory");
-    matches!(walk, ResponseWalk::Response(_, 17))
-}
-
-fn release_response(rt: &impl Abort, inbox: &mut Inbox, id: StreamId) -> ResponseWalk {
-    inbox.release_response(id).expect(rt, "no memory")
-}
-
-fn unread(inbox: &Inbox, id: StreamId) -> u64 {
-    inbox.unread(id)
-}
-
-fn readers(inbox: &Inbox) -> usize {
-    inbox.readers()
-}
-
-fn give_up(rt: &impl Abort, inbox: &mut Inbox, id: StreamId) {
-    let can = inbox.can_receive(id);
-    assert!(rt; can);
-    inbox.give_up(id);
-}
-
-fn is_of_session(verdict: &Verdict) -> bool {
-    matches!(verdict, Verdict::WebTransport(_, 3))
-}
+/// An end inside a header.
+const CUT: &str = "bytes 2 40\n\
+    uni > false\n\
+    end 2\n\
+    uni > Dropped";
 
 #[test]
-fn a_whole_header_is_read_and_its_body_stays(rt: HostRuntime) {
-    let mut inbox = connected(&rt, rt.alloc());
-    let id = stream(2);
-    assert!(rt; !has_uni(&rt, &mut inbox, id));
-    take_bytes(&rt, &mut inbox, id, b"\x40\x54\x00hi");
-    assert!(rt; has_uni(&rt, &mut inbox, id));
-    assert!(rt; has_uni(&rt, &mut inbox, id));
-    assert_eq!(rt; readers(&inbox), 1);
-    assert!(rt; is_of_session(&release_uni(&rt, &mut inbox, id)));
-    assert_eq!(rt; readers(&inbox), 0);
-    assert_eq!(rt; unread(&inbox, id), 2);
-}
-
-#[test]
-fn a_header_in_single_bytes_is_the_same(rt: HostRuntime) {
-    let mut inbox = connected(&rt, rt.alloc());
-    let id = stream(2);
-    for byte in b"\x40\x54" {
-        take_bytes(&rt, &mut inbox, id, &[*byte]);
-        assert!(rt; !has_uni(&rt, &mut inbox, id));
-    }
-    take_bytes(&rt, &mut inbox, id, b"\x00");
-    take_bytes(&rt, &mut inbox, id, b"hi");
-    assert!(rt; is_of_session(&release_uni(&rt, &mut inbox, id)));
-    assert_eq!(rt; unread(&inbox, id), 2);
-}
-
-#[test]
-fn an_end_inside_a_header_is_told(rt: HostRuntime) {
-    let mut inbox = connected(&rt, rt.alloc());
-    let id = stream(2);
-    take_bytes(&rt, &mut inbox, id, b"\x40");
-    assert!(rt; !has_uni(&rt, &mut inbox, id));
-    take(&rt, &mut inbox, &Turn::End { id });
-    assert!(rt; has_uni(&rt, &mut inbox, id));
-    assert!(rt; matches!(release_uni(&rt, &mut inbox, id), Verdict::Dropped));
-    give_up(&rt, &mut inbox, id);
-    assert_eq!(rt; unread(&inbox, id), 0);
+fn headers_are_read_whole_in_pieces_and_to_an_end(rt: HostRuntime) {
+    after(&rt, rt.alloc(), WHOLE);
+    after(&rt, rt.alloc(), SINGLE_BYTES);
+    after(&rt, rt.alloc(), CUT);
 }
 
 #[test]
 fn a_control_stream_is_walked_byte_by_byte(rt: HostRuntime) {
-    let mut inbox = connected(&rt, rt.alloc());
-    let id = stream(2);
-    take_bytes(&rt, &mut inbox, id, &CONTROL[..1]);
-    assert!(rt; matches!(release_uni(&rt, &mut inbox, id), Verdict::Control(1)));
-    for byte in &CONTROL[1..8] {
-        take_bytes(&rt, &mut inbox, id, &[*byte]);
-        assert!(rt; control(&rt, &mut inbox, id).settings.is_none());
-    }
-    take_bytes(&rt, &mut inbox, id, &CONTROL[8..]);
-    assert!(rt; control(&rt, &mut inbox, id).settings.is_some());
-    assert_eq!(rt; unread(&inbox, id), 0);
-    take(&rt, &mut inbox, &Turn::End { id });
-    let walk = control(&rt, &mut inbox, id);
-    assert!(rt; walk.fault == Some(ErrorCode::ClosedCriticalStream));
-    assert_eq!(rt; readers(&inbox), 1);
+    let text = "bytes 2 00\n\
+        uni > Control(1)\n\
+        bytes 2 0d\ncontrol > (false, None)\n\
+        bytes 2 02\ncontrol > (false, None)\n\
+        bytes 2 61\ncontrol > (false, None)\n\
+        bytes 2 62\ncontrol > (false, None)\n\
+        bytes 2 04\ncontrol > (false, None)\n\
+        bytes 2 02\ncontrol > (false, None)\n\
+        bytes 2 08\ncontrol > (false, None)\n\
+        bytes 2 01\ncontrol > (true, None)\n\
+        kept > (0, 0, 1)\n\
+        end 2\n\
+        control > (true, Some(ClosedCriticalStream))";
+    after(&rt, rt.alloc(), text);
 }
 
 #[test]
 fn a_long_skipped_frame_is_let_go_as_it_comes(rt: HostRuntime) {
-    let mut inbox = connected(&rt, rt.alloc());
-    let id = stream(0);
-    take_bytes(&rt, &mut inbox, id, b"\x21\x53\x88");
+    let alloc = rt.alloc();
+    let mut inbox = after(&rt, alloc, "bytes 0 215388");
     for _ in 0..5 {
-        take_bytes(&rt, &mut inbox, id, &[7; 1000]);
-        assert!(rt; !has_bi(&rt, &mut inbox, id));
-        assert_eq!(rt; unread(&inbox, id), 0);
+        take_bytes(&rt, &mut inbox, &[7; 1000]);
+        rows(&rt, alloc, &mut inbox, "bi > false\nkept > (0, 0, 1)");
     }
-    take_bytes(&rt, &mut inbox, id, b"\x40\x41\x00x");
-    assert!(rt; has_bi(&rt, &mut inbox, id));
-    assert!(rt;
-        matches!(
-            release_bi(&rt, &mut inbox, id),
-            Verdict::WebTransport(_, 5006)
-        )
-    );
-    assert_eq!(rt; unread(&inbox, id), 1);
+    let text = "bytes 0 40410078\n\
+        bi > WebTransport(SessionId { id: StreamId { id: VarInt { value: 0 } } }, 5006)\n\
+        kept > (0, 1, 0)";
+    rows(&rt, alloc, &mut inbox, text);
 }
+
+/// A capsule closes the session with code 7 and a reason.
+const BY_BYTES: &str = "session > false\n\
+    bytes 0 000a68430700000007627965\n\
+    session > (Closed(VarInt { value: 7 }, Text { text: \"bye\" }), true)";
+
+/// The end between frames closes it with code 0.
+const BY_END: &str = "session > false\n\
+    end 0\n\
+    session > (Closed(VarInt { value: 0 }, Text { text: \"\" }), false)";
 
 #[test]
 fn a_session_ends_by_its_bytes_or_its_end(rt: HostRuntime) {
-    let mut inbox = connected(&rt, rt.alloc());
-    let id = stream(0);
-    take_bytes(&rt, &mut inbox, id, CLOSE);
-    take(&rt, &mut inbox, &Turn::PeerBi);
-    assert!(rt; has_end(&rt, &mut inbox, id));
-    let (walk, by_bytes) = release_session(&rt, &mut inbox, id);
-    assert!(rt; by_bytes);
-    assert!(rt; matches!(walk, SessionWalk::Closed(_, _)));
-    let other = stream(4);
-    assert!(rt; !has_end(&rt, &mut inbox, other));
-    take(&rt, &mut inbox, &Turn::End { id: other });
-    assert!(rt; has_end(&rt, &mut inbox, other));
-    let (walk, by_bytes) = release_session(&rt, &mut inbox, other);
-    assert!(rt; !by_bytes);
-    assert!(rt; matches!(walk, SessionWalk::Closed(_, _)));
+    after(&rt, rt.alloc(), BY_BYTES);
+    after(&rt, rt.alloc(), BY_END);
 }
 
 #[test]
 fn a_response_is_read_up_to_its_last_byte(rt: HostRuntime) {
-    let mut inbox = connected(&rt, rt.alloc());
-    let id = stream(0);
-    take_bytes(&rt, &mut inbox, id, &RESPONSE[..16]);
-    assert!(rt; !has_response(&rt, &mut inbox, id));
-    assert!(rt; !is_response_there(&rt, &mut inbox, id));
-    take_bytes(&rt, &mut inbox, id, &RESPONSE[16..]);
-    take_bytes(&rt, &mut inbox, id, b"hi");
-    assert!(rt; has_response(&rt, &mut inbox, id));
-    assert!(rt; is_response_there(&rt, &mut inbox, id));
-    assert!(rt; is_response_there(&rt, &mut inbox, id));
-    assert!(rt;
-        matches!(
-            release_response(&rt, &mut inbox, id),
-            ResponseWalk::Response(_, 17)
-        )
-    );
-    assert_eq!(rt; unread(&inbox, id), 2);
+    let text = "bytes 0 010f000027003a737461747573033230\n\
+        response > false\n\
+        offset > None\n\
+        bytes 0 306869\n\
+        offset > Some(17)\n\
+        offset > Some(17)\n\
+        response > Response(SessionResponse { headers: Headers { list: HeaderList { fields: \
+        [(Text { text: \":status\" }, Text { text: \"200\" })] } } }, 17)\n\
+        kept > (0, 2, 0)";
+    after(&rt, rt.alloc(), text);
 }

@@ -1,549 +1,388 @@
-//! What the contracts leave open: that memory suffices where there is enough. The recorded cases are
-//! from outside.
+//! Headers, frames, stops and ends of typed streams.
+use super::rows::{Asked, acts, debugged, rows, says, server, stream, unread};
 use std::alloc::Global;
+use std::fmt::Debug;
 use std::process::Abort;
 use wt_proto::session::SessionRequest;
-use wt_proto::stream_header::{StreamHeader, StreamKind};
+use wt_proto::stream_header::StreamHeader;
 use wt_seam::Transport;
-use wt_turn::action::Action;
-use wt_turn::datagram_fact::DatagramFact;
-use wt_turn::loss::LossReason;
 use wt_turn::poll::Poll;
-use wt_turn::proto_error::{IoReadError, ProtoReadError, ProtoWriteError};
-use wt_turn::stream_error::StreamWriteError;
-use wt_turn::turn::Turn;
-use wt_typed::accepted::Accepted;
-use wt_typed::stream::{
-    StreamBiLocalQuic, StreamBiRemoteH3, StreamBiRemoteQuic, StreamSession, StreamUniLocalH3,
-    StreamUniLocalQuic, StreamUniRemoteH3, StreamUniRemoteQuic,
+use wt_typed::{
+    Accepted, StreamBiLocalH3, StreamBiLocalQuic, StreamBiLocalWT, StreamBiRemoteH3,
+    StreamBiRemoteQuic, StreamSession, StreamUniLocalH3, StreamUniLocalQuic, StreamUniRemoteH3,
+    StreamUniRemoteQuic,
 };
-use wt_wire::addr::Addr;
-use wt_wire::error::ErrorCode;
-use wt_wire::frame::{Frame, FrameKind};
-use wt_wire::ids::{SessionId, StreamId};
-use wt_wire::side::Side;
-use wt_wire::text::Text;
+use wt_wire::frame::Frame;
+use wt_wire::ids::SessionId;
 use wt_wire::varint::VarInt;
 
-fn stream(id: u32) -> StreamId {
-    StreamId::new(VarInt::from_u32(id))
+/// A header of this end, as it goes out, and the stream behind it.
+#[derive(Drop)]
+struct HeaderOut {
+    quic: StreamUniLocalQuic,
+    header: StreamHeader,
+    http: Option<StreamUniLocalH3>,
 }
 
-// Each call stands in a function of its own: a test then knows nothing of its contract, which makes the
-// test cheap to prove.
-
-fn take(rt: &impl Abort, transport: &mut Transport, turn: &Turn) {
-    let fits = transport.fits(turn);
-    assert!(rt; fits);
-    transport.take(turn).expect(rt, "no memory");
+/// A header of the peer's, as it comes, and the stream behind it.
+#[derive(Drop)]
+struct HeaderIn {
+    quic: StreamUniRemoteQuic,
+    http: Option<StreamUniRemoteH3>,
 }
 
-fn come(rt: &impl Abort, transport: &mut Transport, id: u32, bytes: &[u8]) {
-    let id = stream(id);
-    let fit = transport.bytes_fit(id);
-    assert!(rt; fit);
-    transport.take_bytes(id, bytes).expect(rt, "no memory");
-}
-
-fn connected(rt: &impl Abort, alloc: Global, side: Side, credit: u64) -> Transport {
-    let mut transport = Transport::new(alloc, side);
-    if side == Side::Client {
-        dial(rt, alloc, &mut transport);
-    }
-    let turn = Turn::Connected {
-        uni: 2,
-        bi: 2,
-        credit,
-        datagrams: DatagramFact::Limit(1200),
+/// Keeps what an answer hands out, and says the rest of it.
+fn keep<T: Drop, E: Debug + Drop>(
+    rt: &impl Abort,
+    alloc: Global,
+    kept: &mut Option<T>,
+    answer: Poll<Result<T, E>>,
+) -> String {
+    let rest: Poll<Result<(), E>> = match answer {
+        Poll::Ready(Ok(value)) => {
+            *kept = Some(value);
+            Poll::Ready(Ok(()))
+        }
+        Poll::Ready(Err(error)) => Poll::Ready(Err(error)),
+        Poll::Pending => Poll::Pending,
     };
-    take(rt, &mut transport, &turn);
-    transport
+    debugged(rt, alloc, &rest)
 }
 
-fn dial(rt: &impl Abort, alloc: Global, transport: &mut Transport) {
-    let is_open = transport.is_open();
-    assert!(rt; is_open);
-    let address = Addr::V4 {
-        ip: 0x7f00_0001,
-        port: 443,
-    };
-    let name = Text::from_text(alloc, "h").expect(rt, "no memory");
-    transport.dial(address, name).expect(rt, "no memory");
-}
-
-fn raise(rt: &impl Abort, transport: &mut Transport, id: u32, total: u64) {
-    let id = stream(id);
-    take(rt, transport, &Turn::MaxData { id, total });
-}
-
-fn session(rt: &impl Abort, id: u32) -> SessionId {
+fn session_id(rt: &impl Abort, id: u32) -> SessionId {
     SessionId::try_from_session_stream(stream(id)).expect(rt, "no session")
 }
 
-/// The bytes that went out since the last such call, on this stream alone.
-fn sent(rt: &impl Abort, transport: &mut Transport, id: u32, bytes: &[u8]) {
-    let mut at = 0;
-    let actions = transport.take_actions();
-    for action in actions.as_slice() {
-        if let Action::Send { id: other, piece } = action {
-            assert!(rt; *other == stream(id));
-            for byte in piece.as_slice() {
-                assert!(rt; at < bytes.len());
-                assert_eq!(rt; *byte, bytes[at]);
-                at += 1;
-            }
-        }
-    }
-    assert_eq!(rt; at, bytes.len());
-}
-
-fn open_uni(rt: &impl Abort, alloc: Global, t: &mut Transport) -> StreamUniLocalQuic {
+/// This end's next unidirectional stream, to have this header.
+fn open_uni(rt: &impl Abort, alloc: Global, t: &mut Transport, header: StreamHeader) -> HeaderOut {
     let answer = StreamUniLocalQuic::open_uni(alloc, t).expect(rt, "no memory");
-    answer.expect(rt, "no stream")
-}
-
-fn open_bi(rt: &impl Abort, t: &mut Transport) -> StreamBiLocalQuic {
-    let answer = StreamBiLocalQuic::open_bi(t).expect(rt, "no memory");
-    answer.expect(rt, "no stream")
-}
-
-/// The upgraded stream, or the error, or None while it is pending.
-fn upgrade(
-    rt: &impl Abort,
-    t: &mut Transport,
-    stream: &mut StreamUniLocalQuic,
-    header: StreamHeader,
-) -> Option<Result<StreamUniLocalH3, ProtoWriteError>> {
-    let continues = stream.continues(header).expect(rt, "no memory");
-    let can_write = stream.can_write(t);
-    assert!(rt; continues && can_write && !stream.is_spent());
-    match stream.upgrade(t, header).expect(rt, "no memory") {
-        Poll::Ready(answer) => Some(answer),
-        Poll::Pending => None,
+    let quic = answer.expect(rt, "no stream");
+    HeaderOut {
+        quic,
+        header,
+        http: None,
     }
 }
 
-fn write_frame(
-    rt: &impl Abort,
-    t: &mut Transport,
-    stream: &mut StreamUniLocalH3,
-    frame: &Frame,
-) -> Poll<Result<(), ProtoWriteError>> {
-    let continues = stream.continues(frame).expect(rt, "no memory");
-    let can_write = stream.can_write(t);
-    assert!(rt; continues && can_write);
-    stream.write_frame(t, frame).expect(rt, "no memory")
+impl Asked for HeaderOut {
+    fn ask(&mut self, rt: &impl Abort, alloc: Global, t: &mut Transport) -> String {
+        let header = self.header;
+        let continues = self.quic.continues(header).expect(rt, "no memory");
+        let can_write = self.quic.can_write(t);
+        assert!(rt; continues && can_write && !self.quic.is_spent());
+        let answer = self.quic.upgrade(t, header).expect(rt, "no memory");
+        keep(rt, alloc, &mut self.http, answer)
+    }
 }
 
-fn stopped(
-    rt: &impl Abort,
-    t: &mut Transport,
-    stream: &mut StreamUniLocalH3,
-) -> Poll<StreamWriteError> {
-    let can_send = t.can_send(stream.id());
-    assert!(rt; can_send);
-    stream.stopped(t)
+/// This end's control stream, behind its header.
+pub fn local_control(rt: &impl Abort, alloc: Global, t: &mut Transport) -> StreamUniLocalH3 {
+    let mut out = open_uni(rt, alloc, t, StreamHeader::new_control());
+    rows(rt, alloc, t, &mut out, "> Ready(Ok(()))");
+    let HeaderOut { http, .. } = out;
+    http.expect(rt, "no header")
 }
 
-fn accept_uni(
-    rt: &impl Abort,
-    alloc: Global,
-    accepted: &mut Accepted,
-    t: &mut Transport,
-) -> StreamUniRemoteQuic {
-    let answer = StreamUniRemoteQuic::accept_uni(alloc, accepted, t);
-    answer.expect(rt, "no stream")
-}
-
-fn accept_bi(
-    rt: &impl Abort,
-    alloc: Global,
-    accepted: &mut Accepted,
-    t: &mut Transport,
-) -> StreamBiRemoteH3 {
-    let answer = StreamBiRemoteQuic::accept_bi(accepted, t);
+/// This end's next bidirectional stream.
+fn open_bi(rt: &impl Abort, alloc: Global, t: &mut Transport) -> StreamBiLocalH3 {
+    let answer = StreamBiLocalQuic::open_bi(t).expect(rt, "no memory");
     answer.expect(rt, "no stream").upgrade(alloc)
 }
 
-fn read_header(
-    rt: &impl Abort,
-    t: &mut Transport,
-    stream: &mut StreamUniRemoteQuic,
-) -> Option<Result<StreamUniRemoteH3, ProtoReadError>> {
-    let can_receive = t.can_receive(stream.id());
-    assert!(rt; can_receive && !stream.is_spent());
-    match stream.upgrade(t).expect(rt, "no memory") {
-        Poll::Ready(answer) => Some(answer),
-        Poll::Pending => None,
+/// The signal of session 4 goes out.
+fn signals(rt: &impl Abort, alloc: Global, t: &mut Transport, http: &mut StreamBiLocalH3) {
+    let session = session_id(rt, 4);
+    let continues = http.continues(session).expect(rt, "no memory");
+    let can_write = http.can_write(t);
+    assert!(rt; continues && can_write && !http.is_spent());
+    let answer = http.upgrade(t, session).expect(rt, "no memory");
+    let mut last: Option<StreamBiLocalWT> = None;
+    keep(rt, alloc, &mut last, answer);
+    assert!(rt; last.is_some());
+}
+
+/// The peer's first unidirectional stream.
+fn accept_uni(rt: &impl Abort, alloc: Global, t: &mut Transport) -> HeaderIn {
+    let mut accepted = Accepted::new();
+    let answer = StreamUniRemoteQuic::accept_uni(alloc, &mut accepted, t);
+    let quic = answer.expect(rt, "no stream");
+    HeaderIn { quic, http: None }
+}
+
+impl Asked for HeaderIn {
+    fn ask(&mut self, rt: &impl Abort, alloc: Global, t: &mut Transport) -> String {
+        let can_receive = t.can_receive(self.quic.id());
+        assert!(rt; can_receive && !self.quic.is_spent());
+        let answer = self.quic.upgrade(t).expect(rt, "no memory");
+        let said = keep(rt, alloc, &mut self.http, answer);
+        match &self.http {
+            Some(http) => debugged(rt, alloc, &http.kind()),
+            None => said,
+        }
     }
 }
 
-/// What the next frame is and how long its payload is, or the error, or None while it is pending.
-fn seen(
-    answer: Poll<Result<Frame, ProtoReadError>>,
-) -> Option<Result<(FrameKind, usize), ProtoReadError>> {
-    match answer {
-        Poll::Ready(Ok(frame)) => Some(Ok((frame.kind(), frame.payload().len()))),
-        Poll::Ready(Err(error)) => Some(Err(error)),
-        Poll::Pending => None,
+/// The peer's first unidirectional stream, behind the header that comes in these lines.
+pub fn behind_header(
+    rt: &impl Abort,
+    alloc: Global,
+    t: &mut Transport,
+    text: &str,
+) -> StreamUniRemoteH3 {
+    let mut header = accept_uni(rt, alloc, t);
+    rows(rt, alloc, t, &mut header, text);
+    let HeaderIn { http, .. } = header;
+    http.expect(rt, "no header")
+}
+
+impl Asked for StreamUniRemoteH3 {
+    fn ask(&mut self, rt: &impl Abort, alloc: Global, t: &mut Transport) -> String {
+        let half = self.stream_mut().id();
+        let can_receive = t.can_receive(half);
+        assert!(rt; can_receive);
+        let answer = self.read_frame(t).expect(rt, "no memory");
+        debugged(rt, alloc, &answer)
     }
 }
 
-type Seen = Option<Result<(FrameKind, usize), ProtoReadError>>;
-
-fn read_request(rt: &impl Abort, t: &mut Transport, stream: &mut StreamBiRemoteH3) -> Seen {
-    let can_receive = t.can_receive(stream.id());
-    assert!(rt; can_receive);
-    seen(stream.read_frame(t).expect(rt, "no memory"))
+/// The peer's first bidirectional stream.
+pub fn request(rt: &impl Abort, alloc: Global, t: &mut Transport) -> StreamBiRemoteH3 {
+    let mut accepted = Accepted::new();
+    let answer = StreamBiRemoteQuic::accept_bi(&mut accepted, t);
+    answer.expect(rt, "no stream").upgrade(alloc)
 }
 
-fn read_session(rt: &impl Abort, t: &mut Transport, stream: &mut StreamSession) -> Seen {
-    let can_receive = t.can_receive(stream.id());
-    assert!(rt; can_receive);
-    seen(stream.read_frame(t).expect(rt, "no memory"))
+impl Asked for StreamBiRemoteH3 {
+    fn ask(&mut self, rt: &impl Abort, alloc: Global, t: &mut Transport) -> String {
+        let can_receive = t.can_receive(self.id());
+        assert!(rt; can_receive);
+        let answer = self.read_frame(t).expect(rt, "no memory");
+        debugged(rt, alloc, &answer)
+    }
 }
 
-fn read_uni(rt: &impl Abort, t: &mut Transport, id: u32, stream: &mut StreamUniRemoteH3) -> Seen {
-    let half = stream.stream_mut().id();
-    assert!(rt; half == self::stream(id));
-    let can_receive = t.can_receive(half);
-    assert!(rt; can_receive);
-    seen(stream.read_frame(t).expect(rt, "no memory"))
-}
-
-fn stop_request(
-    rt: &impl Abort,
-    t: &mut Transport,
-    stream: &mut StreamBiRemoteH3,
-    code: u32,
-) -> bool {
-    let can_receive = t.can_receive(stream.id());
-    assert!(rt; can_receive);
-    let answer = stream
-        .stop(t, VarInt::from_u32(code))
-        .expect(rt, "no memory");
-    answer.is_ok()
-}
-
-fn stop_session(rt: &impl Abort, t: &mut Transport, stream: &mut StreamSession, code: u32) -> bool {
-    let can_receive = t.can_receive(stream.id());
-    assert!(rt; can_receive);
-    let answer = stream
-        .stop(t, VarInt::from_u32(code))
-        .expect(rt, "no memory");
-    answer.is_ok()
-}
-
-fn write_session(
-    rt: &impl Abort,
-    t: &mut Transport,
-    stream: &mut StreamSession,
-    frame: &Frame,
-) -> Poll<Result<(), ProtoWriteError>> {
-    let continues = stream.continues(frame).expect(rt, "no memory");
-    let can_write = stream.can_write(t);
-    assert!(rt; continues && can_write);
-    stream.write_frame(t, frame).expect(rt, "no memory")
-}
-
-fn finish(rt: &impl Abort, t: &mut Transport, stream: &mut StreamSession) -> Poll<()> {
-    let can_send = t.can_send(stream.id());
-    assert!(rt; can_send);
-    stream.finish(t).expect(rt, "no memory")
-}
-
-fn reset(rt: &impl Abort, t: &mut Transport, stream: &mut StreamSession) -> bool {
-    let can_send = t.can_send(stream.id());
-    assert!(rt; can_send);
-    let answer = stream.reset(t, VarInt::from_u32(9)).expect(rt, "no memory");
-    answer.is_ok()
-}
-
-fn into_session(rt: &impl Abort, alloc: Global, stream: StreamBiRemoteH3) -> StreamSession {
+/// The stream of a session whose request is this stream's.
+pub fn into_session(rt: &impl Abort, alloc: Global, stream: StreamBiRemoteH3) -> StreamSession {
     let request = SessionRequest::new(alloc, "h", "/").expect(rt, "no memory");
     let id = stream.id().into_u64();
     assert!(rt; id % 4 == 0);
     stream.into_session(request)
 }
 
-fn data(rt: &impl Abort, alloc: Global, payload: &[u8]) -> Frame {
-    Frame::new_data(alloc, payload).expect(rt, "no memory")
+impl Asked for StreamSession {
+    fn ask(&mut self, rt: &impl Abort, alloc: Global, t: &mut Transport) -> String {
+        let can_receive = t.can_receive(self.id());
+        assert!(rt; can_receive);
+        let answer = self.read_frame(t).expect(rt, "no memory");
+        debugged(rt, alloc, &answer)
+    }
 }
 
-const IMMEDIATE: Seen = Some(Err(ProtoReadError::IO(IoReadError::ImmediateFin)));
-
-const UNEXPECTED: Seen = Some(Err(ProtoReadError::IO(IoReadError::UnexpectedFin)));
-
-fn fault(code: ErrorCode) -> Seen {
-    Some(Err(ProtoReadError::H3(code)))
+fn writes(rt: &impl Abort, alloc: Global, t: &mut Transport, s: &mut StreamSession, text: &str) {
+    let frame = Frame::new_data(alloc, b"a").expect(rt, "no memory");
+    let continues = s.continues(&frame).expect(rt, "no memory");
+    let can_write = s.can_write(t);
+    assert!(rt; continues && can_write);
+    let answer = s.write_frame(t, &frame).expect(rt, "no memory");
+    says(rt, alloc, &answer, text);
 }
 
-fn given(kind: FrameKind, size: usize) -> Seen {
-    Some(Ok((kind, size)))
+fn finishes(rt: &impl Abort, alloc: Global, t: &mut Transport, s: &mut StreamSession, text: &str) {
+    let can_send = t.can_send(s.id());
+    assert!(rt; can_send);
+    let answer = s.finish(t).expect(rt, "no memory");
+    says(rt, alloc, &answer, text);
+}
+
+fn resets(rt: &impl Abort, alloc: Global, t: &mut Transport, s: &mut StreamSession, text: &str) {
+    let can_send = t.can_send(s.id());
+    assert!(rt; can_send);
+    let answer = s.reset(t, VarInt::from_u32(9)).expect(rt, "no memory");
+    says(rt, alloc, &answer, text);
+}
+
+fn stops_request(
+    rt: &impl Abort,
+    alloc: Global,
+    t: &mut Transport,
+    s: &mut StreamBiRemoteH3,
+    text: &str,
+) {
+    let can_receive = t.can_receive(s.id());
+    assert!(rt; can_receive);
+    let answer = s.stop(t, VarInt::from_u32(5)).expect(rt, "no memory");
+    says(rt, alloc, &answer, text);
+}
+
+fn stops(rt: &impl Abort, alloc: Global, t: &mut Transport, s: &mut StreamSession, text: &str) {
+    let can_receive = t.can_receive(s.id());
+    assert!(rt; can_receive);
+    let answer = s.stop(t, VarInt::from_u32(6)).expect(rt, "no memory");
+    says(rt, alloc, &answer, text);
+}
+
+/// The peer's first unidirectional stream reads its header.
+fn header(rt: &impl Abort, alloc: Global, text: &str) -> Transport {
+    let mut t = server(rt, alloc, "connected 2 2 9 1200\npeer_uni");
+    let mut header = accept_uni(rt, alloc, &mut t);
+    rows(rt, alloc, &mut t, &mut header, text);
+    t
 }
 
 #[test]
 fn a_header_goes_out_as_credit_comes(rt: HostRuntime) {
     let alloc = rt.alloc();
-    let mut t = connected(&rt, alloc, Side::Server, 2);
-    let mut quic = open_uni(&rt, alloc, &mut t);
-    let header = StreamHeader::new_webtransport(session(&rt, 0));
-    assert!(rt; upgrade(&rt, &mut t, &mut quic, header).is_none());
-    sent(&rt, &mut t, 3, &[0x40, 0x54]);
-    assert!(rt; upgrade(&rt, &mut t, &mut quic, header).is_none());
-    sent(&rt, &mut t, 3, &[]);
-    raise(&rt, &mut t, 3, 3);
-    match upgrade(&rt, &mut t, &mut quic, header) {
-        Some(Ok(http)) => {
-            assert!(rt; http.kind() == StreamKind::WebTransport);
-            let half = http.upgrade().into_stream();
-            assert!(rt; half.id() == stream(3));
-        }
-        _ => panic!(&rt; "not upgraded"),
-    }
-    sent(&rt, &mut t, 3, &[0x00]);
-    assert!(rt; quic.is_spent());
-}
-
-#[test]
-fn a_frame_goes_out_as_credit_comes(rt: HostRuntime) {
-    let alloc = rt.alloc();
-    let mut t = connected(&rt, alloc, Side::Server, 4);
-    let mut quic = open_uni(&rt, alloc, &mut t);
-    let Some(Ok(mut http)) = upgrade(&rt, &mut t, &mut quic, StreamHeader::new_control()) else {
-        panic!(&rt; "not upgraded");
-    };
-    sent(&rt, &mut t, 3, &[0x00]);
-    let frame = data(&rt, alloc, b"hi");
-    assert!(rt; write_frame(&rt, &mut t, &mut http, &frame) == Poll::Pending);
-    sent(&rt, &mut t, 3, &[0x00, 0x02, 0x68]);
-    assert!(rt; http.is_writing());
-    raise(&rt, &mut t, 3, 5);
-    assert!(rt; write_frame(&rt, &mut t, &mut http, &frame) == Poll::Ready(Ok(())));
-    sent(&rt, &mut t, 3, &[0x69]);
-    assert!(rt; stopped(&rt, &mut t, &mut http) == Poll::Pending);
-    let code = VarInt::from_u32(7);
-    take(
-        &rt,
-        &mut t,
-        &Turn::Stop {
-            id: stream(3),
-            code,
-        },
-    );
-    let error = Poll::Ready(Err(ProtoWriteError::Stopped));
-    assert!(rt; write_frame(&rt, &mut t, &mut http, &frame) == error);
-    assert!(rt; stopped(&rt, &mut t, &mut http) == Poll::Ready(StreamWriteError::Stopped(code)));
-    let reason = LossReason::TimedOut;
-    take(&rt, &mut t, &Turn::Loss { reason });
-    let error = Poll::Ready(Err(ProtoWriteError::NotConnected));
-    assert!(rt; write_frame(&rt, &mut t, &mut http, &frame) == error);
+    let mut t = server(&rt, alloc, "connected 2 2 2 1200");
+    let header = StreamHeader::new_webtransport(session_id(&rt, 0));
+    let mut out = open_uni(&rt, alloc, &mut t, header);
+    let text = "> Pending\n\
+        done ; opened 3 ; send 3 4054\n\
+        > Pending\n\
+        max_data 3 3\n\
+        > Ready(Ok(()))\n\
+        done ; send 3 00";
+    rows(&rt, alloc, &mut t, &mut out, text);
 }
 
 #[test]
 fn a_signal_goes_out(rt: HostRuntime) {
     let alloc = rt.alloc();
-    let mut t = connected(&rt, alloc, Side::Server, 9);
-    let mut http = open_bi(&rt, &mut t).upgrade(alloc);
-    let session = session(&rt, 4);
-    let continues = http.continues(session).expect(&rt, "no memory");
-    let can_write = http.can_write(&t);
-    assert!(rt; continues && can_write && !http.is_spent());
-    match http.upgrade(&mut t, session).expect(&rt, "no memory") {
-        Poll::Ready(Ok(last)) => {
-            let (send, recv) = last.into_stream();
-            assert!(rt; send.id() == stream(1) && recv.id() == stream(1));
-        }
-        _ => panic!(&rt; "not upgraded"),
-    }
-    sent(&rt, &mut t, 1, &[0x40, 0x41, 0x04]);
+    let mut t = server(&rt, alloc, "connected 2 2 9 1200");
+    let mut http = open_bi(&rt, alloc, &mut t);
+    signals(&rt, alloc, &mut t, &mut http);
+    acts(&rt, alloc, &mut t, "done ; opened 1 ; send 1 404104");
 }
 
 #[test]
 fn a_header_is_read_up_to_its_last_byte(rt: HostRuntime) {
-    let alloc = rt.alloc();
-    let mut t = connected(&rt, alloc, Side::Server, 9);
-    let mut accepted = Accepted::new();
-    take(&rt, &mut t, &Turn::PeerUni);
-    let mut quic = accept_uni(&rt, alloc, &mut accepted, &mut t);
-    come(&rt, &mut t, 2, &[0x40]);
-    assert!(rt; read_header(&rt, &mut t, &mut quic).is_none());
-    come(&rt, &mut t, 2, &[0x54]);
-    assert!(rt; read_header(&rt, &mut t, &mut quic).is_none());
-    come(&rt, &mut t, 2, &[0x04, 0x68, 0x69]);
-    match read_header(&rt, &mut t, &mut quic) {
-        Some(Ok(http)) => {
-            assert!(rt; http.kind() == StreamKind::WebTransport);
-            let last = http.upgrade();
-            assert!(rt; last.session_id().session_stream() == stream(4));
-            assert!(rt; last.into_stream().id() == stream(2));
-        }
-        _ => panic!(&rt; "not upgraded"),
-    }
-    assert_eq!(rt; t.peek(stream(2)), b"hi".as_slice());
-}
-
-fn header_answer(rt: &impl Abort, alloc: Global, bytes: &[u8], end: Option<Turn>) -> Seen {
-    let mut t = connected(rt, alloc, Side::Server, 9);
-    let mut accepted = Accepted::new();
-    take(rt, &mut t, &Turn::PeerUni);
-    let mut quic = accept_uni(rt, alloc, &mut accepted, &mut t);
-    come(rt, &mut t, 2, bytes);
-    if let Some(turn) = end {
-        take(rt, &mut t, &turn);
-    }
-    match read_header(rt, &mut t, &mut quic) {
-        Some(Ok(http)) => match http.kind() {
-            StreamKind::Exercise(number) => given(FrameKind::Exercise(number), 0),
-            _ => given(FrameKind::Data, 0),
-        },
-        Some(Err(error)) => Some(Err(error)),
-        None => None,
-    }
+    let text = "bytes 2 40\n> Pending\n\
+        bytes 2 54\n> Pending\n\
+        bytes 2 046869\n> WebTransport";
+    let t = header(&rt, rt.alloc(), text);
+    assert_eq!(rt; unread(&t, 2), 2);
 }
 
 #[test]
 fn headers_that_are_at_fault_or_end(rt: HostRuntime) {
-    let alloc = rt.alloc();
-    let id = stream(2);
-    let code = VarInt::from_u32(1);
-    let reset = IoReadError::Reset;
-    let lost = IoReadError::NotConnected;
-    let reason = LossReason::Reset;
-    let creation = fault(ErrorCode::StreamCreation);
-    assert!(rt; header_answer(&rt, alloc, &[0x01], None) == creation);
-    let wrong = fault(ErrorCode::Id);
-    assert!(rt; header_answer(&rt, alloc, &[0x40, 0x54, 0x01], None) == wrong);
-    let exercise = given(FrameKind::Exercise(VarInt::from_u32(0x21)), 0);
-    assert!(rt; header_answer(&rt, alloc, &[0x21], None) == exercise);
-    assert!(rt; header_answer(&rt, alloc, &[0x40], None).is_none());
-    assert!(rt; header_answer(&rt, alloc, &[], Some(Turn::End { id })) == IMMEDIATE);
-    assert!(rt; header_answer(&rt, alloc, &[0x40], Some(Turn::End { id })) == UNEXPECTED);
-    assert!(rt;
-        header_answer(&rt, alloc, &[0x40], Some(Turn::Reset { id, code }))
-            == Some(Err(ProtoReadError::IO(reset)))
-    );
-    assert!(rt;
-        header_answer(&rt, alloc, &[0x40], Some(Turn::Loss { reason }))
-            == Some(Err(ProtoReadError::IO(lost)))
-    );
+    let cases = [
+        "bytes 2 01\n> Ready(Err(H3(StreamCreation)))",
+        "bytes 2 405401\n> Ready(Err(H3(Id)))",
+        "bytes 2 21\n> Exercise(VarInt { value: 33 })",
+        "bytes 2 40\n> Pending",
+        "end 2\n> Ready(Err(IO(ImmediateFin)))",
+        "bytes 2 40\nend 2\n> Ready(Err(IO(UnexpectedFin)))",
+        "bytes 2 40\nreset 2 1\n> Ready(Err(IO(Reset)))",
+        "bytes 2 40\nloss reset\n> Ready(Err(IO(NotConnected)))",
+    ];
+    for text in cases {
+        header(&rt, rt.alloc(), text);
+    }
 }
 
 #[test]
 fn frames_of_a_request_come_in_pieces(rt: HostRuntime) {
     let alloc = rt.alloc();
-    let mut t = connected(&rt, alloc, Side::Server, 9);
-    let mut accepted = Accepted::new();
-    take(&rt, &mut t, &Turn::PeerBi);
-    take(&rt, &mut t, &Turn::PeerBi);
-    let mut first = accept_bi(&rt, alloc, &mut accepted, &mut t);
-    let mut second = accept_bi(&rt, alloc, &mut accepted, &mut t);
-    assert!(rt; first.id() == stream(0) && second.id() == stream(4));
-    let none = StreamBiRemoteQuic::accept_bi(&mut accepted, &mut t);
-    assert!(rt; none.is_none());
+    let mut t = server(&rt, alloc, "connected 2 2 9 1200\npeer_bi");
+    let mut request = request(&rt, alloc, &mut t);
     // an exercise frame of three bytes, HEADERS of two, DATA of none
-    for byte in [0x21, 0x03, 1, 2, 3, 0x01, 0x02, 7] {
-        come(&rt, &mut t, 0, &[byte]);
-        assert!(rt; read_request(&rt, &mut t, &mut first).is_none());
-    }
-    come(&rt, &mut t, 0, &[8, 0x00, 0x00, 0x04]);
-    assert!(rt; read_request(&rt, &mut t, &mut first) == given(FrameKind::Headers, 2));
-    assert!(rt; read_request(&rt, &mut t, &mut first) == given(FrameKind::Data, 0));
-    assert!(rt; read_request(&rt, &mut t, &mut first).is_none());
-    take(&rt, &mut t, &Turn::End { id: stream(0) });
-    assert!(rt; read_request(&rt, &mut t, &mut first) == UNEXPECTED);
-    come(&rt, &mut t, 4, &[0x40, 0x41, 0x08, 0x40, 0x41, 0x01, 0x00]);
-    match read_request(&rt, &mut t, &mut second) {
-        Some(Ok((FrameKind::WebTransport, 0))) => {}
-        _ => panic!(&rt; "no signal"),
-    }
-    assert!(rt; read_request(&rt, &mut t, &mut second) == fault(ErrorCode::Id));
-    assert!(rt; read_request(&rt, &mut t, &mut second) == fault(ErrorCode::Id));
-    let last = second.upgrade(session(&rt, 8));
-    assert!(rt; last.id() == stream(4));
-    assert!(rt; last.session_id().session_stream() == stream(8));
-    assert_eq!(rt; t.peek(stream(4)), [0x00].as_slice());
+    let text = "bytes 0 21\n> Pending\n\
+        bytes 0 03\n> Pending\n\
+        bytes 0 01\n> Pending\n\
+        bytes 0 02\n> Pending\n\
+        bytes 0 03\n> Pending\n\
+        bytes 0 01\n> Pending\n\
+        bytes 0 02\n> Pending\n\
+        bytes 0 07\n> Pending\n\
+        bytes 0 08000004\n\
+        > Ready(Ok(Frame { kind: Headers, payload: [7, 8], session: None }))\n\
+        > Ready(Ok(Frame { kind: Data, payload: [], session: None }))\n\
+        > Pending\n\
+        end 0\n\
+        > Ready(Err(IO(UnexpectedFin)))";
+    rows(&rt, alloc, &mut t, &mut request, text);
+}
+
+#[test]
+fn a_signal_of_a_request_and_one_at_fault(rt: HostRuntime) {
+    let alloc = rt.alloc();
+    let mut t = server(&rt, alloc, "connected 2 2 9 1200\npeer_bi");
+    let mut request = request(&rt, alloc, &mut t);
+    let text = "bytes 0 40410840410100\n\
+        > Ready(Ok(Frame { kind: WebTransport, payload: [], \
+        session: Some(SessionId { id: StreamId { id: VarInt { value: 8 } } }) }))\n\
+        > Ready(Err(H3(Id)))\n\
+        > Ready(Err(H3(Id)))";
+    rows(&rt, alloc, &mut t, &mut request, text);
+    assert_eq!(rt; unread(&t, 0), 1);
 }
 
 #[test]
 fn a_control_stream_gives_exercise_frames(rt: HostRuntime) {
     let alloc = rt.alloc();
-    let mut t = connected(&rt, alloc, Side::Client, 9);
-    let mut accepted = Accepted::new();
-    take(&rt, &mut t, &Turn::PeerUni);
-    come(&rt, &mut t, 3, &[0x00, 0x21, 0x02, 1]);
-    let mut quic = accept_uni(&rt, alloc, &mut accepted, &mut t);
-    let Some(Ok(mut http)) = read_header(&rt, &mut t, &mut quic) else {
-        panic!(&rt; "not upgraded");
-    };
-    assert!(rt; http.kind() == StreamKind::Control);
-    assert!(rt; read_uni(&rt, &mut t, 3, &mut http).is_none());
-    come(&rt, &mut t, 3, &[2, 0x04, 0x00, 0x00, 0x50, 0x01]);
-    let exercise = given(FrameKind::Exercise(VarInt::from_u32(0x21)), 0);
-    assert!(rt; read_uni(&rt, &mut t, 3, &mut http) == exercise);
-    assert!(rt; read_uni(&rt, &mut t, 3, &mut http) == given(FrameKind::Settings, 0));
-    let load = fault(ErrorCode::ExcessiveLoad);
-    assert!(rt; read_uni(&rt, &mut t, 3, &mut http) == load);
+    let mut t = server(&rt, alloc, "connected 2 2 9 1200\npeer_uni");
+    let head = "bytes 2 00210201\n> Control";
+    let mut http = behind_header(&rt, alloc, &mut t, head);
+    let text = "> Pending\n\
+        bytes 2 020400005001\n\
+        > Ready(Ok(Frame { kind: Exercise(VarInt { value: 33 }), payload: [], session: None }))\n\
+        > Ready(Ok(Frame { kind: Settings, payload: [], session: None }))\n\
+        > Ready(Err(H3(ExcessiveLoad)))";
+    rows(&rt, alloc, &mut t, &mut http, text);
 }
 
 #[test]
 fn a_session_reads_writes_and_ends(rt: HostRuntime) {
     let alloc = rt.alloc();
-    let mut t = connected(&rt, alloc, Side::Server, 9);
-    let mut accepted = Accepted::new();
-    take(&rt, &mut t, &Turn::PeerBi);
-    let request = accept_bi(&rt, alloc, &mut accepted, &mut t);
+    let mut t = server(&rt, alloc, "connected 2 2 9 1200\npeer_bi");
+    let request = request(&rt, alloc, &mut t);
     let mut session = into_session(&rt, alloc, request);
-    assert!(rt; session.id() == stream(0));
-    assert!(rt; session.session_id().session_stream() == stream(0));
-    assert_eq!(rt; session.request().path(), "/");
-    come(&rt, &mut t, 0, &[0x00, 0x01]);
-    assert!(rt; read_session(&rt, &mut t, &mut session).is_none());
-    come(&rt, &mut t, 0, &[9]);
-    assert!(rt; read_session(&rt, &mut t, &mut session) == given(FrameKind::Data, 1));
-    let frame = data(&rt, alloc, b"a");
-    assert!(rt; write_session(&rt, &mut t, &mut session, &frame) == Poll::Ready(Ok(())));
-    sent(&rt, &mut t, 0, &[0x00, 0x01, 0x61]);
-    assert!(rt; finish(&rt, &mut t, &mut session) == Poll::Pending);
-    assert!(rt; !session.can_write(&t));
-    take(&rt, &mut t, &Turn::Acked { id: stream(0) });
-    assert!(rt; finish(&rt, &mut t, &mut session) == Poll::Ready(()));
-    assert!(rt; !reset(&rt, &mut t, &mut session));
-    take(&rt, &mut t, &Turn::End { id: stream(0) });
-    assert!(rt; read_session(&rt, &mut t, &mut session) == IMMEDIATE);
+    let read = "bytes 0 0001\n\
+        > Pending\n\
+        bytes 0 09\n\
+        > Ready(Ok(Frame { kind: Data, payload: [9], session: None }))";
+    rows(&rt, alloc, &mut t, &mut session, read);
+    writes(&rt, alloc, &mut t, &mut session, "Ready(Ok(()))");
+    finishes(&rt, alloc, &mut t, &mut session, "Pending");
+    let ended = "done ; send 0 000161 ; finish 0\n\
+        acked 0\n\
+        end 0\n\
+        > Ready(Err(IO(ImmediateFin)))";
+    rows(&rt, alloc, &mut t, &mut session, ended);
+    finishes(&rt, alloc, &mut t, &mut session, "Ready(())");
+    resets(&rt, alloc, &mut t, &mut session, "Err(ClosedStream)");
 }
 
 #[test]
 fn a_signal_that_waits_is_a_fault_of_a_session(rt: HostRuntime) {
     let alloc = rt.alloc();
-    let mut t = connected(&rt, alloc, Side::Server, 9);
-    let mut accepted = Accepted::new();
-    take(&rt, &mut t, &Turn::PeerBi);
-    let mut request = accept_bi(&rt, alloc, &mut accepted, &mut t);
-    come(&rt, &mut t, 0, &[0x40, 0x41]);
-    assert!(rt; read_request(&rt, &mut t, &mut request).is_none());
+    let mut t = server(&rt, alloc, "connected 2 2 9 1200\npeer_bi");
+    let mut request = request(&rt, alloc, &mut t);
+    rows(&rt, alloc, &mut t, &mut request, "bytes 0 4041\n> Pending");
     let mut session = into_session(&rt, alloc, request);
-    let unexpected = fault(ErrorCode::FrameUnexpected);
-    assert!(rt; read_session(&rt, &mut t, &mut session) == unexpected);
-    assert!(rt; reset(&rt, &mut t, &mut session));
+    let fault = "> Ready(Err(H3(FrameUnexpected)))";
+    rows(&rt, alloc, &mut t, &mut session, fault);
+    resets(&rt, alloc, &mut t, &mut session, "Ok(())");
 }
 
 #[test]
 fn a_second_stop_is_refused(rt: HostRuntime) {
     let alloc = rt.alloc();
-    let mut t = connected(&rt, alloc, Side::Server, 9);
-    let mut accepted = Accepted::new();
-    take(&rt, &mut t, &Turn::PeerBi);
-    take(&rt, &mut t, &Turn::PeerBi);
-    let mut first = accept_bi(&rt, alloc, &mut accepted, &mut t);
-    assert!(rt; stop_request(&rt, &mut t, &mut first, 5));
-    assert!(rt; !stop_request(&rt, &mut t, &mut first, 5));
-    assert_eq!(rt; t.take_actions().as_slice().len(), 1);
-    let mut session = into_session(&rt, alloc, first);
-    assert!(rt; !stop_session(&rt, &mut t, &mut session, 5));
-    let second = accept_bi(&rt, alloc, &mut accepted, &mut t);
-    let mut session = into_session(&rt, alloc, second);
-    assert!(rt; stop_session(&rt, &mut t, &mut session, 5));
-    assert!(rt; !stop_session(&rt, &mut t, &mut session, 6));
-    assert_eq!(rt; t.take_actions().as_slice().len(), 1);
+    let mut t = server(&rt, alloc, "connected 2 2 9 1200\npeer_bi");
+    let mut request = request(&rt, alloc, &mut t);
+    stops_request(&rt, alloc, &mut t, &mut request, "Ok(())");
+    stops_request(&rt, alloc, &mut t, &mut request, "Err(AlreadyStop)");
+    let mut session = into_session(&rt, alloc, request);
+    stops(&rt, alloc, &mut t, &mut session, "Err(AlreadyStop)");
+    acts(&rt, alloc, &mut t, "done ; stop 0 5");
+}
+
+#[test]
+fn a_second_stop_of_a_session_is_refused(rt: HostRuntime) {
+    let alloc = rt.alloc();
+    let mut t = server(&rt, alloc, "connected 2 2 9 1200\npeer_bi");
+    let request = request(&rt, alloc, &mut t);
+    let mut session = into_session(&rt, alloc, request);
+    stops(&rt, alloc, &mut t, &mut session, "Ok(())");
+    stops(&rt, alloc, &mut t, &mut session, "Err(AlreadyStop)");
+    acts(&rt, alloc, &mut t, "done ; stop 0 6");
 }

@@ -1,152 +1,124 @@
-//! Errors, and what leads to them, are copied and compared.
-use crate::tests::values::{by_application, by_transport, code, piece, text, transport_error};
+//! Turns, replies and errors are copied and compared.
+use crate::tests::values::{by_application, by_transport, piece, text, transport_error};
 use std::alloc::Global;
 use std::process::Abort;
-use wt_turn::connecting_error::{ConnectingError, UrlRefusal};
-use wt_turn::connection_error::{ConnectionError, H3Error, QuicProtoError};
+use wt_turn::connecting_error::ConnectingError;
+use wt_turn::connection_error::{ConnectionError, QuicProtoError};
 use wt_turn::driver_error::DriverError;
-use wt_turn::{Action, Actions, Call, LossReason};
-use wt_wire::addr::Addr;
-use wt_wire::error::ErrorCode;
+use wt_turn::sequence::Element;
+use wt_turn::stream_error::StreamReadExactError;
+use wt_turn::{Action, Actions, Answer, Answers, Call, LossReason, Reply, Turn};
+use wt_wire::header_list::HeaderList;
+use wt_wire::ids::StreamId;
+use wt_wire::lookup::{ConnectOutcome, Lookup};
+use wt_wire::varint::VarInt;
 
-fn closes_are_copied(rt: &impl Abort, alloc: Global) {
-    let close = by_application(rt, alloc, 7, b"bye");
-    let copy = close.copy().expect(rt, "no memory");
-    assert!(rt; copy == close, "the close by the application");
-    let close = by_transport(rt, alloc, 10, b"no");
-    let copy = close.copy().expect(rt, "no memory");
-    assert!(rt; copy == close, "the close by the transport");
-    let proto = QuicProtoError::new(Some(code(1)), text(rt, alloc, "why"));
-    let copy = proto.copy(alloc).expect(rt, "no memory");
-    assert!(rt; copy == proto, "the error of the QUIC protocol");
-}
-
-fn loss(rt: &impl Abort, alloc: Global, loss: LossReason) {
-    let copy = loss.copy(alloc).expect(rt, "no memory");
-    assert!(rt; copy == loss, "{loss:?}");
+fn is_copied<T: Element + PartialEq>(rt: &impl Abort, alloc: Global, value: T) {
+    let copy = value.copied(alloc).expect(rt, "no memory");
+    assert!(rt; copy == value, "{value:?}");
+    assert!(rt; copy.is_same(&value), "{value:?}");
 }
 
 fn losses_are_copied(rt: &impl Abort, alloc: Global) {
-    loss(rt, alloc, LossReason::VersionMismatch);
-    loss(rt, alloc, transport_error(rt, alloc, 7, "why"));
-    loss(
-        rt,
-        alloc,
-        LossReason::ConnectionClosed(by_transport(rt, alloc, 10, b"no")),
-    );
-    loss(
-        rt,
-        alloc,
-        LossReason::ApplicationClosed(by_application(rt, alloc, 7, b"bye")),
-    );
-    loss(rt, alloc, LossReason::Reset);
-    loss(rt, alloc, LossReason::TimedOut);
-    loss(rt, alloc, LossReason::CidsExhausted);
+    let reason = transport_error(rt, alloc, 7);
+    is_copied(rt, alloc, Turn::Loss { reason });
+    let reason = LossReason::ConnectionClosed(by_transport(rt, alloc, b"no"));
+    is_copied(rt, alloc, Turn::Loss { reason });
+    let reason = LossReason::ApplicationClosed(by_application(rt, alloc, b"bye"));
+    is_copied(rt, alloc, Turn::Loss { reason });
 }
 
-fn end(rt: &impl Abort, alloc: Global, end: ConnectionError) {
-    let copy = end.copy(alloc).expect(rt, "no memory");
-    assert!(rt; copy == end, "{end:?}");
+fn connect(rt: &impl Abort, alloc: Global) -> Call {
+    let mut headers = HeaderList::new(alloc);
+    headers.set("name", "value").expect(rt, "no memory");
+    Call::Connect {
+        options: (text(rt, alloc, "url"), headers),
+        lookup: Lookup::Fault(text(rt, alloc, "why")),
+        outcome: ConnectOutcome::InvalidServerName(text(rt, alloc, "host")),
+    }
 }
 
-fn ends_are_copied(rt: &impl Abort, alloc: Global) {
-    end(
-        rt,
-        alloc,
-        ConnectionError::ConnectionClosed(by_transport(rt, alloc, 10, b"no")),
-    );
-    end(
-        rt,
-        alloc,
-        ConnectionError::ApplicationClosed(by_application(rt, alloc, 7, b"bye")),
-    );
-    end(rt, alloc, ConnectionError::LocallyClosed);
-    end(
-        rt,
-        alloc,
-        ConnectionError::LocalH3Error(H3Error::new(ErrorCode::Id)),
-    );
-    end(rt, alloc, ConnectionError::TimedOut);
-    end(rt, alloc, ConnectionError::from(LossReason::Reset));
-    end(rt, alloc, ConnectionError::CidsExhausted);
+fn calls_are_copied(rt: &impl Abort, alloc: Global) {
+    is_copied(rt, alloc, Turn::Call(connect(rt, alloc)));
+    let code = VarInt::from_u32(7);
+    let reason = piece(rt, alloc, b"bye");
+    is_copied(rt, alloc, Turn::Call(Call::Close { code, reason }));
 }
 
-fn connect(rt: &impl Abort, alloc: Global, failure: ConnectingError) {
-    let copy = failure.copy(alloc).expect(rt, "no memory");
-    assert!(rt; copy == failure, "{failure:?}");
+/// An answer with this reply, and with an action that keeps bytes.
+fn answer(rt: &impl Abort, alloc: Global, reply: Reply) -> Answer {
+    let id = StreamId::new(VarInt::from_u32(3));
+    let piece = piece(rt, alloc, b"hi");
+    let mut actions = Actions::new(alloc);
+    let pushed = actions.push(Action::Send { id, piece });
+    pushed.expect(rt, "no memory");
+    Answer { reply, actions }
 }
 
-fn refused_connects_are_copied(rt: &impl Abort, alloc: Global) {
-    connect(rt, alloc, ConnectingError::InvalidUrl(UrlRefusal::Scheme));
-    connect(
-        rt,
-        alloc,
-        ConnectingError::DnsLookup(text(rt, alloc, "why")),
-    );
-    connect(rt, alloc, ConnectingError::DnsNotFound);
-    connect(
-        rt,
-        alloc,
-        ConnectingError::ReservedHeader(text(rt, alloc, ":path")),
-    );
-    connect(
-        rt,
-        alloc,
-        ConnectingError::InvalidServerName(text(rt, alloc, "host")),
-    );
+fn reply(rt: &impl Abort, alloc: Global, reply: Reply) {
+    is_copied(rt, alloc, answer(rt, alloc, reply));
+}
+
+fn bytes_and_ends_are_copied(rt: &impl Abort, alloc: Global) {
+    reply(rt, alloc, Reply::Read(Some(piece(rt, alloc, b"gone"))));
+    let early = StreamReadExactError::FinishedEarly(3);
+    let gone = piece(rt, alloc, b"gone");
+    reply(rt, alloc, Reply::ExactFailed(early, gone));
+    let close = by_transport(rt, alloc, b"no");
+    let closed = ConnectionError::ConnectionClosed(close);
+    reply(rt, alloc, Reply::Failed(closed));
+    let close = by_application(rt, alloc, b"bye");
+    let closed = ConnectionError::ApplicationClosed(close);
+    reply(rt, alloc, Reply::Failed(closed));
+    let proto = QuicProtoError::new(Some(VarInt::from_u32(1)), text(rt, alloc, "why"));
+    reply(rt, alloc, Reply::Closed(ConnectionError::QuicProto(proto)));
+}
+
+fn connect_fails(rt: &impl Abort, alloc: Global, error: ConnectingError) {
+    reply(rt, alloc, Reply::ConnectFailed(error));
 }
 
 fn failed_connects_are_copied(rt: &impl Abort, alloc: Global) {
-    let lost = ConnectionError::from(transport_error(rt, alloc, 7, "why"));
-    connect(rt, alloc, ConnectingError::ConnectionError(lost));
-    connect(rt, alloc, ConnectingError::SessionRejected);
-    connect(rt, alloc, ConnectingError::EndpointStopping);
-    connect(rt, alloc, ConnectingError::CidsExhausted);
-    let address = Addr::V4 {
-        ip: 0x7f00_0001,
-        port: 4433,
-    };
-    connect(rt, alloc, ConnectingError::InvalidRemoteAddress(address));
+    let why = text(rt, alloc, "why");
+    connect_fails(rt, alloc, ConnectingError::DnsLookup(why));
+    let name = text(rt, alloc, ":path");
+    connect_fails(rt, alloc, ConnectingError::ReservedHeader(name));
+    let host = text(rt, alloc, "host");
+    connect_fails(rt, alloc, ConnectingError::InvalidServerName(host));
+    let reset = ConnectionError::from(LossReason::Reset);
+    connect_fails(rt, alloc, ConnectingError::ConnectionError(reset));
 }
 
-fn driver(rt: &impl Abort, end: DriverError) {
+fn ends_of_drivers_are_copied(rt: &impl Abort, alloc: Global) {
+    let end = DriverError::ApplicationClosed(by_application(rt, alloc, b"bye"));
     let copy = end.copy().expect(rt, "no memory");
     assert!(rt; copy == end, "{end:?}");
 }
 
-fn ends_of_drivers_are_copied(rt: &impl Abort, alloc: Global) {
-    driver(rt, DriverError::Proto(ErrorCode::Id));
-    driver(
-        rt,
-        DriverError::ApplicationClosed(by_application(rt, alloc, 7, b"bye")),
-    );
-    driver(rt, DriverError::NotConnected);
-}
-
-fn calls_and_actions_are_copied(rt: &impl Abort, alloc: Global) {
-    let call = Call::Close {
-        code: code(7),
-        reason: piece(rt, alloc, b"bye"),
-    };
-    let copy = call.copy(alloc).expect(rt, "no memory");
-    assert!(rt; copy == call, "{call:?}");
-    let mut actions = Actions::new(alloc);
-    let piece = piece(rt, alloc, b"hi");
-    actions
-        .push(Action::DatagramOut { piece })
-        .expect(rt, "no memory");
-    let copy = actions.copy().expect(rt, "no memory");
-    assert!(rt; copy == actions, "{actions:?}");
+fn answers_are_copied(rt: &impl Abort, alloc: Global) {
+    let mut answers = Answers::new(alloc);
+    let pushed = answers.push(answer(rt, alloc, Reply::Done));
+    pushed.expect(rt, "no memory");
+    let copy = answers.copy().expect(rt, "no memory");
+    assert!(rt; copy == answers, "{answers:?}");
 }
 
 #[test]
 fn every_error_is_copied(rt: HostRuntime) {
     let alloc = rt.alloc();
-    closes_are_copied(&rt, alloc);
     losses_are_copied(&rt, alloc);
-    ends_are_copied(&rt, alloc);
-    refused_connects_are_copied(&rt, alloc);
+    calls_are_copied(&rt, alloc);
+    bytes_and_ends_are_copied(&rt, alloc);
     failed_connects_are_copied(&rt, alloc);
     ends_of_drivers_are_copied(&rt, alloc);
-    calls_and_actions_are_copied(&rt, alloc);
+    answers_are_copied(&rt, alloc);
+}
+
+#[test]
+fn pieces_are_joined(rt: HostRuntime) {
+    let alloc = rt.alloc();
+    let mut joined = piece(&rt, alloc, b"go");
+    let end = piece(&rt, alloc, b"ne");
+    joined.append(&end).expect(&rt, "no memory");
+    assert_eq!(rt; joined.as_slice(), b"gone".as_slice());
 }

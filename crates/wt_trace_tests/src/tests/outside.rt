@@ -1,55 +1,42 @@
-use std::alloc::Global;
+//! What is outside: which calls of those in memory fail, and how readers and writers do.
+use crate::tests::program::answers;
 use std::io::{self, Error, ErrorKind, Read, Write};
-use std::process::Abort;
-use std::test::Fail;
 use wt_trace::outside::mem::{MemSink, MemSource};
 use wt_trace::outside::standard::{ReaderSource, WriterSink};
-use wt_trace::outside::sure::{SureSink, SureSource};
-use wt_trace::outside::{Failed, Sink, Source};
-use wt_trace::program::run_program;
+use wt_trace::outside::sure::SureSink;
+use wt_trace::outside::{Sink, Source};
 
-fn bytes(alloc: Global, text: &str) -> Result<Vec<u8>, Fail> {
-    Ok(text.as_bytes().to_vec(alloc)?)
+/// How many bytes a read gives, where it doesn't fail.
+fn read<S: Source>(source: &mut S, buffer: &mut [u8]) -> Option<usize> {
+    source.read(buffer).ok()
+}
+
+/// How many bytes a write takes, where it doesn't fail.
+fn write<K: Sink>(sink: &mut K, piece: &[u8]) -> Option<usize> {
+    sink.write(piece).ok()
 }
 
 #[test]
-fn a_source_gives_its_bytes_once(rt: HostRuntime) -> Result<(), Fail> {
-    let mut source = SureSource::new(bytes(rt.alloc(), "abc")?);
+fn chosen_reads_fail(rt: HostRuntime) {
+    let bytes = b"abc".to_vec(rt.alloc()).expect(&rt, "no memory");
+    let failing = vec![in rt.alloc(); 1u64].expect(&rt, "no memory");
+    let mut source = MemSource::new(bytes, failing);
     let mut buffer = [0u8; 2];
-    assert_eq!(rt; source.read(&mut buffer), Ok(2));
-    assert_eq!(rt; buffer.as_slice(), b"ab".as_slice());
-    assert_eq!(rt; source.read(&mut buffer), Ok(1));
+    assert!(rt; read(&mut source, &mut buffer) == Some(2));
+    assert!(rt; read(&mut source, &mut buffer).is_none());
+    assert!(rt; read(&mut source, &mut buffer) == Some(1));
     assert_eq!(rt; buffer.as_slice(), b"cb".as_slice());
-    assert_eq!(rt; source.read(&mut buffer), Ok(0));
-    Ok(())
+    assert!(rt; read(&mut source, &mut buffer) == Some(0));
 }
 
 #[test]
-fn chosen_reads_fail(rt: HostRuntime) -> Result<(), Fail> {
-    let failing = vec![in rt.alloc(); 1u64]?;
-    let mut source = MemSource::new(bytes(rt.alloc(), "abc")?, failing);
-    let mut buffer = [0u8; 2];
-    assert_eq!(rt; source.read(&mut buffer), Ok(2));
-    assert_eq!(rt; source.read(&mut buffer), Err(Failed));
-    assert_eq!(rt; source.read(&mut buffer), Ok(1));
-    Ok(())
-}
-
-#[test]
-fn chosen_writes_fail(rt: HostRuntime) -> Result<(), Fail> {
-    let failing = vec![in rt.alloc(); 1u64]?;
+fn chosen_writes_fail(rt: HostRuntime) {
+    let failing = vec![in rt.alloc(); 1u64].expect(&rt, "no memory");
     let mut sink = MemSink::new(rt.alloc(), failing);
-    assert_eq!(rt; sink.write(b"ab"), Ok(2));
-    assert_eq!(rt; sink.write(b"cd"), Err(Failed));
-    assert_eq!(rt; sink.write(b"ef"), Ok(2));
+    assert!(rt; write(&mut sink, b"ab") == Some(2));
+    assert!(rt; write(&mut sink, b"cd").is_none());
+    assert!(rt; write(&mut sink, b"ef") == Some(2));
     assert_eq!(rt; sink.taken(), b"abef".as_slice());
-    Ok(())
-}
-
-#[test]
-fn a_sure_sink_takes_all(rt: HostRuntime) {
-    let mut sink = SureSink;
-    assert_eq!(rt; sink.write(b"abc"), Ok(3));
 }
 
 /// Each of its reads fails, as those of a directory do.
@@ -62,26 +49,17 @@ impl Read for Directory {
     }
 }
 
-/// Each of its writes fails, as those to a full device do.
+/// Each of its writes takes nothing, or fails as those to a full device do.
 #[derive(Drop)]
-struct FullDevice;
+struct FullDevice {
+    fails: bool,
+}
 
 impl Write for FullDevice {
     fn write(&mut self, _buf: &[u8]) -> io::Result<usize> {
-        Err(Error::from(ErrorKind::StorageFull))
-    }
-
-    fn flush(&mut self) -> io::Result<()> {
-        Ok(())
-    }
-}
-
-/// Each of its writes takes nothing.
-#[derive(Drop)]
-struct Unwilling;
-
-impl Write for Unwilling {
-    fn write(&mut self, _buf: &[u8]) -> io::Result<usize> {
+        if self.fails {
+            return Err(Error::from(ErrorKind::StorageFull));
+        }
         Ok(0)
     }
 
@@ -90,44 +68,34 @@ impl Write for Unwilling {
     }
 }
 
-/// What the program answers to the word `trace`.
-fn status<S: Source, K: Sink>(rt: &impl Abort, alloc: Global, source: &mut S, sink: &mut K) -> u8 {
-    let word = String::from_str(alloc, "trace").expect(rt, "no memory");
-    let words = vec![in alloc; word].expect(rt, "no memory");
-    run_program(alloc, words.as_slice(), source, sink)
-}
-
 #[test]
-fn a_reader_is_a_source(rt: HostRuntime) {
+fn readers_are_sources_and_writers_are_sinks(rt: HostRuntime) {
     let mut source = ReaderSource::new(b"abc".as_slice());
     let mut buffer = [0u8; 2];
-    assert_eq!(rt; source.read(&mut buffer), Ok(2));
-    assert_eq!(rt; source.read(&mut buffer), Ok(1));
+    assert!(rt; read(&mut source, &mut buffer) == Some(2));
+    assert!(rt; read(&mut source, &mut buffer) == Some(1));
     assert_eq!(rt; buffer.as_slice(), b"cb".as_slice());
-    assert_eq!(rt; source.read(&mut buffer), Ok(0));
-}
-
-#[test]
-fn a_writer_is_a_sink(rt: HostRuntime) {
+    assert!(rt; read(&mut source, &mut buffer) == Some(0));
     let mut sink = WriterSink::new(Vec::new(rt.alloc()));
-    assert_eq!(rt; sink.write(b"ab"), Ok(2));
-    assert_eq!(rt; sink.write(b""), Ok(0));
+    assert!(rt; write(&mut sink, b"ab") == Some(2));
+    assert!(rt; write(&mut sink, b"") == Some(0));
 }
 
 #[test]
 fn a_reader_that_fails_is_no_end_of_input(rt: HostRuntime) {
     let mut source = ReaderSource::new(Directory);
-    assert_eq!(rt; source.read(&mut [0u8; 2]), Err(Failed));
-    assert_eq!(rt; status(&rt, rt.alloc(), &mut source, &mut SureSink), 4);
+    assert!(rt; read(&mut source, &mut [0u8; 2]).is_none());
+    let status = answers(&rt, rt.alloc(), "trace", &mut source, &mut SureSink);
+    assert!(rt; status == 4);
 }
 
 #[test]
 fn a_write_that_fails_is_told(rt: HostRuntime) {
-    let mut source = ReaderSource::new(b"foo".as_slice());
-    let mut sink = WriterSink::new(FullDevice);
-    assert_eq!(rt; sink.write(b"ab"), Err(Failed));
-    assert_eq!(rt; status(&rt, rt.alloc(), &mut source, &mut sink), 5);
-    let mut source = ReaderSource::new(b"foo".as_slice());
-    let mut sink = WriterSink::new(Unwilling);
-    assert_eq!(rt; status(&rt, rt.alloc(), &mut source, &mut sink), 5);
+    for fails in [true, false] {
+        let mut source = ReaderSource::new(b"foo".as_slice());
+        let mut sink = WriterSink::new(FullDevice { fails });
+        assert!(rt; write(&mut sink, b"ab").is_none());
+        let status = answers(&rt, rt.alloc(), "trace", &mut source, &mut sink);
+        assert!(rt; status == 5);
+    }
 }

@@ -1,4 +1,4 @@
-use Rattle.wt_session.proofs.Stays.{leads-on, receiving-may, sending-may, session-may}
+use Rattle.wt_connection.proofs.Stays.{leads-on, receiving-may, sending-may, session-may}
 use Rattle.wt_session.proofs.laws.calls_lead_on.Goals as goal
 
 pub returns-clause-session : goal.returns-clause-session

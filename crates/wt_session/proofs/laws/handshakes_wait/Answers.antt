@@ -1,4 +1,4 @@
-use Rattle.wt_session.proofs.Stays.{connect-stays, request-stays, response-stays, wait-starts, wait-stays}
+use Rattle.wt_session.proofs.Waits.{connect-stays, request-stays, response-stays, wait-starts, wait-stays}
 use Rattle.wt_session.proofs.laws.handshakes_wait.Goals as goal
 
 pub returns-clause-starts : goal.returns-clause-starts

@@ -1,4 +1,4 @@
-use Rattle.wt_session.proofs.Stays.{is-opening-stays, receiving-stays, sending-stays, session-stays}
+use Rattle.wt_connection.proofs.Stays.{is-opening-stays, receiving-stays, sending-stays, session-stays}
 use Rattle.wt_session.proofs.laws.what_stands_stays.Goals as goal
 
 pub returns-clause-session : goal.returns-clause-session

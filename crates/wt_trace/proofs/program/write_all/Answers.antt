@@ -1,5 +1,5 @@
 use Rattle.std.proofs.Common.{arith, length-drop, ◌∙◌}
-use Rattle.wt_trace.proofs.OutsideLaws.{appends_more, rest_of, part_up_to}
+use Rattle.wt_commands.proofs.OutsideLaws.{appends_more, rest_of, part_up_to}
 use Rattle.wt_trace.proofs.program.write_all.Goals as goal
 
 pub loop-at-preserved : goal.loop-at-preserved

@@ -1,6 +1,6 @@
 use Rattle.std.proofs.Common.{sym, ap, drop, ◌∙◌}
 use Rattle.wt_driver.proofs.Moved.{moves-on, not-over, session-there}
-use Rattle.wt_driver.proofs.Restaged.{twice}
+use Rattle.wt_scan.proofs.Restaged.{twice}
 use Rattle.wt_driver_spec.specs.DriverState.{DriverState}
 use Rattle.wt_inbox.specs.Stage.{Anywhere, SessionBody, with_stage}
 use Rattle.wt_proto.specs.SessionWalk.{is_over, session_walk_of}

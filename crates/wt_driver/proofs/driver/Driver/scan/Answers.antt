@@ -3,7 +3,7 @@ use Rattle.std.proofs.Common.{◌≡◌, ℕ, List, sym, ap, subst, ◌∙◌}
 use Rattle.wt_driver.proofs.Moved.{moves-on, on_ok, reads-on, state-moves}
 use Rattle.wt_driver.specs.PeerSettings.{settings_checked}
 use Rattle.wt_driver.specs.Moving.{HasDatagram, MayCheck, Moves, front_of}
-use Rattle.wt_driver.specs.Scanning.{AllAwait}
+use Rattle.wt_scan.specs.Scanning.{AllAwait, SlotsReceive}
 use Rattle.wt_driver.specs.Stages.{bi_stages, check_stages, uni_stages}
 use Rattle.wt_dispatch.specs.declared.slot.Half.TheVariants.{Bi, Uni}
 use Rattle.wt_driver_spec.specs.Bounds.{AreDistinct, IsBounded}
@@ -14,7 +14,7 @@ use Rattle.wt_spec.specs.Driver.{transport_view}
 use Rattle.wt_driver.proofs.driver.Driver.scan.Goals as goal
 
 pub returns-clause-log : goal.returns-clause-log
-returns-clause-log c = λ side log stage untaken r o h w.
+returns-clause-log c = λ side log stage untaken r o h w g.
     let t = transport_view side log in
     let d0 = c.args.self.now in
     let d1 = c.begin_scan.new.self in
@@ -29,6 +29,7 @@ returns-clause-log c = λ side log stage untaken r o h w.
     let m1 = state-moves side log untaken d0 d1 stage s1 r c.begin_scan.ensures in
     let m2 = c.in_ok-scan_unis.ensures.log side log stage untaken m1.inbox o
     (subst (λ (s : DriverState). AllAwait Uni stage s.unis) (sym m1.state_is) w.unis_await)
+    (subst (λ (s : DriverState). SlotsReceive side log s.unis) (sym m1.state_is) g.unis)
     (subst (λ (s : DriverState). AreDistinct s.unis) (sym m1.state_is) w.unis_distinct)
     (subst (λ (s : DriverState). IsBounded 4 0 s.unis) (sym m1.state_is) w.unis_bounded) in
     let a2 : Moves side log untaken d0 d2 st2 s2 d0.settings =
@@ -36,6 +37,7 @@ returns-clause-log c = λ side log stage untaken r o h w.
     (moves-on side log untaken d0 d1 d2 stage (uni_stages t d1.state stage) s1 (scan_uni_slots t) d0.settings m1 m2) in
     let m3 = c.in_ok-scan_bis.ensures.log side log st2 untaken a2.inbox o
     (subst (λ (s : DriverState). AllAwait Bi st2 s.bis) (sym a2.state_is) w.bis_await)
+    (subst (λ (s : DriverState). SlotsReceive side log s.bis) (sym a2.state_is) g.bis)
     (subst (λ (s : DriverState). AreDistinct s.bis) (sym a2.state_is) w.bis_distinct)
     (subst (λ (s : DriverState). IsBounded 1 0 s.bis) (sym a2.state_is) w.bis_bounded) in
     let a3 : Moves side log untaken d0 d3 st3 s3 d0.settings =

@@ -1,6 +1,6 @@
 use Rattle.std.proofs.Common.{◌∷◌, refl, sym, ap, subst, ◌∙◌}
 use Rattle.std.proofs.lemmas.Bool.{true≢false}
-use Rattle.wt_driver.proofs.Worked.{flush-control, flush-may, idle-follows, scan-datagram, scan-may, work-follows}
+use Rattle.wt_driver.proofs.Worked.{flush-control, flush-may, idle-follows, scan-datagram, scan-may, scan-receives, work-follows}
 use Rattle.wt_driver.specs.DriverValue.{DriverValue}
 use Rattle.wt_inbox.specs.Stage.{Refines}
 use Rattle.wt_driver.specs.Stages.{scanned_stages}
@@ -14,7 +14,7 @@ returns-in_ok-flush c = record {
       let d = c.args.self.now in
       let o = sym (c.is_open.ensures.log side (m ∷ log) in_.stage (untaken_since taken (m ∷ log))
       (subst (λ (v : DriverValue). Refines side v.inbox (m ∷ log) in_.stage (untaken_since taken (m ∷ log))) (sym c.self.view_is) in_.inbox)) ∙ c.if-is_open.true in
-      let moved = c.in_ok-scan.ensures.log side (m ∷ log) in_.stage (untaken_since taken (m ∷ log)) in_.inbox o (scan-datagram side log m taken d in_ o) (scan-may side log m taken d in_ o) in
+      let moved = c.in_ok-scan.ensures.log side (m ∷ log) in_.stage (untaken_since taken (m ∷ log)) in_.inbox o (scan-datagram side log m taken d in_ o) (scan-may side log m taken d in_ o) (scan-receives side log m taken d in_ o) in
       work-follows side log m taken d in_ o c.scan.new.self moved c.flush.new.self
       (c.in_ok-flush.ensures.log side (m ∷ log) (scanned_stages (transport_view side (m ∷ log)) d.state in_.stage) (untaken_since taken (m ∷ log)) moved.inbox o (flush-control side log m taken d in_ o c.scan.new.self moved) (flush-may side log m taken d in_ o c.scan.new.self moved))
       c.in_ok-flush.ensures.rest c.in_ok-flush.ensures.queue c.in_ok-flush.ensures.settings c.in_ok-flush.ensures.open;

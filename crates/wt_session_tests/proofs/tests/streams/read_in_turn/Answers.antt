@@ -1,5 +1,5 @@
 use Rattle.std.proofs.Common.{length, refl}
-use Rattle.wt_session.proofs.Stays.{leads-on, receiving-may, receiving-stays}
+use Rattle.wt_connection.proofs.Stays.{leads-on, receiving-may, receiving-stays}
 use Rattle.wt_spec.specs.Answers.{call_effect}
 use Rattle.wt_turn.specs.declared.call.Call.TheVariants as calls
 use Rattle.wt_turn.specs.declared.turn.Turn.TheVariants as turns

@@ -1,7 +1,7 @@
 use Rattle.std.proofs.Common.{◌∙◌, ◌≡◌, Result, ap, refl, subst, sym, true, ℕ}
 use Rattle.wt_error.specs.declared.stream_error.StreamOpeningError.{StreamOpeningError}
 use Rattle.wt_session_tests.proofs.tests.streams.write_polled.Goals as goal
-use Rattle.wt_session.specs.Standing.{IfGiven}
+use Rattle.wt_connection.specs.Standing.{IfGiven}
 use Rattle.wt_session_spec.specs.HalfPlans.{write_reply}
 use Rattle.wt_spec.specs.Answers.{call_effect}
 use Rattle.wt_spec.specs.Halves.{has_sending_half}

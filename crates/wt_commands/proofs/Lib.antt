@@ -1,0 +1,3 @@
+pub mod OutsideLaws
+pub mod GenerateLaws
+pub mod SummaryLaws

@@ -1,0 +1,14 @@
+use Rattle.std.proofs.Common.{◌≡◌, ◌+◌, ◌-◌, take, drop, sym, ◌∙◌, min, length, rules}
+use Rattle.wt_commands.proofs.OutsideLaws.{read_part, read_none}
+use Rattle.wt_commands.proofs.outside.sure.SureSourceSource.read.Goals as goal
+
+pub returns-clause-bytes : goal.returns-clause-bytes
+returns-clause-bytes c =
+    let bytes = c.self.inside.bytes.items in
+    let at = c.self.inside.at in
+    let count = c.min-count.result in
+    let e : count ≡ min (length c.args.buf.now) (length bytes - at) = search rules in
+    let p : c.copy_from_slice.new.self ≡ take (at + count - at) (drop at bytes) = search rules in (
+      sym c.self.view_is ∙ read_part bytes c.args.buf.now c.copy_from_slice.new.self at count c.self.invariant e p,
+      read_none bytes c.args.buf.now c.copy_from_slice.new.self at count c.self.invariant e p,
+    )

@@ -1,0 +1,4 @@
+pub mod Outside
+pub mod Generate
+pub mod Command
+pub mod Summary

@@ -1,0 +1,4 @@
+pub mod Sessions
+pub mod Leaves
+pub mod Stays
+pub mod Gives

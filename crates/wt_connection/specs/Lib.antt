@@ -1,0 +1,4 @@
+pub mod Datagrams
+pub mod Openings
+pub mod Standing
+pub mod Staying

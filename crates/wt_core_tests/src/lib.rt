@@ -1,0 +1,5 @@
+//! Tests of the core, and of how a connect begins. There are tests here and no code.
+#![tactic(auto)]
+
+#[cfg(test)]
+mod tests;

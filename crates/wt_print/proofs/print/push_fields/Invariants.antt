@@ -1,0 +1,10 @@
+use Rattle.std.proofs.Common.{◌≡◌, ◌++◌, drop}
+use Rattle.std.specs.Prelude.{string_bytes}
+use Rattle.std.specs.List.{flat_map}
+use Rattle.wt_print.specs.Print.{field_text}
+use Rattle.wt_print.proofs.print.push_fields.Given as goal
+
+abbrev pub invariant-loop-place : goal.invariant-loop-place
+invariant-loop-place l =
+    string_bytes l.out ++ flat_map field_text (drop l.place l.headers)
+    ≡ string_bytes l.fn.out ++ flat_map field_text l.headers

@@ -1,0 +1,2 @@
+pub mod PrintErrors
+pub mod Print

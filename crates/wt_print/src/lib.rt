@@ -1,0 +1,4 @@
+//! Answers as lines of text, one for each turn of a script.
+#![tactic(auto)]
+
+pub mod print;

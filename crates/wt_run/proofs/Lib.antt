@@ -1,0 +1,4 @@
+pub mod RunLaws
+pub mod PrefixLaws
+pub mod CutLaws
+pub mod LawsHold

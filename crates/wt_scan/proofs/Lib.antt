@@ -1,0 +1,3 @@
+pub mod Restaged
+pub mod ScanSteps
+pub mod Visits

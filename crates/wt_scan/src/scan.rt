@@ -1,0 +1,215 @@
+//! The scan of the slots of a kind.
+ghost use Rattle.std.specs.Prelude.{◌≡◌, ◌<◌, ◌&&◌, ◌||◌, [], length, ◌∷◌, if◌then◌else◌, List, ℕ, true, IfOk, OnOk, nat_lt};
+ghost use Rattle.std.specs.List.{remove};
+ghost use Rattle.wt_dispatch.specs.Rules.{slots_of};
+ghost use Rattle.wt_scan.specs.Scanning.{AllAwait, AwaitsAt, Leaves, Scans, SlotsReceive, awaits, dequeue_stage, header_stage, known_by, look_stage, rule_of, unless_given_up, visit_stage};
+ghost use Rattle.wt_dispatch.specs.Rules.{is_given_up};
+ghost use Rattle.wt_driver_spec.specs.Bounds.{AreDistinct, IsBounded};
+ghost use Rattle.wt_driver_spec.specs.DriverState.{Held};
+ghost use Rattle.wt_driver_spec.specs.Step.{Known, classify_slot, visit_slot, visited_as};
+ghost use Rattle.wt_inbox.specs.Stage.{Refines, Stage, stage_from, verdict_offset, with_stage};
+ghost use Rattle.wt_proto.specs.Uni.{is_final};
+ghost use Rattle.wt_seam_spec.specs.Streams.{can_receive};
+ghost use Rattle.wt_spec.specs.Scan.{occupied};
+ghost use Rattle.wt_spec.specs.Driver.{is_ready, transport_view};
+ghost use Rattle.wt_turn.specs.Log.{Log, is_open};
+ghost use Rattle.wt_turn.specs.declared.action.Action.{Action};
+ghost use Rattle.wt_wire.specs.declared.side.Side.{Side};
+
+use std::collections::VecDeque;
+use wt_dispatch::classified::{Classified, is_given_up, is_released_at_once};
+use wt_dispatch::dispatched::DispatchedStreams;
+use wt_dispatch::progress::Progress;
+use wt_dispatch::slot::{Half, Place, Slot};
+use wt_inbox::Inbox;
+use wt_proto::verdict::Verdict;
+use wt_wire::error::OutOfMemory;
+use wt_wire::ids::StreamId;
+
+/// So many slots a kind has.
+fn slots_of(half: Half) -> usize
+    ensures { result ≡ slots_of half }
+{
+    match half {
+        Half::Uni => 4,
+        Half::Bi => 1,
+    }
+}
+
+/// Whether the verdict of a stream of this kind is final.
+fn has_verdict(inbox: &mut Inbox, half: Half, id: StreamId) -> Result<bool, OutOfMemory>
+    ensures answer { (side : Side) (log : Log) (stage : ℕ → Stage) (untaken : List Action) → Refines side inbox.old log stage untaken → awaits half (stage id) ≡ true → IfOk result (λ so. so ≡ is_final ((rule_of half (transport_view side log)).verdict id)) }
+    ensures log { (side : Side) (log : Log) (stage : ℕ → Stage) (untaken : List Action) → Refines side inbox.old log stage untaken → awaits half (stage id) ≡ true → OnOk result (Refines side inbox.new log (with_stage stage id (header_stage half)) untaken) }
+{
+    match half {
+        Half::Uni => inbox.has_uni_verdict(id),
+        Half::Bi => inbox.has_bi_verdict(id),
+    }
+}
+
+/// The verdict of a stream of this kind, whose reader is let go.
+fn release_header(inbox: &mut Inbox, half: Half, id: StreamId) -> Result<Verdict, OutOfMemory>
+    ensures answer { (side : Side) (log : Log) (stage : ℕ → Stage) (untaken : List Action) → Refines side inbox.old log stage untaken → awaits half (stage id) ≡ true → IfOk result (λ v. v ≡ (rule_of half (transport_view side log)).verdict id) }
+    ensures log { (side : Side) (log : Log) (stage : ℕ → Stage) (untaken : List Action) → Refines side inbox.old log stage untaken → awaits half (stage id) ≡ true → OnOk result (Refines side inbox.new log (with_stage stage id (stage_from (verdict_offset ((rule_of half (transport_view side log)).verdict id)))) untaken) }
+{
+    match half {
+        Half::Uni => inbox.release_uni(id),
+        Half::Bi => inbox.release_bi(id),
+    }
+}
+
+/// Gives a stream up where the test holds: its bytes are let go.
+fn give_up_if(inbox: &mut Inbox, id: StreamId, test: bool)
+    ensures log { (side : Side) (log : Log) (stage : ℕ → Stage) (to : Stage) (untaken : List Action) → Refines side inbox.old log (with_stage stage id to) untaken → can_receive side log id ≡ true
+        → Refines side inbox.new log (with_stage stage id (unless_given_up test to)) untaken }
+{
+    if test && inbox.can_receive(id) {
+        inbox.give_up(id);
+    }
+}
+
+/// Whether nothing of a stream with this verdict is read any more, or not of a surplus one.
+fn gives_up(surplus: bool, verdict: &Verdict) -> bool
+    ensures { result ≡ (surplus || is_given_up verdict.now) }
+{
+    surplus || is_given_up(verdict)
+}
+
+/// The slot of a classified stream, unless it is released.
+fn held_unless(is_released: bool, id: StreamId) -> Option<Slot>
+    ensures { (n : ℕ) (known : Known) → record { slots = if is_released then [] else record { id = id; place = Held } ∷ []; occupied = occupied is_released n; known = known } ≡ visited_as result n known }
+{
+    if is_released {
+        None
+    } else {
+        Some(Slot::held(id))
+    }
+}
+
+/// Classifies a stream: what is left of its slot.
+fn classify(
+    inbox: &mut Inbox,
+    half: Half,
+    id: StreamId,
+    dispatched: &mut DispatchedStreams,
+    progress: &mut Progress,
+) -> Result<Option<Slot>, OutOfMemory>
+    ensures log { (side : Side) (log : Log) (stage : ℕ → Stage) (untaken : List Action) (n : ℕ) → Refines side inbox.old log stage untaken → awaits half (stage id) ≡ true → can_receive side log id ≡ true
+        → IfOk result (λ left. Leaves side log stage untaken id
+        (look_stage true half ((rule_of half (transport_view side log)).consequence dispatched.old id ((rule_of half (transport_view side log)).verdict id)).surplus ((rule_of half (transport_view side log)).verdict id))
+        (classify_slot true (rule_of half (transport_view side log)) id n (known_by dispatched.old progress.old))
+        n left inbox.new (known_by dispatched.new progress.new)) }
+{
+    let verdict = release_header(inbox, half, id)?;
+    let consequence = dispatched.consequence(half, id, &verdict);
+    let surplus = consequence.surplus;
+    let is_released = is_released_at_once(&verdict);
+    let gives_up = gives_up(surplus, &verdict);
+    progress.note(consequence)?;
+    dispatched.add(Classified {
+        id,
+        verdict,
+        surplus,
+    })?;
+    give_up_if(inbox, id, gives_up);
+    Ok(held_unless(is_released, id))
+}
+
+/// A dequeued stream is classified as soon as its verdict is final: what is left of its slot.
+fn look(
+    inbox: &mut Inbox,
+    half: Half,
+    id: StreamId,
+    dispatched: &mut DispatchedStreams,
+    progress: &mut Progress,
+) -> Result<Option<Slot>, OutOfMemory>
+    ensures log { (side : Side) (log : Log) (stage : ℕ → Stage) (untaken : List Action) (n : ℕ) → Refines side inbox.old log stage untaken → awaits half (stage id) ≡ true → can_receive side log id ≡ true
+        → IfOk result (λ left. Leaves side log stage untaken id
+        (dequeue_stage true half (rule_of half (transport_view side log)) id (known_by dispatched.old progress.old) (stage id))
+        (classify_slot (is_final ((rule_of half (transport_view side log)).verdict id)) (rule_of half (transport_view side log)) id n (known_by dispatched.old progress.old))
+        n left inbox.new (known_by dispatched.new progress.new)) }
+{
+    let is_decided = has_verdict(inbox, half, id)?;
+    if is_decided {
+        classify(inbox, half, id, dispatched, progress)
+    } else {
+        Ok(Some(Slot::dequeued(id)))
+    }
+}
+
+/// Whether a stream may be dequeued behind so many occupied slots.
+fn may_dequeue(inbox: &Inbox, half: Half, occupied: usize) -> bool
+    ensures { (side : Side) (log : Log) (stage : ℕ → Stage) (untaken : List Action) → Refines side inbox.now log stage untaken → is_open log ≡ true → result ≡ (is_ready side log && nat_lt occupied (rule_of half (transport_view side log)).slots) }
+{
+    let is_ready = inbox.is_ready();
+    let is_free = occupied < slots_of(half);
+    is_ready && is_free
+}
+
+/// Visits a slot behind so many others: what is left of it.
+fn visit(
+    inbox: &mut Inbox,
+    half: Half,
+    slot: &Slot,
+    occupied: usize,
+    dispatched: &mut DispatchedStreams,
+    progress: &mut Progress,
+) -> Result<Option<Slot>, OutOfMemory>
+    ensures log { (side : Side) (log : Log) (stage : ℕ → Stage) (untaken : List Action) → Refines side inbox.old log stage untaken → is_open log ≡ true → AwaitsAt half slot.now.place (stage slot.now.id) → can_receive side log slot.now.id ≡ true
+        → IfOk result (λ left. Leaves side log stage untaken slot.now.id
+        (visit_stage (is_ready side log) half (rule_of half (transport_view side log)) slot.now.place slot.now.id occupied (known_by dispatched.old progress.old) (stage slot.now.id))
+        (visit_slot (is_ready side log) (rule_of half (transport_view side log)) slot.now.place slot.now occupied (known_by dispatched.old progress.old))
+        occupied left inbox.new (known_by dispatched.new progress.new)) }
+{
+    let id = slot.id();
+    match slot.place() {
+        Place::Held => Ok(Some(Slot::held(id))),
+        Place::Dequeued => look(inbox, half, id, dispatched, progress),
+        Place::Arrived => {
+            let may_dequeue = may_dequeue(inbox, half, occupied);
+            if may_dequeue {
+                look(inbox, half, id, dispatched, progress)
+            } else {
+                Ok(Some(Slot::arrived(id)))
+            }
+        }
+    }
+}
+
+/// Removes a slot.
+pub fn remove_at(slots: &mut VecDeque<Slot>, at: usize)
+    requires { at < length slots.old.items }
+    ensures { slots.new.items ≡ remove slots.old.items at }
+{
+    match slots.remove(at) {
+        Some(_released) => {}
+        None => unreachable!(),
+    }
+}
+
+/// Scans the slots of a kind in order; behind the first few none is dequeued.
+pub fn scan(
+    inbox: &mut Inbox,
+    half: Half,
+    slots: &mut VecDeque<Slot>,
+    dispatched: &mut DispatchedStreams,
+    progress: &mut Progress,
+) -> Result<(), OutOfMemory>
+    ensures log { (side : Side) (log : Log) (stage : ℕ → Stage) (untaken : List Action) → Refines side inbox.old log stage untaken → is_open log ≡ true
+        → AllAwait half stage slots.old.items → SlotsReceive side log slots.old.items → AreDistinct slots.old.items → IsBounded (slots_of half) 0 slots.old.items
+        → OnOk result (Scans side log untaken (is_ready side log) half (rule_of half (transport_view side log)) stage slots.old.items slots.new.items
+        (known_by dispatched.old progress.old) (known_by dispatched.new progress.new) inbox.new) }
+{
+    let most = slots_of(half);
+    let mut at = 0;
+    while at < most && at < slots.len() && progress.goes_on() {
+        match visit(inbox, half, &slots[at], at, dispatched, progress)? {
+            Some(slot) => {
+                slots[at] = slot;
+                at += 1;
+            }
+            None => remove_at(slots, at),
+        }
+    }
+    Ok(())
+}

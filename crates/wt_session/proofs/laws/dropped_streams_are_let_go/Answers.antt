@@ -1,0 +1,5 @@
+use Rattle.wt_session.proofs.LetGo.{nothing-held}
+use Rattle.wt_session.proofs.laws.dropped_streams_are_let_go.Goals as goal
+
+pub returns : goal.returns
+returns c = λ side d log taken k reach f e. nothing-held side d log taken k reach f e

@@ -1,7 +1,0 @@
-use Rattle.std.proofs.Common.{◌≡◌}
-use Rattle.wt_trace.specs.Generate.{generated}
-use Rattle.wt_trace.proofs.generate.generate.Given as goal
-
--- so far, the run with the streams so far
-abbrev pub invariant-loop-number : goal.invariant-loop-number
-invariant-loop-number l = l.turns ≡ generated l.number
