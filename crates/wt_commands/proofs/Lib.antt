@@ -1,3 +1,4 @@
 pub mod OutsideLaws
 pub mod GenerateLaws
 pub mod SummaryLaws
+pub mod CommandLaws

@@ -5,6 +5,7 @@
 #![tactic(auto)]
 
 pub mod command;
+pub mod command_script;
 pub mod generate;
 pub mod outside;
 pub mod summary;

@@ -1,2 +1,1 @@
 pub mod ProgramLaws
-pub mod CommandLaws

@@ -8,6 +8,7 @@ use Rattle.wt_script.specs.declared.script.ScriptRefused.{ScriptRefused}
 use Rattle.wt_spec.specs.Answers.{AtUnlawful, Finished, Run, RunEnd, run}
 use Rattle.wt_run.specs.Laws.{KeepsLaws}
 use Rattle.wt_print.specs.Print.{print}
+use Rattle.wt_io.specs.Input.{script_limit}
 use Rattle.wt_commands.specs.declared.command.Command.{Command}
 use Rattle.wt_commands.specs.declared.command.Command.TheVariants.{Large, Trace}
 use Rattle.wt_commands.specs.Command.{command_of, command_script}
@@ -17,10 +18,6 @@ use Rattle.wt_commands.specs.Summary.{summary_line, summary_of}
 pub record Outcome : Type 0 where
   pub status : ℕ
   pub text : List ℕ
-
--- the greatest script, in bytes
-abbrev pub script_limit : ℕ
-script_limit = 16777216
 
 -- how the program is asked: status 1
 abbrev pub usage : Outcome
@@ -74,12 +71,6 @@ asked_outcome (Some command) input = input_outcome command input
 -- the outcome for these words and this input, where nothing outside fails and memory suffices
 abbrev pub outcome : List (List ℕ) → List ℕ → Outcome
 outcome words input = asked_outcome (command_of words) input
-
--- bytes were read from a source, at most one more than the greatest script has
-pub record ReadsFew (left_before left_now : Option (List ℕ)) : Type 0 where
-  pub input : List ℕ
-  pub few : length input ≤ script_limit + 1
-  pub consumed : Consumes left_before left_now input
 
 -- bytes were read from a source, at most one more than the greatest script has, and the status and the text are those of
 -- the command for them; where the source tells its bytes and was read to its end, they are all of them

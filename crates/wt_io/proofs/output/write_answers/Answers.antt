@@ -3,7 +3,7 @@ use Rattle.std.proofs.lemmas.List.{take_all}
 use Rattle.std.specs.Prelude.{string_bytes}
 use Rattle.wt_print.specs.Print.{answer_line, print}
 use Rattle.wt_commands.proofs.OutsideLaws.{part_passed, text_part, text_passes}
-use Rattle.wt_trace.proofs.program.write_answers.Goals as goal
+use Rattle.wt_io.proofs.output.write_answers.Goals as goal
 
 pub returns-in-Err-clause-part : goal.returns-in-Err-clause-part
 returns-in-Err-clause-part g c =

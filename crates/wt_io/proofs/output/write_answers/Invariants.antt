@@ -2,7 +2,7 @@ use Rattle.std.proofs.Common.{◌≡◌, take}
 use Rattle.std.specs.Prelude.{string_bytes}
 use Rattle.wt_print.specs.Print.{print}
 use Rattle.wt_commands.specs.Outside.{Passes}
-use Rattle.wt_trace.proofs.program.write_answers.Given as goal
+use Rattle.wt_io.proofs.output.write_answers.Given as goal
 
 abbrev pub invariant-loop-answer : goal.invariant-loop-answer
 invariant-loop-answer g l = record {

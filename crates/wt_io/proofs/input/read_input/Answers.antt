@@ -1,7 +1,7 @@
 use Rattle.std.proofs.Common.{arith, rules, ◌+◌, ◌-◌, ◌≤◌, ◌++◌, length, take, length-append}
 use Rattle.std.proofs.KnownBytes.{Consumes-trans}
-use Rattle.wt_trace.specs.Program.{script_limit}
-use Rattle.wt_trace.proofs.program.read_input.Goals as goal
+use Rattle.wt_io.specs.Input.{script_limit}
+use Rattle.wt_io.proofs.input.read_input.Goals as goal
 
 -- where no memory is there for what was read last, that was consumed too
 pub returns-then-is_err-clause-reads : goal.returns-then-is_err-clause-reads

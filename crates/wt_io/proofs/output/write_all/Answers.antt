@@ -1,6 +1,6 @@
 use Rattle.std.proofs.Common.{arith, length-drop, ◌∙◌}
 use Rattle.wt_commands.proofs.OutsideLaws.{appends_more, rest_of, part_up_to}
-use Rattle.wt_trace.proofs.program.write_all.Goals as goal
+use Rattle.wt_io.proofs.output.write_all.Goals as goal
 
 pub loop-at-preserved : goal.loop-at-preserved
 loop-at-preserved g c =

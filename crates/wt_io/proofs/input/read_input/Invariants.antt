@@ -1,7 +1,7 @@
 use Rattle.std.proofs.Common.{◌≡◌, ◌≤◌, ◌+◌, ◌-◌, length}
 use Rattle.std.specs.Io.KnownBytes.{Consumes}
-use Rattle.wt_trace.specs.Program.{script_limit}
-use Rattle.wt_trace.proofs.program.read_input.Given as goal
+use Rattle.wt_io.specs.Input.{script_limit}
+use Rattle.wt_io.proofs.input.read_input.Given as goal
 
 abbrev pub invariant-loop-buffer : goal.invariant-loop-buffer
 invariant-loop-buffer g l = record {
