@@ -1,8 +1,5 @@
-pub mod Over
-pub mod Beginning
 pub mod Delivering
 pub mod Responding
-pub mod Connects
 pub mod Waits
 pub mod Outlasts
 pub mod LetGo

@@ -3,7 +3,7 @@ use Rattle.std.specs.Prelude.{[], ◌&&◌, ◌∷◌, ◌≡◌, Bool, IfOk, Li
 use Rattle.std.proofs.Common.{◌∙◌, ap, refl, subst, sym}
 use Rattle.wt_session.specs.Incoming.{IsUnanswered, Request, unbegun}
 use Rattle.wt_session.specs.Responding.{IsCallOf, IsPollOf, IsResponse, IsResponseReply, Response, StandsWith, response_state, waiting_record}
-use Rattle.wt_connection.specs.Standing.{IsEstablished}
+use Rattle.wt_connecting.proofs.Over.{establishes}
 use Rattle.wt_driver.specs.DriverValue.{DriverValue}
 use Rattle.wt_driver.specs.Tie.{Follows, untaken_since}
 use Rattle.wt_laws.proofs.SessionLaws.{has_request}
@@ -26,13 +26,12 @@ use Rattle.wt_session_spec.specs.Plan.{Establish, Plan, Step, closing_with, fail
 use Rattle.wt_session_spec.specs.Plans.{plan_of}
 use Rattle.wt_session_spec.specs.SessionState.{SessionState, is_answering, session_state}
 use Rattle.wt_spec.specs.Answers.{call_effect, is_client, is_first, may_call}
-use Rattle.wt_spec.specs.Driver.{established}
 use Rattle.wt_spec.specs.Effect.{Effect, log_call}
 use Rattle.wt_spec.specs.Handshake.{HandshakeState, awaits_answer, handshake_state, is_continuable, requested, requested_by}
 use Rattle.wt_told.proofs.DriverTheorems.{drivers_tell_theorem}
 use Rattle.wt_told.proofs.Theorems.{logged_theorem, stays_theorem}
 use Rattle.wt_told.specs.Delivering.{delivers_request}
-use Rattle.wt_turn.specs.Log.{CallRecord, HandshakeOver, Log, Polled, ResponseStarted, SessionEstablished, calls_of}
+use Rattle.wt_turn.specs.Log.{CallRecord, HandshakeOver, Log, ResponseStarted, calls_of}
 use Rattle.wt_turn.specs.declared.action.Action.{Action}
 use Rattle.wt_turn.specs.declared.call.Call.{Call}
 use Rattle.wt_turn.specs.declared.call.Call.TheVariants as calls
@@ -194,13 +193,6 @@ reply-of-plan side log true waiting _ k = absurd k
 reply-of-plan side log false waiting (Step own r replies.Pending) k = tt
 reply-of-plan side log false waiting (Step own r replies.Rejected) k = tt
 reply-of-plan side log false waiting _ k = absurd k
-
--- the session that is established stands
-pub establishes : (side : Side) (log : Log) (own : List Action) (id at : ℕ) → IsEstablished (perform side log (Establish own id at)).log id
-establishes side log own id at = record {
-  offset = at;
-  is = ap established (logged_theorem side (log_call side log own (SessionEstablished id at)) [] Polled ∙ ap (λ (rs : List CallRecord). Polled ∷ rs) (logged_theorem side log own (SessionEstablished id at)));
-}
 
 waits-on : (begun accepts : Bool) (id : ℕ) (head : List ℕ) (before : List CallRecord) → handshake_state before ≡ response_state begun accepts id head → handshake_state (waiting_record begun accepts head ∷ before) ≡ response_state true accepts id head
 waits-on true accepts id head before e = e

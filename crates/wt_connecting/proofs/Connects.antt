@@ -1,8 +1,8 @@
 -- What a client's connect is planned to do, and what stands once that is done.
 use Rattle.std.specs.Prelude.{[], ◌++◌, ◌∷◌, ◌≡◌, Bool, IfOk, List, None, Option, Result, Some, false, if◌then◌else◌, not, true, ℕ}
 use Rattle.std.proofs.Common.{◌∙◌, ap, refl, subst, sym}
-use Rattle.wt_session.proofs.Responding.{establishes}
-use Rattle.wt_session.specs.Connecting.{Connect, IsConnectReply, IsConnecting, StandsWith}
+use Rattle.wt_connecting.proofs.Over.{establishes}
+use Rattle.wt_connecting.specs.Connecting.{Connect, IsConnectReply, IsConnecting, StandsWith}
 use Rattle.wt_driver.specs.DriverValue.{DriverValue}
 use Rattle.wt_driver.specs.Tie.{Follows, untaken_since}
 use Rattle.wt_driver_spec.specs.Asking.{AwaitsResponse}

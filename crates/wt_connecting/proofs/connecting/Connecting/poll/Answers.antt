@@ -1,7 +1,7 @@
 use Rattle.std.proofs.Common.{◌∙◌, subst, sym}
-use Rattle.wt_session.proofs.Connects.{poll_may, poll_reply, poll_stands}
-use Rattle.wt_session.proofs.connecting.Connecting.poll.Goals as goal
-use Rattle.wt_session.specs.Connecting.{StandsWith}
+use Rattle.wt_connecting.proofs.Connects.{poll_may, poll_reply, poll_stands}
+use Rattle.wt_connecting.proofs.connecting.Connecting.poll.Goals as goal
+use Rattle.wt_connecting.specs.Connecting.{StandsWith}
 use Rattle.wt_spec.specs.Answers.{call_effect}
 use Rattle.wt_turn.specs.declared.call.Call.TheVariants as calls
 

@@ -2,7 +2,7 @@
 ghost use Rattle.std.specs.Prelude.{◌≡◌, ◌∷◌, [], Err, IfOk, None, Ok, OnOk, Option, true, ℕ};
 ghost use Rattle.std.specs.Option.{option_copied};
 ghost use Rattle.wt_connect.specs.ConnectTarget.{target_of};
-ghost use Rattle.wt_session.specs.Connecting.{BeginsConnect, Connect, IsConnectReply, IsConnecting, StandsWith, beginning_reply, connecting_reply};
+ghost use Rattle.wt_connecting.specs.Connecting.{BeginsConnect, Connect, IsConnectReply, IsConnecting, StandsWith, beginning_reply, connecting_reply};
 ghost use Rattle.wt_driver.specs.Tie.{Follows};
 ghost use Rattle.wt_driver_spec.specs.Asking.{MayBeCalled};
 ghost use Rattle.wt_laws.specs.Reachable.{IsReachable};
@@ -56,7 +56,7 @@ pub struct Connecting {
 }
 
 impl Model for Connecting {
-    ghost use Rattle.wt_session.specs.Connecting.{Connect};
+    ghost use Rattle.wt_connecting.specs.Connecting.{Connect};
 
     ghost Value = { Connect };
 

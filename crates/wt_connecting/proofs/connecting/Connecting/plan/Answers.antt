@@ -1,6 +1,6 @@
 use Rattle.std.proofs.Common.{◌∙◌, ap}
-use Rattle.wt_session.proofs.Connects.{planned_by_log, planned_call}
-use Rattle.wt_session.proofs.connecting.Connecting.plan.Goals as goal
+use Rattle.wt_connecting.proofs.Connects.{planned_by_log, planned_call}
+use Rattle.wt_connecting.proofs.connecting.Connecting.plan.Goals as goal
 use Rattle.wt_inbox.specs.State.{InboxState}
 
 pub returns : goal.returns

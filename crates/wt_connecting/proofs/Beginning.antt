@@ -3,7 +3,7 @@ use Rattle.std.specs.Prelude.{[], ◌∷◌, ◌≡◌, Err, List, Ok, true, ℕ
 use Rattle.std.proofs.Common.{◌∙◌, ap, subst, sym}
 use Rattle.wt_connect.specs.ConnectTarget.{target_of}
 use Rattle.wt_connect.specs.declared.connect_target.ConnectTarget.{ConnectTarget}
-use Rattle.wt_session.specs.Connecting.{Connect, IsConnecting}
+use Rattle.wt_connecting.specs.Connecting.{Connect, IsConnecting}
 use Rattle.wt_driver.specs.DriverValue.{DriverValue}
 use Rattle.wt_driver.specs.Tie.{Follows}
 use Rattle.wt_driver_spec.specs.Asking.{MayBeCalled}

@@ -1,8 +1,8 @@
 use Rattle.std.proofs.Common.{◌∙◌, List, ap, subst, sym, ℕ}
 use Rattle.wt_connect.specs.ConnectTarget.{target_of}
-use Rattle.wt_session.proofs.Beginning.{dialled_begins, dialled_effect, dialled_log, failed_effect}
-use Rattle.wt_session.proofs.Over.{over_may}
-use Rattle.wt_session.proofs.connecting.Connecting.begin.Goals as goal
+use Rattle.wt_connecting.proofs.Beginning.{dialled_begins, dialled_effect, dialled_log, failed_effect}
+use Rattle.wt_connecting.proofs.Over.{over_may}
+use Rattle.wt_connecting.proofs.connecting.Connecting.begin.Goals as goal
 use Rattle.wt_driver.specs.Tie.{Follows}
 use Rattle.wt_spec.specs.Effect.{Effect}
 

@@ -1,6 +1,6 @@
 use Rattle.std.proofs.Common.{◌∙◌, ◌≡◌, IfOk, subst}
-use Rattle.wt_session.proofs.Connects.{awaits_response, walk_is}
-use Rattle.wt_session.proofs.connecting.response.Goals as goal
+use Rattle.wt_connecting.proofs.Connects.{awaits_response, walk_is}
+use Rattle.wt_connecting.proofs.connecting.response.Goals as goal
 use Rattle.wt_proto.specs.declared.response_walk.ResponseWalk.{ResponseWalk}
 
 pub returns-clause-log : goal.returns-clause-log

@@ -1,0 +1,33 @@
+-- The end of a handshake, and the session that stands behind it.
+use Rattle.std.specs.Prelude.{[], ◌∷◌, List, ℕ}
+use Rattle.std.proofs.Common.{◌∙◌, ap}
+use Rattle.wt_connection.specs.Standing.{IsEstablished}
+use Rattle.wt_driver.specs.DriverValue.{DriverValue}
+use Rattle.wt_driver.specs.Tie.{Follows}
+use Rattle.wt_driver_spec.specs.Asking.{MayBeCalled}
+use Rattle.wt_session_acts.proofs.RecordsMay.{over-made}
+use Rattle.wt_session_spec.specs.Plan.{Establish, perform}
+use Rattle.wt_spec.specs.Driver.{established}
+use Rattle.wt_spec.specs.Effect.{log_call}
+use Rattle.wt_told.proofs.Theorems.{logged_theorem}
+use Rattle.wt_turn.specs.Log.{CallRecord, HandshakeOver, Log, Polled, SessionEstablished}
+use Rattle.wt_turn.specs.declared.action.Action.{Action}
+use Rattle.wt_wire.specs.declared.side.Side.{Side}
+
+-- it may be recorded at any time
+pub over_may : (side : Side) (d : DriverValue) (log : Log) (taken : ℕ) → Follows side d log taken → MayBeCalled side log HandshakeOver
+over_may side d log taken f =
+    let made = over-made side log in
+    record {
+      may = made.may;
+      can = made.can;
+      sends = λ o. let x = f.sends o in record { unfinished = x.unfinished; unreset = x.unreset; session = x.session };
+      half = made.half;
+    }
+
+-- the session that is established stands
+pub establishes : (side : Side) (log : Log) (own : List Action) (id at : ℕ) → IsEstablished (perform side log (Establish own id at)).log id
+establishes side log own id at = record {
+  offset = at;
+  is = ap established (logged_theorem side (log_call side log own (SessionEstablished id at)) [] Polled ∙ ap (λ (rs : List CallRecord). Polled ∷ rs) (logged_theorem side log own (SessionEstablished id at)));
+}
