@@ -3,7 +3,8 @@ ghost use Rattle.std.specs.Prelude.{◌≡◌, ◌≢◌, ◌⊎◌, [], IfOk, I
 ghost use Rattle.std.specs.Io.KnownBytes.{Appends};
 ghost use Rattle.std.specs.IoError.{error_kind};
 ghost use Rattle.std.specs.Process.{exit_status};
-ghost use Rattle.wt_trace.specs.Program.{is_cut_short, outcome, usage};
+ghost use Rattle.wt_outcome.specs.Outcome.{usage};
+ghost use Rattle.wt_trace.specs.Program.{is_cut_short, outcome};
 
 use std::alloc::Global;
 use std::io::{Error, ErrorKind};
