@@ -4,14 +4,11 @@
 //! last line says how many there are and how many differ; the exit status is 0 where none does.
 #![tactic(auto)]
 
-mod case;
-mod reading;
-
-use crate::case::{Case, differing};
-use crate::reading::read_cases;
 use std::io::{Error, ErrorKind};
 use std::process::ExitCode;
 use std::{env, fs, io};
+use wt_case::case::{Case, differing};
+use wt_case::reading::read_cases;
 
 /// Prints the numbers of the cases that differ, counted from 0, and how many there are.
 fn print_differing(rt: &HostRuntime, cases: &[Case]) -> io::Result<bool> {

@@ -1,6 +1,6 @@
 //! A recorded case, and whether the program answers it so.
 ghost use Rattle.std.specs.Prelude.{◌≡◌, [], IfOk, OnOk, All, IsTrue, false};
-ghost use Rattle.wt_cases.specs.Cases.{IsAnswered};
+ghost use Rattle.wt_case.specs.Cases.{IsAnswered};
 ghost use Rattle.wt_trace.specs.Program.{is_cut_short};
 
 use std::alloc::{AllocError, Global};

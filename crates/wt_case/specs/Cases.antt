@@ -1,6 +1,6 @@
 -- What a recorded case says (this repository's own).
 use Rattle.std.specs.Prelude.{◌≡◌, map, string_bytes}
-use Rattle.wt_cases.specs.declared.case.Case.{Case}
+use Rattle.wt_case.specs.declared.case.Case.{Case}
 use Rattle.wt_trace.specs.Program.{outcome}
 
 -- the definitions give the case's text and status for its words and its script

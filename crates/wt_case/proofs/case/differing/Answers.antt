@@ -2,9 +2,9 @@ use Rattle.std.proofs.Common.{arith, ◌≡◌, ◌<◌, ◌+◌, ℕ, List, ◌
 use Rattle.std.proofs.lemmas.List.{take_all, take_more}
 use Rattle.std.proofs.lemmas.List.Elements.{All-push}
 use Rattle.std.specs.Prelude.{All}
-use Rattle.wt_cases.specs.Cases.{IsAnswered}
-use Rattle.wt_cases.specs.declared.case.Case.{Case}
-use Rattle.wt_cases.proofs.case.differing.Goals as goal
+use Rattle.wt_case.specs.Cases.{IsAnswered}
+use Rattle.wt_case.specs.declared.case.Case.{Case}
+use Rattle.wt_case.proofs.case.differing.Goals as goal
 
 -- one more of the cases
 all-more : (cases : List Case) (i : ℕ) (case : Case) → i < length cases → case ≡ get_or cases i case → All IsAnswered (take i cases) → IsAnswered case → All IsAnswered (take (i + 1) cases)
