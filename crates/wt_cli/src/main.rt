@@ -5,11 +5,9 @@
 //! answers. The exit status tells how that went: see [`run_program`](wt_trace::run_program).
 #![tactic(auto)]
 
-mod ended;
-
-use crate::ended::{Ended, run};
 use std::env;
 use std::io::Error;
+use wt_ended::ended::{Ended, run};
 use wt_trace::outside::standard::{StdSink, StdSource};
 
 /// The words after the program's name. The error is a word that isn't UTF-8, or out of memory.

@@ -1,0 +1,4 @@
+//! How the command ends: with the status of its run.
+#![tactic(auto)]
+
+pub mod ended;
