@@ -150,7 +150,7 @@ pub fn is_given_up(verdict: &Verdict) -> bool
     ensures { result ≡ is_given_up verdict.now }
 {
     match verdict {
-        Verdict::Dropped | Verdict::Refused(_) => true,
+        Verdict::Dropped | Verdict::Refused(_) | Verdict::Encoder(_) | Verdict::Decoder(_) => true,
         _ => false,
     }
 }

@@ -100,6 +100,8 @@ unwanted-gone side log stage k f e = by (classified_of k (stream_table side log)
     said : (surplus : Bool) (v : Verdict) (done : CallUse) (ending : Option Ending) → (is_given_up v || (is_request v && surplus)) ≡ true → ClassifiedSays surplus v done ending (stage k) → stage k ≡ GivenUp
     said surplus verdicts.Dropped done ending g h = h
     said surplus (verdicts.Refused code) done ending g h = h
+    said surplus (verdicts.Encoder at) done ending g h = h
+    said surplus (verdicts.Decoder at) done ending g h = h
     said true (verdicts.Request request at) done ending g h = h
     said false (verdicts.Request request at) done ending g h = absurd cc
     said surplus _ done ending g h = absurd cc

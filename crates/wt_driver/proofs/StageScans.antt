@@ -11,7 +11,7 @@ use Rattle.wt_dispatch.specs.declared.slot.Half.TheVariants.{Bi, Uni}
 use Rattle.wt_driver_spec.proofs.ScanSlots.{ArePeers, IsDistinct, Same, Untouched, apart, has-here, known, scan-same, scan-slots, slots-same, untouched-later, visit-later}
 use Rattle.wt_driver_spec.specs.DriverState.{Arrived, Dequeued, Held, Slot, SlotPlace, slot_by, slots}
 use Rattle.wt_driver_spec.specs.Step.{Known, Scanned, dequeue_slot, known_after, scan_slots, visit_slot}
-use Rattle.wt_inbox.specs.Stage.{Body, Stage, control_offset, with_stage}
+use Rattle.wt_inbox.specs.Stage.{Body, GivenUp, Stage, control_offset, stage_from, with_stage}
 use Rattle.wt_proto.specs.Uni.{is_final}
 use Rattle.wt_proto.specs.declared.verdict.Verdict.{Verdict}
 use Rattle.wt_proto.specs.declared.verdict.Verdict.TheVariants as verdicts
@@ -79,6 +79,11 @@ at-request true at ending = refl
 at-session : (done : CallUse) (at : ℕ) → done.read ≡ 0 → done.is_dropped ≡ false → BodySays done at (Body at)
 at-session done at none kept = up-to done.is_dropped (at + done.read) (Body at) kept (ap (λ (n : ℕ). Some n) (sym (add-zero at)) ∙ ap (λ (n : ℕ). Some (at + n)) (sym none))
 
+-- whether or not it is surplus, nothing of it is kept
+let-go : (surplus : Bool) (stage : Stage) → unless_given_up (surplus || true) stage ≡ GivenUp
+let-go true stage = refl
+let-go false stage = refl
+
 -- a stream that is classified now is at the stage that its verdict asks
 newly : (half : Half) (t : TransportView) (d : Dispatched) (k : ℕ) (v : Verdict) (done : CallUse) (ending : Option Ending) → done.read ≡ 0 → done.is_dropped ≡ false
     → ClassifiedSays ((rule_of half t).consequence d k v).surplus v done ending (classified_stage ((rule_of half t).consequence d k v).surplus v)
@@ -92,6 +97,8 @@ newly Uni t d k verdicts.Dropped done ending e f = refl
 newly Bi t d k verdicts.Dropped done ending e f = refl
 newly Uni t d k (verdicts.Refused code) done ending e f = refl
 newly Bi t d k (verdicts.Refused code) done ending e f = refl
+newly half t d k (verdicts.Encoder at) done ending e f = let-go ((rule_of half t).consequence d k (verdicts.Encoder at)).surplus (stage_from (Some at))
+newly half t d k (verdicts.Decoder at) done ending e f = let-go ((rule_of half t).consequence d k (verdicts.Decoder at)).surplus (stage_from (Some at))
 newly half t d k _ done ending e f = tt
 
 -- of a stream that isn't classified and that the peer opened

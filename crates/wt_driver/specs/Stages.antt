@@ -77,16 +77,18 @@ FirstSays ForRequest done ending stage = ResponseSays done.session done.is_over 
 FirstSays OfLocalBi done ending stage = BodySays done 0 stage
 FirstSays OfLocalUni done ending stage = Unit {0}
 
--- of a stream that is classified with this verdict: nothing of one that is dropped or refused is kept
+-- of a stream that is classified with this verdict: nothing of one that is dropped or refused is kept, nor of a QPACK stream
 abbrev pub ClassifiedSays : Bool → Verdict → CallUse → Option Ending → Stage → Type 0
 ClassifiedSays surplus (verdicts.Control at) done ending stage = control_offset stage ≡ Some at
 ClassifiedSays surplus (verdicts.Request request at) done ending stage = RequestSays surplus at ending stage
 ClassifiedSays surplus (verdicts.WebTransport session at) done ending stage = BodySays done at stage
 ClassifiedSays surplus verdicts.Dropped done ending stage = stage ≡ GivenUp
 ClassifiedSays surplus (verdicts.Refused code) done ending stage = stage ≡ GivenUp
+ClassifiedSays surplus (verdicts.Encoder at) done ending stage = stage ≡ GivenUp
+ClassifiedSays surplus (verdicts.Decoder at) done ending stage = stage ≡ GivenUp
 ClassifiedSays surplus _ done ending stage = Unit {0}
 
--- nothing is kept of a stream that is classified so: dropped, refused, or a surplus request
+-- nothing is kept of a stream that is classified so: dropped, refused, of QPACK, or a surplus request
 abbrev pub is_unwanted : Option Classified → Bool
 is_unwanted None = false
 is_unwanted (Some c) = is_given_up c.verdict || (is_request c.verdict && c.surplus)

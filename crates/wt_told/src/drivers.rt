@@ -54,8 +54,8 @@ pub fn requests_end_where_drivers_tell()
     ensures { (side : Side) (d : DriverValue) (log : Log) (untaken : List Action) (call : Call) (own : List Action) (k : ℕ) (reply : Reply) (id : ℕ) (headers : Fields) (at : ℕ) → Refines side d log untaken → may_call side log call ≡ true → plan_of (facts_of side log) (session_state log) call ≡ Step own (RequestDelivered k) reply → first_request (requests_now d.state) ≡ Some (id, headers, at) → KeepsRequestEnd side (call_effect side log call).log at }
 {}
 
-/// A driver holds no byte of a stream that a call let go, and none of one that is dropped, refused, or a
-/// surplus request. Each stream of the peer's that a call passed or gave up was let go.
+/// A driver holds no byte of a stream that a call let go, and none of one that is dropped, refused, of QPACK,
+/// or a surplus request. Each stream of the peer's that a call passed or gave up was let go.
 pub fn drivers_let_streams_go()
     ensures let_go { (side : Side) (d : DriverValue) (log : Log) (untaken : List Action) (k : ℕ) → Refines side d log untaken → is_let_go side log k ≡ true → unread_now d.inbox.transport k ≡ [] }
     ensures unwanted { (side : Side) (d : DriverValue) (log : Log) (untaken : List Action) (k : ℕ) → Refines side d log untaken → is_unwanted (classified_of k (stream_table side log).classified) ≡ true → unread_now d.inbox.transport k ≡ [] }

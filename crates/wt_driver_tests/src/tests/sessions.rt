@@ -189,10 +189,20 @@ fn a_critical_stream_must_not_end(rt: HostRuntime) {
         end 2
         > done ; close 260 -
         ~
-        # The encoder's stream.
+        # The encoder's stream, of whose bytes none is kept.
         peer_uni
-        bytes 2 02
+        bytes 2 02aabb
+        unread 2 0
+        bytes 2 cc
+        unread 2 0
         reset 2 1
+        > done ; close 260 -
+        ~
+        # The decoder's stream.
+        peer_uni
+        bytes 2 03aa
+        unread 2 0
+        end 2
         > done ; close 260 -
         ~
         # A stream that ends inside its type is none of these.
