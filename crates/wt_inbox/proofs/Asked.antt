@@ -1,29 +1,31 @@
 -- What asking and releasing leave of every stream's answers.
-use Rattle.std.proofs.Common.{◌≡◌, ℕ, Bool, false, List, None, refl, ap, ◌∙◌}
+use Rattle.std.proofs.Common.{◌≡◌, ℕ, Bool, false, List, [], None, refl, ap, ◌∙◌}
 use Rattle.std.specs.Prelude.{Err, IfOk, Ok, OnOk, Result, is_some, ◌==◌}
 use Rattle.wt_wire.specs.declared.side.StreamEnd.{StreamEnd}
 use Rattle.wt_wire.specs.declared.side.StreamEnd.TheVariants.{Running}
 use Rattle.wt_proto.specs.declared.walk.Step.{Step}
 use Rattle.wt_proto.specs.declared.control_walk.ControlWalk.{ControlWalk}
+use Rattle.wt_proto.specs.declared.response_walk.ResponseWalk.{ResponseWalk}
+use Rattle.wt_proto.specs.declared.response_walk.ResponseWalk.TheVariants.{Waiting, Response, Ended, Fault}
 use Rattle.wt_proto.specs.Reading.{outcome_in}
 use Rattle.wt_proto.specs.Uni.{is_final, uni_decides, uni_unfinished, uni_verdict_of}
 use Rattle.wt_proto.specs.Bi.{bi_decides, bi_unfinished, bi_verdict_of}
 use Rattle.wt_proto.specs.ControlWalk.{control_decides, control_unfinished, control_walk_of}
 use Rattle.wt_proto.specs.SessionWalk.{is_over, session_decides, session_unfinished, session_walk_of}
-use Rattle.wt_proto.specs.ResponseWalk.{is_response_final, response_decides, response_unfinished, response_walk_of}
+use Rattle.wt_proto.specs.ResponseWalk.{is_answered, is_response_final, response_decides, response_unfinished, response_walk_of}
 use Rattle.wt_proto.proofs.UniReading.{uni_lawful}
 use Rattle.wt_proto.proofs.BiReading.{bi_lawful}
 use Rattle.wt_proto.proofs.ControlReading.{control_lawful}
 use Rattle.wt_proto.proofs.SessionReading.{session_lawful}
 use Rattle.wt_proto.proofs.ResponseReading.{response_lawful}
 use Rattle.wt_seam.specs.State.{TransportState}
-use Rattle.wt_seam.specs.Step.{unread_now}
+use Rattle.wt_seam.specs.Step.{end_now, unread_now}
 use Rattle.wt_inbox.specs.Quiet.{quiet}
 use Rattle.wt_inbox.specs.Kept.{Kept, outcome_after, outcome_by, reading_of}
 use Rattle.wt_inbox.specs.State.{InboxState, SameAt, bi_verdict_now, control_now, is_over_by_bytes, response_now, session_now, uni_verdict_now}
 use Rattle.wt_inbox.specs.Moves.{BiPulled, BiTaken, ControlPulled, ResponsePulled, ResponseTaken, SameReaders, SessionPulled, SessionTaken, UniPulled, UniTaken}
 use Rattle.wt_inbox.proofs.QuietLaws.{same_end}
-use Rattle.wt_inbox.proofs.Reaching.{answered, asked-by, asked-same}
+use Rattle.wt_inbox.proofs.Reaching.{answered, asked-by, asked-read, asked-same}
 
 -- ---- answers
 
@@ -103,6 +105,9 @@ module _ (x y : InboxState) (id : ℕ) (p : UniPulled x y id) where
   pub uni-answered : outcome_in uni_unfinished (reading_of tt y.unis id) ≡ uni_verdict_now x id
   uni-answered = answered tt uni_decides uni_lawful.steady uni_unfinished is_final uni_verdict_of uni_lawful.reaches x.unis y.unis x.transport y.transport id p.pulled
 
+  pub uni-read : is_final (uni_verdict_now x id) ≡ false → unread_now y.transport id ≡ []
+  uni-read = asked-read tt uni_decides uni_lawful.steady uni_unfinished is_final uni_verdict_of uni_lawful.reaches (λ s b. refl) x.unis y.unis x.transport y.transport id p.pulled (end_now x.transport id)
+
   module _ (z : InboxState) (q : UniTaken y z id) where
     uni-transport : z.transport ≡ y.transport
     uni-transport = ap (λ (w : InboxState). w.transport) q.rest
@@ -129,6 +134,9 @@ module _ (x y : InboxState) (id : ℕ) (p : BiPulled x y id) where
   pub bi-answered : outcome_in bi_unfinished (reading_of 0 y.bis id) ≡ bi_verdict_now x id
   bi-answered = answered 0 bi_decides bi_lawful.steady bi_unfinished is_final bi_verdict_of bi_lawful.reaches x.bis y.bis x.transport y.transport id p.pulled
 
+  pub bi-read : is_final (bi_verdict_now x id) ≡ false → unread_now y.transport id ≡ []
+  bi-read = asked-read 0 bi_decides bi_lawful.steady bi_unfinished is_final bi_verdict_of bi_lawful.reaches (λ s b. refl) x.bis y.bis x.transport y.transport id p.pulled (end_now x.transport id)
+
   module _ (z : InboxState) (q : BiTaken y z id) where
     bi-transport : z.transport ≡ y.transport
     bi-transport = ap (λ (w : InboxState). w.transport) q.rest
@@ -142,6 +150,13 @@ module _ (x y : InboxState) (id : ℕ) (p : BiPulled x y id) where
 
 -- ---- response
 
+-- what isn't answered isn't final
+waits : (walk : ResponseWalk) → is_answered walk ≡ false → is_response_final walk ≡ false
+waits Waiting e = refl
+waits (Response response at) e = absurd cc
+waits Ended e = refl
+waits (Fault fault) e = absurd cc
+
 module _ (x y : InboxState) (id : ℕ) (p : ResponsePulled x y id) where
   pub response-others : (k : ℕ) → (id == k) ≡ false → SameAt x y k
   response-others k n = same-at x y k (response-pulled-readers x y id p k n) (p.pulled.pulls.consumes.others k n) p.pulled.pulls.consumes.quiet
@@ -154,6 +169,9 @@ module _ (x y : InboxState) (id : ℕ) (p : ResponsePulled x y id) where
 
   pub response-answered : outcome_in response_unfinished (reading_of 0 y.responses id) ≡ response_now x id
   response-answered = answered 0 response_decides response_lawful.steady response_unfinished is_response_final response_walk_of response_lawful.reaches x.responses y.responses x.transport y.transport id p.pulled
+
+  pub response-read : is_answered (response_now x id) ≡ false → unread_now y.transport id ≡ []
+  response-read e = asked-read 0 response_decides response_lawful.steady response_unfinished is_response_final response_walk_of response_lawful.reaches (λ s b. refl) x.responses y.responses x.transport y.transport id p.pulled (end_now x.transport id) (waits (response_now x id) e)
 
   module _ (z : InboxState) (q : ResponseTaken y z id) where
     response-transport : z.transport ≡ y.transport
@@ -180,6 +198,9 @@ module _ (x y : InboxState) (id : ℕ) (p : ControlPulled x y id) where
 
   pub control-answered : outcome_in control_unfinished (reading_of None y.controls id) ≡ control_now x id
   control-answered = answered None control_decides control_lawful.steady control_unfinished (λ (w : ControlWalk). is_some w.fault) control_walk_of control_lawful.reaches x.controls y.controls x.transport y.transport id p.pulled
+
+  pub control-read : is_some (control_now x id).fault ≡ false → unread_now y.transport id ≡ []
+  control-read = asked-read None control_decides control_lawful.steady control_unfinished (λ (w : ControlWalk). is_some w.fault) control_walk_of control_lawful.reaches (λ s b. refl) x.controls y.controls x.transport y.transport id p.pulled (end_now x.transport id)
 
 -- ---- session
 

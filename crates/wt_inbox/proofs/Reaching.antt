@@ -1,14 +1,14 @@
 -- A reader that has read so many bytes of a log's contents: what it says, and how it goes on.
-use Rattle.std.proofs.Common.{arith, ◌≡◌, ◌<◌, ◌≤◌, ◌+◌, ◌-◌, ℕ, Bool, true, false, List, ◌++◌, length, take, drop, Option, Some, None, refl, sym, ap, subst, ◌∙◌, inl, inr}
-use Rattle.std.specs.Prelude.{◌==◌}
+use Rattle.std.proofs.Common.{arith, ◌≡◌, ◌<◌, ◌≤◌, ◌+◌, ◌-◌, ℕ, Bool, true, false, List, [], ◌++◌, length, take, drop, Option, Some, None, refl, sym, ap, subst, ◌∙◌, inl, inr}
+use Rattle.std.specs.Prelude.{◌==◌, unwrap_or}
 use Rattle.std.proofs.lemmas.Bool.Decides.{nat_tests}
 use Rattle.std.proofs.lemmas.Bool.{cases_lt}
 use Rattle.std.proofs.lemmas.List.{length-drop, length-take, take-append-drop}
 use Rattle.wt_wire.specs.declared.side.StreamEnd.{StreamEnd}
 use Rattle.wt_wire.specs.declared.side.StreamEnd.TheVariants.{Running}
 use Rattle.wt_proto.specs.declared.walk.Step.{Step}
-use Rattle.wt_proto.specs.Walk.{outcome_at, walked}
-use Rattle.wt_proto.specs.Progress.{Progress, Reading, fed, progress_over}
+use Rattle.wt_proto.specs.Walk.{Reached, outcome_at, walked}
+use Rattle.wt_proto.specs.Progress.{Progress, Reading, fed, progress_over, reached}
 use Rattle.wt_proto.specs.Reading.{outcome_in}
 use Rattle.wt_proto.specs.Steady.{IsSteady}
 use Rattle.wt_proto.proofs.ProgressLaws.{fed-append, fed-fed}
@@ -35,13 +35,13 @@ module _ {S O : Type 0} (start : S) (decide : S → List ℕ → Step S O) (stea
       → outcome_by decide start unfinished later u k d ≡ outcome_by decide start unfinished kept t k e
   same-outcome kept later t u k d e r n x = λ i. outcome_after decide unfinished (r i) (n i) (x i)
 
-  pulls-same : (old new : Reading S O) (t u : TransportState) (id : ℕ) → Pulls start decide final outcome_of old new t u id → fed decide new.progress (unread_now u id) ≡ fed decide old.progress (unread_now t id)
+  pulls-same : (old new : Reading S O) (t u : TransportState) (id : ℕ) → Pulls start decide unfinished final outcome_of old new t u id → fed decide new.progress (unread_now u id) ≡ fed decide old.progress (unread_now t id)
   pulls-same old new t u id p =
       ap (λ (q : Progress S O). fed decide q (unread_now u id)) p.taken
       ∙ (fed-fed decide steady old.progress (take p.count (unread_now t id)) (unread_now u id)
       ∙ ap (λ (xs : List ℕ). fed decide old.progress xs) (ap (λ (ys : List ℕ). take p.count (unread_now t id) ++ ys) p.consumes.here ∙ take-append-drop p.count (unread_now t id)))
 
-  module _ (old new : List (Kept S O)) (t u : TransportState) (id : ℕ) (p : Pulled start decide final outcome_of old new t u id) where
+  module _ (old new : List (Kept S O)) (t u : TransportState) (id : ℕ) (p : Pulled start decide unfinished final outcome_of old new t u id) where
     same-if : (b : Bool) (k : ℕ) → (id == k) ≡ b → (d e : StreamEnd) → d ≡ e → outcome_by decide start unfinished new u k d ≡ outcome_by decide start unfinished old t k e
     same-if true k h d e x =
         let there : id ≡ k = grind (arith, nat_tests) in
@@ -60,6 +60,20 @@ module _ {S O : Type 0} (start : S) (decide : S → List ℕ → Step S O) (stea
     pub answered : outcome_in unfinished (reading_of start new id) ≡ outcome_now decide start unfinished old t id
     answered = ap (λ (r : Reading S O). outcome_in unfinished r) p.pulls.all
 
+  -- ---- what is left unread
+
+  module _ (goes_on : (s : S) (b : Bool) → final (unfinished Running s b) ≡ false) where
+    -- what isn't final with the end isn't while the stream runs
+    runs-on : (end : StreamEnd) (s : S) (stop : Option O) (b : Bool) → final (unwrap_or stop (unfinished end s b)) ≡ false → final (unwrap_or stop (unfinished Running s b)) ≡ false
+    runs-on end s None b e = goes_on s b
+    runs-on end s (Some o) b e = e
+
+    -- unless the answer is final, nothing is left
+    pub asked-read : (old new : List (Kept S O)) (t u : TransportState) (id : ℕ) → Pulled start decide unfinished final outcome_of old new t u id → (end : StreamEnd) → final (outcome_by decide start unfinished old t id end) ≡ false → unread_now u id ≡ []
+    asked-read old new t u id p end e =
+        let r : Reached S O = reached (fed decide (reading_of start old id).progress (unread_now t id)) in
+        p.pulls.read (runs-on end r.state r.stop r.between e)
+
   -- ---- by the contents
 
   module _ (r : Reading S O) (at : ℕ) (c : List ℕ) (position : ReadPosition) (h : HasReached start decide final outcome_of r at c position) where
@@ -76,7 +90,7 @@ module _ {S O : Type 0} (start : S) (decide : S → List ℕ → Step S O) (stea
     pub outcome-is : (unread : List ℕ) (end : StreamEnd) → unread ≡ from_position position c → outcome_after decide unfinished r unread end ≡ outcome_of (drop at c) end
     outcome-is unread end e = read-outcome decide start unfinished outcome_of reaches (read_on decide r unread end) (drop at c) end (λ i. record { progress = all-is unread e i; end = end })
 
-    module _ (new : Reading S O) (t u : TransportState) (id : ℕ) (p : Pulls start decide final outcome_of r new t u id) (e : unread_now t id ≡ from_position position c) where
+    module _ (new : Reading S O) (t u : TransportState) (id : ℕ) (p : Pulls start decide unfinished final outcome_of r new t u id) (e : unread_now t id ≡ from_position position c) where
       few : h.count + p.count ≤ length c - at
       few =
           let size : length (unread_now t id) ≡ length (drop h.count (drop at c)) = ap length (e ∙ rest-is) in

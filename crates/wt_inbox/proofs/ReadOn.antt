@@ -151,9 +151,22 @@ module _ {S O : Type 0} (start : S) (decide : S → List ℕ → Step S O) (stea
           ∙ (fed-fed decide steady old.progress (take n (unread_now t id)) (unread_now u id)
           ∙ ap (λ (xs : List ℕ). fed decide old.progress xs) (ap (λ (ys : List ℕ). take n (unread_now t id) ++ ys) a.consumes.here ∙ take-append-drop n (unread_now t id))))
 
+      -- the outcome while the stream runs is that of all bytes
+      pub decided-all : (first : Reading S O) → old.progress ≡ first.progress → (final (outcome_in unfinished new) ≡ true) ⊎ (unread_now u id ≡ [])
+          → final (outcome_in unfinished new) ≡ final (outcome_after decide unfinished first (unread_now t id) Running)
+      decided-all first same done =
+          let progress : new.progress ≡ fed decide first.progress (unread_now t id) = took-all done ∙ ap (λ (p : Progress S O). fed decide p (unread_now t id)) same in
+          let end : new.end ≡ Running = ap (λ (r : Reading S O). r.end) a.taken ∙ runs in
+          λ i. final (outcome_at unfinished (end i) (reached (progress i)))
+
+      -- unless the bytes alone made the outcome final, none is left
+      left-none : (final (outcome_in unfinished new) ≡ true) ⊎ (unread_now u id ≡ []) → final (outcome_in unfinished new) ≡ false → unread_now u id ≡ []
+      left-none (inl f) undecided = absurd cc
+      left-none (inr none) undecided = none
+
       -- its reading on, of a reader whose progress was the same
       pub pulled-all : (first last : Reading S O) → old.progress ≡ first.progress → last.progress ≡ new.progress → last.end ≡ end_now t id
-          → (final (outcome_in unfinished new) ≡ true) ⊎ (unread_now u id ≡ []) → Pulls start decide final outcome_of first last t u id
+          → (final (outcome_in unfinished new) ≡ true) ⊎ (unread_now u id ≡ []) → Pulls start decide unfinished final outcome_of first last t u id
       pulled-all first last same told end done =
           let progress : last.progress ≡ fed decide first.progress (unread_now t id) = told ∙ (took-all done ∙ ap (λ (p : Progress S O). fed decide p (unread_now t id)) same) in
           record {
@@ -162,12 +175,5 @@ module _ {S O : Type 0} (start : S) (decide : S → List ℕ → Step S O) (stea
             all = λ i. record { progress = progress i; end = end i };
             taken = told ∙ (took-front ∙ ap (λ (p : Progress S O). fed decide p (take n (unread_now t id))) same);
             running = λ bytes e. a.running bytes Running (λ i. record { progress = (same ∙ e) i; end = runs i });
+            read = λ undecided. left-none done (decided-all first same done ∙ undecided);
           }
-
-      -- the outcome while the stream runs is that of all bytes
-      pub decided-all : (first : Reading S O) → old.progress ≡ first.progress → (final (outcome_in unfinished new) ≡ true) ⊎ (unread_now u id ≡ [])
-          → final (outcome_in unfinished new) ≡ final (outcome_after decide unfinished first (unread_now t id) Running)
-      decided-all first same done =
-          let progress : new.progress ≡ fed decide first.progress (unread_now t id) = took-all done ∙ ap (λ (p : Progress S O). fed decide p (unread_now t id)) same in
-          let end : new.end ≡ Running = ap (λ (r : Reading S O). r.end) a.taken ∙ runs in
-          λ i. final (outcome_at unfinished (end i) (reached (progress i)))

@@ -113,14 +113,14 @@ module _ {S O : Type 0} (start : S) (id : ℕ) where
   pub removed-others : (xs : List (Kept S O)) (i : ℕ) → StandsAt start xs id i → (k : ℕ) → (id == k) ≡ false → reading_of start (remove xs i) k ≡ reading_of start xs k
   removed-others xs i s k n = remove-other start xs id i (no_kept start) s.here s.below k n
 
-  module _ (decide : S → List ℕ → Step S O) (final : O → Bool) (outcome_of : List ℕ → StreamEnd → O) where
+  module _ (decide : S → List ℕ → Step S O) (unfinished : StreamEnd → S → Bool → O) (final : O → Bool) (outcome_of : List ℕ → StreamEnd → O) where
     pub pulled-at : (old mid new : List (Kept S O)) (i : ℕ) (x y : Kept S O) (t u : TransportState) → StandsAt start mid id i → ((k : ℕ) → reading_of start mid k ≡ reading_of start old k)
-        → x ≡ get_or mid i x → y.id ≡ x.id → new ≡ set mid i y → Pulls start decide final outcome_of x.reading y.reading t u x.id
-        → is_kept (set mid i y) id ≡ true → length (set mid i y) ≡ (if is_kept old id then length old else length old + 1) → Pulled start decide final outcome_of old new t u id
+        → x ≡ get_or mid i x → y.id ≡ x.id → new ≡ set mid i y → Pulls start decide unfinished final outcome_of x.reading y.reading t u x.id
+        → is_kept (set mid i y) id ≡ true → length (set mid i y) ≡ (if is_kept old id then length old else length old + 1) → Pulled start decide unfinished final outcome_of old new t u id
     pulled-at old mid new i x y t u s same read kept after p there-now count = record {
-      pulls = subst (λ (j : ℕ). Pulls start decide final outcome_of (reading_of start old id) (reading_of start new id) t u j) there
-          (subst (λ (r : Reading S O). Pulls start decide final outcome_of r (reading_of start new id) t u x.id) before
-          (subst (λ (r : Reading S O). Pulls start decide final outcome_of x.reading r t u x.id) (sym here) p));
+      pulls = subst (λ (j : ℕ). Pulls start decide unfinished final outcome_of (reading_of start old id) (reading_of start new id) t u j) there
+          (subst (λ (r : Reading S O). Pulls start decide unfinished final outcome_of r (reading_of start new id) t u x.id) before
+          (subst (λ (r : Reading S O). Pulls start decide unfinished final outcome_of x.reading r t u x.id) (sym here) p));
       others = λ k n. ap (λ (zs : List (Kept S O)). reading_of start zs k) after ∙ (set-other start mid id i (no_kept start) y s.here s.below matches k n ∙ same k);
       kept = ap (λ (zs : List (Kept S O)). is_kept zs id) after ∙ there-now;
       count = ap (λ (zs : List (Kept S O)). length zs) after ∙ count;

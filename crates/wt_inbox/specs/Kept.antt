@@ -79,19 +79,21 @@ pub record Takes {S O : Type 0} (start : S) (decide : S → List ℕ → Step S 
   pub running : (bytes : List ℕ) (end : StreamEnd) → HasRead decide start old bytes end → (m : ℕ) → m < count → final (outcome_of (bytes ++ take m (unread_now before id)) end) ≡ false
 
 -- The reader of a stream read on: it stands as if it had taken all that is unread, and was told the end. It took so many
--- bytes, which are consumed, and in front of the last one its outcome wasn't final.
-pub record Pulls {S O : Type 0} (start : S) (decide : S → List ℕ → Step S O) (final : O → Bool) (outcome_of : List ℕ → StreamEnd → O)
+-- bytes, which are consumed, and in front of the last one its outcome wasn't final. Unless the bytes alone made it final,
+-- none is left unread.
+pub record Pulls {S O : Type 0} (start : S) (decide : S → List ℕ → Step S O) (unfinished : StreamEnd → S → Bool → O) (final : O → Bool) (outcome_of : List ℕ → StreamEnd → O)
     (old new : Reading S O) (before after : TransportState) (id : ℕ) : Type 0 where
   pub count : ℕ
   pub consumes : Consumes before after id count
   pub all : new ≡ read_on decide old (unread_now before id) (end_now before id)
   pub taken : new.progress ≡ fed decide old.progress (take count (unread_now before id))
   pub running : (bytes : List ℕ) → old.progress ≡ progress_over decide start None 0 bytes → (m : ℕ) → m < count → final (outcome_of (bytes ++ take m (unread_now before id)) Running) ≡ false
+  pub read : final (outcome_after decide unfinished old (unread_now before id) Running) ≡ false → unread_now after id ≡ []
 
 -- The reader of one stream among those that are kept read on. It is kept then, one more only where it wasn't before.
-pub record Pulled {S O : Type 0} (start : S) (decide : S → List ℕ → Step S O) (final : O → Bool) (outcome_of : List ℕ → StreamEnd → O)
+pub record Pulled {S O : Type 0} (start : S) (decide : S → List ℕ → Step S O) (unfinished : StreamEnd → S → Bool → O) (final : O → Bool) (outcome_of : List ℕ → StreamEnd → O)
     (old new : List (Kept S O)) (before after : TransportState) (id : ℕ) : Type 0 where
-  pub pulls : Pulls start decide final outcome_of (reading_of start old id) (reading_of start new id) before after id
+  pub pulls : Pulls start decide unfinished final outcome_of (reading_of start old id) (reading_of start new id) before after id
   pub others : (k : ℕ) → (id == k) ≡ false → reading_of start new k ≡ reading_of start old k
   pub kept : is_kept new id ≡ true
   pub count : length new ≡ (if is_kept old id then length old else length old + 1)

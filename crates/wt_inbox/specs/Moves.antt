@@ -2,11 +2,11 @@
 use Rattle.std.specs.Prelude.{◌≡◌, ◌==◌, ◌-◌, ℕ, List, None, Bool, false, if◌then◌else◌, is_some, length}
 use Rattle.wt_wire.specs.declared.side.StreamEnd.{StreamEnd}
 use Rattle.wt_proto.specs.declared.walk.Step.{Step}
-use Rattle.wt_proto.specs.Uni.{is_final, uni_decides, uni_verdict_of}
-use Rattle.wt_proto.specs.Bi.{bi_decides, bi_verdict_of}
-use Rattle.wt_proto.specs.ControlWalk.{control_decides, control_walk_of}
-use Rattle.wt_proto.specs.SessionWalk.{is_over, session_decides, session_walk_of}
-use Rattle.wt_proto.specs.ResponseWalk.{is_response_final, response_decides, response_walk_of}
+use Rattle.wt_proto.specs.Uni.{is_final, uni_decides, uni_unfinished, uni_verdict_of}
+use Rattle.wt_proto.specs.Bi.{bi_decides, bi_unfinished, bi_verdict_of}
+use Rattle.wt_proto.specs.ControlWalk.{control_decides, control_unfinished, control_walk_of}
+use Rattle.wt_proto.specs.SessionWalk.{is_over, session_decides, session_unfinished, session_walk_of}
+use Rattle.wt_proto.specs.ResponseWalk.{is_response_final, response_decides, response_unfinished, response_walk_of}
 use Rattle.wt_inbox.specs.Kept.{Kept, Pulled, is_kept, reading_of}
 use Rattle.wt_inbox.specs.State.{InboxState, with_transport}
 
@@ -19,9 +19,9 @@ pub record SameReaders (x y : InboxState) (k : ℕ) : Type 0 where
   pub session : reading_of tt y.sessions k ≡ reading_of tt x.sessions k
 
 -- the reader of a stream among those of one kind read on, and nothing else changed
-pub record PulledIn {S O : Type 0} (start : S) (decide : S → List ℕ → Step S O) (final : O → Bool) (outcome_of : List ℕ → StreamEnd → O)
+pub record PulledIn {S O : Type 0} (start : S) (decide : S → List ℕ → Step S O) (unfinished : StreamEnd → S → Bool → O) (final : O → Bool) (outcome_of : List ℕ → StreamEnd → O)
     (kept : InboxState → List (Kept S O)) (with_kept : InboxState → List (Kept S O) → InboxState) (x y : InboxState) (id : ℕ) : Type 0 where
-  pub pulled : Pulled start decide final outcome_of (kept x) (kept y) x.transport y.transport id
+  pub pulled : Pulled start decide unfinished final outcome_of (kept x) (kept y) x.transport y.transport id
   pub rest : y ≡ with_transport (with_kept x (kept y)) y.transport
 
 -- the reader of a stream among those of one kind was let go, and nothing else changed
@@ -33,7 +33,7 @@ pub record TakenIn {S O : Type 0} (start : S) (kept : InboxState → List (Kept 
 
 -- the reader of the header of a unidirectional stream read on
 abbrev pub UniPulled : InboxState → InboxState → ℕ → Type 0
-UniPulled x y id = PulledIn tt uni_decides is_final uni_verdict_of (λ (x : InboxState). x.unis) (λ (x : InboxState) kept. record x { unis = kept }) x y id
+UniPulled x y id = PulledIn tt uni_decides uni_unfinished is_final uni_verdict_of (λ (x : InboxState). x.unis) (λ (x : InboxState) kept. record x { unis = kept }) x y id
 
 -- the reader of the header of a unidirectional stream was let go
 abbrev pub UniTaken : InboxState → InboxState → ℕ → Type 0
@@ -41,7 +41,7 @@ UniTaken x y id = TakenIn tt (λ (x : InboxState). x.unis) (λ (x : InboxState) 
 
 -- the reader of the header of a bidirectional stream read on
 abbrev pub BiPulled : InboxState → InboxState → ℕ → Type 0
-BiPulled x y id = PulledIn 0 bi_decides is_final bi_verdict_of (λ (x : InboxState). x.bis) (λ (x : InboxState) kept. record x { bis = kept }) x y id
+BiPulled x y id = PulledIn 0 bi_decides bi_unfinished is_final bi_verdict_of (λ (x : InboxState). x.bis) (λ (x : InboxState) kept. record x { bis = kept }) x y id
 
 -- the reader of the header of a bidirectional stream was let go
 abbrev pub BiTaken : InboxState → InboxState → ℕ → Type 0
@@ -49,7 +49,7 @@ BiTaken x y id = TakenIn 0 (λ (x : InboxState). x.bis) (λ (x : InboxState) kep
 
 -- the reader of a response read on
 abbrev pub ResponsePulled : InboxState → InboxState → ℕ → Type 0
-ResponsePulled x y id = PulledIn 0 response_decides is_response_final response_walk_of (λ (x : InboxState). x.responses) (λ (x : InboxState) kept. record x { responses = kept }) x y id
+ResponsePulled x y id = PulledIn 0 response_decides response_unfinished is_response_final response_walk_of (λ (x : InboxState). x.responses) (λ (x : InboxState) kept. record x { responses = kept }) x y id
 
 -- the reader of a response was let go
 abbrev pub ResponseTaken : InboxState → InboxState → ℕ → Type 0
@@ -57,11 +57,11 @@ ResponseTaken x y id = TakenIn 0 (λ (x : InboxState). x.responses) (λ (x : Inb
 
 -- the reader of the control stream read on
 abbrev pub ControlPulled : InboxState → InboxState → ℕ → Type 0
-ControlPulled x y id = PulledIn None control_decides (λ w. is_some w.fault) control_walk_of (λ (x : InboxState). x.controls) (λ (x : InboxState) kept. record x { controls = kept }) x y id
+ControlPulled x y id = PulledIn None control_decides control_unfinished (λ w. is_some w.fault) control_walk_of (λ (x : InboxState). x.controls) (λ (x : InboxState) kept. record x { controls = kept }) x y id
 
 -- the reader of a session's stream read on
 abbrev pub SessionPulled : InboxState → InboxState → ℕ → Type 0
-SessionPulled x y id = PulledIn tt session_decides is_over session_walk_of (λ (x : InboxState). x.sessions) (λ (x : InboxState) kept. record x { sessions = kept }) x y id
+SessionPulled x y id = PulledIn tt session_decides session_unfinished is_over session_walk_of (λ (x : InboxState). x.sessions) (λ (x : InboxState) kept. record x { sessions = kept }) x y id
 
 -- the reader of a session's stream was let go
 abbrev pub SessionTaken : InboxState → InboxState → ℕ → Type 0

@@ -89,7 +89,7 @@ pub(crate) fn read_all<W: Walk>(
 ) -> Result<bool, OutOfMemory>
     requires steady { IsSteady W.decides }
     requires goes_on { (s : W.State) (between : Bool) → W.is_final_outcome (W.unfinished_at Running s between) ≡ false }
-    ensures pulls { IfOk result (λ _. Pulls W.start_state W.decides W.is_final_outcome W.outcome_of reader.old reader.new transport.old transport.new id) }
+    ensures pulls { IfOk result (λ _. Pulls W.start_state W.decides W.unfinished_at W.is_final_outcome W.outcome_of reader.old reader.new transport.old transport.new id) }
     ensures decided { IfOk result (λ decided. decided ≡ W.is_final_outcome (outcome_after W.decides W.unfinished_at reader.old (unread_now transport.old id) Running)) }
 {
     reader.end(StreamEnd::Running);

@@ -60,7 +60,7 @@ impl<W: Walk> Entry<W> {
         requires steady { IsSteady W.decides }
         requires goes_on { (s : W.State) (between : Bool) → W.is_final_outcome (W.unfinished_at Running s between) ≡ false }
         ensures id { self.new.id ≡ self.old.id }
-        ensures pulls { IfOk result (λ _. Pulls W.start_state W.decides W.is_final_outcome W.outcome_of self.old.reading self.new.reading transport.old transport.new self.old.id) }
+        ensures pulls { IfOk result (λ _. Pulls W.start_state W.decides W.unfinished_at W.is_final_outcome W.outcome_of self.old.reading self.new.reading transport.old transport.new self.old.id) }
         ensures decided { IfOk result (λ decided. decided ≡ W.is_final_outcome (outcome_after W.decides W.unfinished_at self.old.reading (unread_now transport.old self.old.id) Running)) }
     {
         read_all(transport, self.id, &mut self.reader)
@@ -132,7 +132,7 @@ impl<W: Walk> Shelf<W> {
         requires steady { IsSteady W.decides }
         requires goes_on { (s : W.State) (between : Bool) → W.is_final_outcome (W.unfinished_at Running s between) ≡ false }
         requires fresh { fresh ≡ no_reading W.start_state }
-        ensures pulled { OnOk result (Pulled W.start_state W.decides W.is_final_outcome W.outcome_of self.old self.new transport.old transport.new id) }
+        ensures pulled { OnOk result (Pulled W.start_state W.decides W.unfinished_at W.is_final_outcome W.outcome_of self.old self.new transport.old transport.new id) }
         ensures decided { IfOk result (λ decided. decided ≡ W.is_final_outcome (outcome_by W.decides W.start_state W.unfinished_at self.old transport.old id Running)) }
     {
         let index = self.index_for(id, fresh)?;

@@ -1,5 +1,5 @@
 //! What streams say: verdicts of headers, responses, the control stream, the end of a session.
-ghost use Rattle.std.specs.Prelude.{◌≡◌, ◌==◌, ◌+◌, ◌-◌, ℕ, List, Bool, [], Some, None, IfOk, OnOk, drop, false, if◌then◌else◌, true};
+ghost use Rattle.std.specs.Prelude.{◌≡◌, ◌==◌, ◌+◌, ◌-◌, ℕ, List, Bool, [], Some, None, IfOk, OnOk, drop, false, is_some, if◌then◌else◌, true};
 ghost use Rattle.wt_turn.specs.Log.{Log, events_of};
 ghost use Rattle.wt_turn.specs.declared.action.Action.{Action};
 ghost use Rattle.wt_wire.specs.declared.side.Side.{Side};
@@ -12,6 +12,7 @@ ghost use Rattle.wt_proto.specs.SessionWalk.{is_over, session_unfinished, sessio
 ghost use Rattle.wt_proto.specs.ResponseWalk.{is_answered, response_unfinished, response_walk_of};
 ghost use Rattle.wt_seam_spec.specs.Streams.{contents};
 ghost use Rattle.wt_seam_spec.specs.Reports.{end_of};
+ghost use Rattle.wt_seam.specs.Step.{unread_now};
 ghost use Rattle.wt_inbox.specs.Kept.{is_kept, reading_of};
 ghost use Rattle.wt_inbox.specs.Moves.{BiPulled, BiTaken, ControlPulled, ResponsePulled, ResponseTaken, SessionPulled, SessionTaken, UniPulled, UniTaken};
 ghost use Rattle.wt_inbox.specs.Quiet.{quiet};
@@ -40,6 +41,7 @@ impl Inbox {
         ensures same { OnOk result ((k : ℕ) → uni_verdict_now self.new k ≡ uni_verdict_now self.old k) }
         ensures others { OnOk result ((k : ℕ) → (id == k) ≡ false → SameAt self.old self.new k) }
         ensures quiet { OnOk result (quiet self.new.transport ≡ quiet self.old.transport) }
+        ensures read { IfOk result (λ so. so ≡ false → unread_now self.new.transport id ≡ []) }
         ensures kept { OnOk result (is_kept self.new.unis id ≡ true) }
         ensures readers { OnOk result (readers_now self.new ≡ (if is_kept self.old.unis id then readers_now self.old else readers_now self.old + 1)) }
         ensures log_answer { (side : Side) (log : Log) (stage : ℕ → Stage) (untaken : List Action) → Refines side self.old log stage untaken → awaits_uni (stage id) ≡ true → IfOk result (λ so. so ≡ is_final (uni_verdict_of (contents log id) (end_of (events_of log) id))) }
@@ -72,6 +74,7 @@ impl Inbox {
         ensures same { OnOk result ((k : ℕ) → bi_verdict_now self.new k ≡ bi_verdict_now self.old k) }
         ensures others { OnOk result ((k : ℕ) → (id == k) ≡ false → SameAt self.old self.new k) }
         ensures quiet { OnOk result (quiet self.new.transport ≡ quiet self.old.transport) }
+        ensures read { IfOk result (λ so. so ≡ false → unread_now self.new.transport id ≡ []) }
         ensures kept { OnOk result (is_kept self.new.bis id ≡ true) }
         ensures readers { OnOk result (readers_now self.new ≡ (if is_kept self.old.bis id then readers_now self.old else readers_now self.old + 1)) }
         ensures log_answer { (side : Side) (log : Log) (stage : ℕ → Stage) (untaken : List Action) → Refines side self.old log stage untaken → awaits_bi (stage id) ≡ true → IfOk result (λ so. so ≡ is_final (bi_verdict_of (contents log id) (end_of (events_of log) id))) }
@@ -104,6 +107,7 @@ impl Inbox {
         ensures same { OnOk result ((k : ℕ) → response_now self.new k ≡ response_now self.old k) }
         ensures others { OnOk result ((k : ℕ) → (id == k) ≡ false → SameAt self.old self.new k) }
         ensures quiet { OnOk result (quiet self.new.transport ≡ quiet self.old.transport) }
+        ensures read { IfOk result (λ so. so ≡ false → unread_now self.new.transport id ≡ []) }
         ensures kept { OnOk result (is_kept self.new.responses id ≡ true) }
         ensures readers { OnOk result (readers_now self.new ≡ (if is_kept self.old.responses id then readers_now self.old else readers_now self.old + 1)) }
         ensures log_answer { (side : Side) (log : Log) (stage : ℕ → Stage) (untaken : List Action) → Refines side self.old log stage untaken → awaits_response (stage id) ≡ true → IfOk result (λ so. so ≡ is_answered (response_walk_of (contents log id) (end_of (events_of log) id))) }
@@ -120,6 +124,7 @@ impl Inbox {
         ensures same { OnOk result ((k : ℕ) → response_now self.new k ≡ response_now self.old k) }
         ensures others { OnOk result ((k : ℕ) → (id == k) ≡ false → SameAt self.old self.new k) }
         ensures quiet { OnOk result (quiet self.new.transport ≡ quiet self.old.transport) }
+        ensures read { IfOk result (λ outcome. is_answered outcome ≡ false → unread_now self.new.transport id ≡ []) }
         ensures kept { OnOk result (is_kept self.new.responses id ≡ true) }
         ensures readers { OnOk result (readers_now self.new ≡ (if is_kept self.old.responses id then readers_now self.old else readers_now self.old + 1)) }
         ensures log_answer { (side : Side) (log : Log) (stage : ℕ → Stage) (untaken : List Action) → Refines side self.old log stage untaken → awaits_response (stage id) ≡ true → IfOk result (λ outcome. outcome ≡ response_walk_of (contents log id) (end_of (events_of log) id)) }
@@ -152,6 +157,7 @@ impl Inbox {
         ensures same { OnOk result ((k : ℕ) → control_now self.new k ≡ control_now self.old k) }
         ensures others { OnOk result ((k : ℕ) → (id == k) ≡ false → SameAt self.old self.new k) }
         ensures quiet { OnOk result (quiet self.new.transport ≡ quiet self.old.transport) }
+        ensures read { IfOk result (λ walk. is_some walk.fault ≡ false → unread_now self.new.transport id ≡ []) }
         ensures kept { OnOk result (is_kept self.new.controls id ≡ true) }
         ensures readers { OnOk result (readers_now self.new ≡ (if is_kept self.old.controls id then readers_now self.old else readers_now self.old + 1)) }
         ensures log_answer { (side : Side) (log : Log) (stage : ℕ → Stage) (untaken : List Action) → Refines side self.old log stage untaken → (at : ℕ) → control_offset (stage id) ≡ Some at → IfOk result (λ walk. walk ≡ control_walk_of (drop at (contents log id)) (end_of (events_of log) id)) }
@@ -170,6 +176,7 @@ impl Inbox {
         ensures same_over { OnOk result ((k : ℕ) → is_over_by_bytes self.new k ≡ is_over_by_bytes self.old k) }
         ensures others { OnOk result ((k : ℕ) → (id == k) ≡ false → SameAt self.old self.new k) }
         ensures quiet { OnOk result (quiet self.new.transport ≡ quiet self.old.transport) }
+        ensures read { OnOk result (is_over_by_bytes self.old id ≡ false → unread_now self.new.transport id ≡ []) }
         ensures kept { OnOk result (is_kept self.new.sessions id ≡ true) }
         ensures readers { OnOk result (readers_now self.new ≡ (if is_kept self.old.sessions id then readers_now self.old else readers_now self.old + 1)) }
         ensures log_answer { (side : Side) (log : Log) (stage : ℕ → Stage) (untaken : List Action) → Refines side self.old log stage untaken → (at : ℕ) → session_offset (stage id) ≡ Some at → IfOk result (λ so. so ≡ is_over (session_walk_of (drop at (contents log id)) (end_of (events_of log) id))) }

@@ -1,5 +1,7 @@
-use Rattle.std.proofs.Common.{◌∙◌}
-use Rattle.wt_inbox.proofs.Asked.{control-same, control-others, control-quiet, control-answered}
+use Rattle.std.specs.Prelude.{is_some}
+use Rattle.std.proofs.Common.{ap, sym, ◌∙◌}
+use Rattle.wt_proto.specs.declared.control_walk.ControlWalk.{ControlWalk}
+use Rattle.wt_inbox.proofs.Asked.{control-same, control-others, control-quiet, control-answered, control-read}
 use Rattle.wt_inbox.proofs.Staging.{control-says, control_read_refines}
 use Rattle.wt_inbox.proofs.Counting.{control-readers}
 use Rattle.wt_inbox.proofs.inbox.Inbox.control_walk.Goals as goal
@@ -27,3 +29,6 @@ returns-clause-kept c = c.in_ok-pull_control.ensures.pulled.kept
 
 pub returns-clause-readers : goal.returns-clause-readers
 returns-clause-readers c = control-readers c.args.self.now c.pull_control.new.self c.args.id c.in_ok-pull_control.ensures
+
+pub returns-clause-read : goal.returns-clause-read
+returns-clause-read c = λ e. control-read c.args.self.now c.pull_control.new.self c.args.id c.in_ok-pull_control.ensures (ap (λ (w : ControlWalk). is_some w.fault) (sym (returns-clause-now c)) ∙ e)

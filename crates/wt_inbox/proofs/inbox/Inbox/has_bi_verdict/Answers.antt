@@ -1,6 +1,6 @@
-use Rattle.std.proofs.Common.{ap, ◌∙◌}
+use Rattle.std.proofs.Common.{ap, sym, ◌∙◌}
 use Rattle.wt_proto.specs.Uni.{is_final}
-use Rattle.wt_inbox.proofs.Asked.{bi-same, bi-others, bi-quiet, bi-answered}
+use Rattle.wt_inbox.proofs.Asked.{bi-same, bi-others, bi-quiet, bi-answered, bi-read}
 use Rattle.wt_inbox.proofs.Staging.{bi-says, bi_read_refines}
 use Rattle.wt_inbox.proofs.Counting.{bi-readers}
 use Rattle.wt_inbox.proofs.inbox.Inbox.has_bi_verdict.Goals as goal
@@ -28,3 +28,6 @@ returns-clause-kept c = c.in_ok-pull_bi.ensures.pulled.kept
 
 pub returns-clause-readers : goal.returns-clause-readers
 returns-clause-readers c = bi-readers c.args.self.now c.pull_bi.new.self c.args.id c.in_ok-pull_bi.ensures
+
+pub returns-clause-read : goal.returns-clause-read
+returns-clause-read c = λ e. bi-read c.args.self.now c.pull_bi.new.self c.args.id c.in_ok-pull_bi.ensures (sym (returns-clause-now c) ∙ e)

@@ -1,6 +1,6 @@
-use Rattle.std.proofs.Common.{ap, ◌∙◌}
+use Rattle.std.proofs.Common.{ap, sym, ◌∙◌}
 use Rattle.wt_proto.specs.ResponseWalk.{is_answered}
-use Rattle.wt_inbox.proofs.Asked.{response-same, response-others, response-quiet, response-answered}
+use Rattle.wt_inbox.proofs.Asked.{response-same, response-others, response-quiet, response-answered, response-read}
 use Rattle.wt_inbox.proofs.Staging.{response-says, response_read_refines}
 use Rattle.wt_inbox.proofs.Counting.{response-readers}
 use Rattle.wt_inbox.proofs.inbox.Inbox.has_response.Goals as goal
@@ -28,3 +28,6 @@ returns-clause-kept c = c.in_ok-pull_response.ensures.pulled.kept
 
 pub returns-clause-readers : goal.returns-clause-readers
 returns-clause-readers c = response-readers c.args.self.now c.pull_response.new.self c.args.id c.in_ok-pull_response.ensures
+
+pub returns-clause-read : goal.returns-clause-read
+returns-clause-read c = λ e. response-read c.args.self.now c.pull_response.new.self c.args.id c.in_ok-pull_response.ensures (sym (returns-clause-now c) ∙ e)

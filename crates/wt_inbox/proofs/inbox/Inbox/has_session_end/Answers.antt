@@ -31,3 +31,6 @@ returns-clause-kept c = c.in_ok-pull_session.ensures.pulled.pulled.kept
 
 pub returns-clause-readers : goal.returns-clause-readers
 returns-clause-readers c = session-readers c.args.self.now c.pull_session.new.self c.args.id c.in_ok-pull_session.ensures.pulled
+
+pub returns-clause-read : goal.returns-clause-read
+returns-clause-read c = c.in_ok-pull_session.ensures.pulled.pulled.pulls.read

@@ -1,6 +1,6 @@
-use Rattle.std.proofs.Common.{ap, ◌∙◌}
+use Rattle.std.proofs.Common.{ap, sym, ◌∙◌}
 use Rattle.wt_proto.specs.Uni.{is_final}
-use Rattle.wt_inbox.proofs.Asked.{uni-same, uni-others, uni-quiet, uni-answered}
+use Rattle.wt_inbox.proofs.Asked.{uni-same, uni-others, uni-quiet, uni-answered, uni-read}
 use Rattle.wt_inbox.proofs.Staging.{uni-says, uni_read_refines}
 use Rattle.wt_inbox.proofs.Counting.{uni-readers}
 use Rattle.wt_inbox.proofs.inbox.Inbox.has_uni_verdict.Goals as goal
@@ -28,3 +28,6 @@ returns-clause-kept c = c.in_ok-pull_uni.ensures.pulled.kept
 
 pub returns-clause-readers : goal.returns-clause-readers
 returns-clause-readers c = uni-readers c.args.self.now c.pull_uni.new.self c.args.id c.in_ok-pull_uni.ensures
+
+pub returns-clause-read : goal.returns-clause-read
+returns-clause-read c = λ e. uni-read c.args.self.now c.pull_uni.new.self c.args.id c.in_ok-pull_uni.ensures (sym (returns-clause-now c) ∙ e)

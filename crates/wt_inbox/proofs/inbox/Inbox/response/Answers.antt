@@ -1,5 +1,6 @@
-use Rattle.std.proofs.Common.{◌∙◌}
-use Rattle.wt_inbox.proofs.Asked.{if-ok, on-ok, response-same, response-others, response-quiet, response-answered}
+use Rattle.std.proofs.Common.{ap, sym, ◌∙◌}
+use Rattle.wt_proto.specs.ResponseWalk.{is_answered}
+use Rattle.wt_inbox.proofs.Asked.{if-ok, on-ok, response-same, response-others, response-quiet, response-answered, response-read}
 use Rattle.wt_inbox.proofs.Staging.{response-says, response_read_refines}
 use Rattle.wt_inbox.proofs.Counting.{response-readers}
 use Rattle.wt_inbox.proofs.inbox.Inbox.response.Goals as goal
@@ -28,3 +29,6 @@ returns-clause-kept c = on-ok c.response_outcome.result (c.in_ok-pull_response.e
 
 pub returns-clause-readers : goal.returns-clause-readers
 returns-clause-readers c = on-ok c.response_outcome.result (response-readers c.args.self.now c.pull_response.new.self c.args.id c.in_ok-pull_response.ensures)
+
+pub returns-clause-read : goal.returns-clause-read
+returns-clause-read c = if-ok c.response_outcome.result (λ x is e. response-read c.args.self.now c.pull_response.new.self c.args.id c.in_ok-pull_response.ensures (ap is_answered (sym is) ∙ e)) (returns-clause-now c)

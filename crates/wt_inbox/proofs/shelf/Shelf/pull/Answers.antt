@@ -12,7 +12,7 @@ returns-clause-pulled g c =
     let at : StandsAt g.W.Walk.start_state items c.args.id c.in_ok-index.index = subst (λ xs. StandsAt g.W.Walk.start_state xs c.args.id c.in_ok-index.index) (sym c.self.view_is) c.in_ok-index.ensures.at in
     let same : (k : ℕ) → reading_of g.W.Walk.start_state items k ≡ reading_of g.W.Walk.start_state c.args.self.now k = λ k. ap (λ xs. reading_of g.W.Walk.start_state xs k) c.self.view_is ∙ c.in_ok-index.ensures.same k in
     on_ok c.read.result c.read.ensures.pulls
-    (λ p. pulled-at g.W.Walk.start_state c.args.id g.W.Walk.decides g.W.Walk.is_final_outcome g.W.Walk.outcome_of c.args.self.now items _ c.in_ok-index.index c.index_mut-entry.result.now c.read.new.self c.args.transport.now c.read.new.transport
+    (λ p. pulled-at g.W.Walk.start_state c.args.id g.W.Walk.decides g.W.Walk.unfinished_at g.W.Walk.is_final_outcome g.W.Walk.outcome_of c.args.self.now items _ c.in_ok-index.index c.index_mut-entry.result.now c.read.new.self c.args.transport.now c.read.new.transport
     at same c.index_mut-entry.ensures.value c.read.ensures.id refl p
     (asked-kept g.W.Walk.start_state c.args.id items c.in_ok-index.index c.index_mut-entry.result.now c.read.new.self at c.index_mut-entry.ensures.value c.read.ensures.id)
     (length-set items c.in_ok-index.index c.read.new.self ∙ (ap length c.self.view_is ∙ c.in_ok-index.ensures.count)))
