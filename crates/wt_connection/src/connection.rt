@@ -341,18 +341,16 @@ impl Connection {
 
     /// The greatest payload of a datagram, in bytes; None where none can be sent.
     ///
-    /// # Errors
-    ///
-    /// `OutOfMemory` where the call's record found no memory.
-    pub fn max_datagram_size(&self, d: &mut Driver) -> Result<Option<u64>, OutOfMemory>
+    /// It takes no memory.
+    pub fn max_datagram_size(&self, d: &mut Driver) -> Option<u64>
         ensures reply { (side : Side) (log : Log) (taken : ℕ) → Follows side d.old log taken → IsReachable side log → IsEstablished log self.now
-            → IfOk result (λ size. replies.Size size ≡ (call_effect side log calls.MaxDatagramSize).reply) }
+            → replies.Size result ≡ (call_effect side log calls.MaxDatagramSize).reply }
         ensures log { (side : Side) (log : Log) (taken : ℕ) → Follows side d.old log taken → IsReachable side log → IsEstablished log self.now
-            → OnOk result (Follows side d.new (call_effect side log calls.MaxDatagramSize).log taken) }
+            → Follows side d.new (call_effect side log calls.MaxDatagramSize).log taken }
     {
         let limit = connection_plans::payload_limit(transport(d), self.session);
-        record(d, &Record::Polled)?;
-        Ok(limit)
+        record(d, &Record::Polled);
+        limit
     }
 
     // ---- the end

@@ -1,5 +1,5 @@
 -- A call's record taken in, from what the driver's parts ensure.
-use Rattle.std.proofs.Common.{◌≡◌, ◌≤◌, ◌+◌, ℕ, suc, Bool, true, false, List, ◌∷◌, length, drop, refl, sym, ap, subst, ◌∙◌, add-one}
+use Rattle.std.proofs.Common.{◌≡◌, ◌≤◌, ◌+◌, ℕ, suc, Bool, true, List, ◌∷◌, length, drop, refl, sym, ap, subst, ◌∙◌, add-one}
 use Rattle.std.specs.Prelude.{Some, ℤ}
 use Rattle.wt_driver.proofs.Early.{early}
 use Rattle.wt_driver.proofs.Moved.{open-is}
@@ -8,7 +8,7 @@ use Rattle.wt_driver.proofs.StageAnswers.{read-staged, response-staged}
 use Rattle.wt_driver.proofs.StageEntries.{called-fits, read-so}
 use Rattle.wt_driver.proofs.StageTables.{is-own}
 use Rattle.wt_driver.proofs.StageWork.{passed-waits, received-waits}
-use Rattle.wt_driver.specs.Calling.{IsEarly, called_queue}
+use Rattle.wt_driver.specs.Calling.{IsEarly, called_queue, leaves_at_rest}
 use Rattle.wt_driver.specs.PeerSettings.{KeepsSettings}
 use Rattle.wt_driver_spec.specs.Asking.{Establishes, MayBeCalled}
 use Rattle.wt_driver.specs.DriverValue.{DriverValue, IsAmong, with_state, without_first}
@@ -238,26 +238,32 @@ module _ (side : Side) (log : Log) (taken : ℕ) (d : DriverValue) (f : Follows 
         call-taken side log taken d f r a new new.inbox.transport.is_open (subst (λ (z : ℕ → Stage). inboxes.Refines side new.inbox (Called r ∷ log) z (untaken_since taken log)) (sym same_stages) x)
         (s ∙ (λ i. record (sym same i) { is_open = new.inbox.transport.is_open })) (behind r new.inbox f.refines.stage x) (q ∙ sym same_queue) k
 
--- a call of which the driver keeps nothing is any other one
+-- a call that isn't one of these leaves a driver at rest
 pub no-other : (call : Record) → ((id : ℕ) → call ≡ records.RequestDelivered id → ⊥) → ((id at : ℕ) → call ≡ records.SessionEstablished id at → ⊥) → ((id : ℕ) → call ≡ records.StreamAccepted id → ⊥)
-    → ((id : ℕ) → call ≡ records.StreamPassed id → ⊥) → ((id count : ℕ) → call ≡ records.BytesRead id count → ⊥) → ((id : ℕ) → call ≡ records.StreamGivenUp id → ⊥) → ((id code : ℕ) → call ≡ records.ResetUnsent id code → ⊥)
-    → ((id : ℕ) (p : ℤ) → call ≡ records.PrioritySet id p → ⊥) → (call ≡ records.DatagramReceived → ⊥) → (call ≡ records.DatagramPassed → ⊥) → ChangesNothing (record_of call)
-no-other (records.RequestDelivered id) a b c d e f g h i j = a id refl
-no-other (records.SessionEstablished id at) a b c d e f g h i j = b id at refl
-no-other (records.StreamAccepted id) a b c d e f g h i j = c id refl
-no-other (records.StreamPassed id) a b c d e f g h i j = d id refl
-no-other (records.BytesRead id count) a b c d e f g h i j = e id count refl
-no-other (records.StreamGivenUp id) a b c d e f g h i j = f id refl
-no-other (records.ResetUnsent id code) a b c d e f g h i j = g id code refl
-no-other (records.PrioritySet id p) a b c d e f g h i j = h id p refl
-no-other records.DatagramReceived a b c d e f g h i j = i refl
-no-other records.DatagramPassed a b c d e f g h i j = j refl
-no-other (records.ConnectStarted reserved head) a b c d e f g h i j = tt
-no-other (records.ResponseStarted accepts head) a b c d e f g h i j = tt
-no-other records.HandshakeOver a b c d e f g h i j = tt
-no-other (records.OpeningStarted id session) a b c d e f g h i j = tt
-no-other (records.OpeningFailed id) a b c d e f g h i j = tt
-no-other records.Polled a b c d e f g h i j = tt
+    → ((id : ℕ) → call ≡ records.StreamPassed id → ⊥) → ((id : ℕ) → call ≡ records.StreamGivenUp id → ⊥) → ((id code : ℕ) → call ≡ records.ResetUnsent id code → ⊥)
+    → (call ≡ records.DatagramReceived → ⊥) → (call ≡ records.DatagramPassed → ⊥) → leaves_at_rest (record_of call) ≡ true
+no-other (records.RequestDelivered id) a b c d e f g h = absurd (a id refl)
+no-other (records.SessionEstablished id at) a b c d e f g h = absurd (b id at refl)
+no-other (records.StreamAccepted id) a b c d e f g h = absurd (c id refl)
+no-other (records.StreamPassed id) a b c d e f g h = absurd (d id refl)
+no-other (records.StreamGivenUp id) a b c d e f g h = absurd (e id refl)
+no-other (records.ResetUnsent id code) a b c d e f g h = absurd (f id code refl)
+no-other records.DatagramReceived a b c d e f g h = absurd (g refl)
+no-other records.DatagramPassed a b c d e f g h = absurd (h refl)
+no-other _ a b c d e f g h = refl
+
+-- nothing is kept of one of them that read no bytes and set no priority
+pub keeps-nothing : (call : Record) → ((id count : ℕ) → call ≡ records.BytesRead id count → ⊥) → ((id : ℕ) (p : ℤ) → call ≡ records.PrioritySet id p → ⊥) → leaves_at_rest (record_of call) ≡ true
+    → ChangesNothing (record_of call)
+keeps-nothing (records.BytesRead id count) a b e = absurd (a id count refl)
+keeps-nothing (records.PrioritySet id p) a b e = absurd (b id p refl)
+keeps-nothing (records.ConnectStarted reserved head) a b e = tt
+keeps-nothing (records.ResponseStarted accepts head) a b e = tt
+keeps-nothing records.HandshakeOver a b e = tt
+keeps-nothing (records.OpeningStarted id session) a b e = tt
+keeps-nothing (records.OpeningFailed id) a b e = tt
+keeps-nothing records.Polled a b e = tt
+keeps-nothing _ a b e = absurd cc
 
 -- what is shown of a record's shape holds of the record
 pub of-shape : (side : Side) (log : Log) (taken : ℕ) (d : DriverValue) (stage : ℕ → Stage) (new : DriverValue) (call shape : Record) → call ≡ shape

@@ -27,5 +27,6 @@ pub mod Acting
 pub mod Beginning
 pub mod Early
 pub mod Answering
+pub mod AtRest
 pub mod SettingsKept
 pub mod ForSessions

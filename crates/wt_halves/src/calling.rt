@@ -1,5 +1,6 @@
 //! What a call does over a driver: its plan is performed, or its record made.
 ghost use Rattle.std.specs.Prelude.{◌≡◌, [], IfOk, OnOk, true, ℕ};
+ghost use Rattle.wt_driver.specs.Calling.{leaves_at_rest};
 ghost use Rattle.wt_driver.specs.Tie.{Follows};
 ghost use Rattle.wt_laws.specs.Reachable.{IsReachable};
 ghost use Rattle.wt_plan.specs.Planned.{planned};
@@ -46,9 +47,10 @@ pub fn carry_out(alloc: Global, d: &mut Driver, plan: Plan) -> Result<(), OutOfM
     Ok(())
 }
 
-/// A call that may come, and sends nothing, recorded this.
-pub fn record(d: &mut Driver, made: &Record) -> Result<(), OutOfMemory>
-    ensures log { (side : Side) (log : Log) (taken : ℕ) (call : Call) (reply : Reply) → Follows side d.old log taken → IsReachable side log → may_call side log call ≡ true → session.Step [] (record_of made.now) reply ≡ plan_of (facts_of side log) (session_state log) call → OnOk result (Follows side d.new (call_effect side log call).log taken) }
+/// A call that may come, sends nothing and leaves a driver at rest recorded this. It takes no memory.
+pub fn record(d: &mut Driver, made: &Record)
+    requires { leaves_at_rest (record_of made.now) ≡ true }
+    ensures log { (side : Side) (log : Log) (taken : ℕ) (call : Call) (reply : Reply) → Follows side d.old log taken → IsReachable side log → may_call side log call ≡ true → session.Step [] (record_of made.now) reply ≡ plan_of (facts_of side log) (session_state log) call → Follows side d.new (call_effect side log call).log taken }
 {
-    d.called(made)
+    d.note_at_rest(made);
 }

@@ -1,5 +1,6 @@
 //! The receiving half of a stream (RFC 9000, sections 2.4 and 3.2).
-ghost use Rattle.std.specs.Prelude.{◌≡◌, IfOk, Ok, OnOk, Some, drop, length, true, ℕ};
+ghost use Rattle.std.specs.Prelude.{◌≡◌, Ok, OnOk, Some, drop, length, true, ℕ};
+ghost use Rattle.wt_driver.specs.Calling.{leaves_at_rest};
 ghost use Rattle.wt_driver.specs.Tie.{Follows};
 ghost use Rattle.wt_halves.specs.Replies.{exact_reply, exactly_read, read_into, records_exact};
 ghost use Rattle.wt_laws.specs.Reachable.{IsReachable};
@@ -43,7 +44,8 @@ impl Model for RecvStream {
 
 /// The record of a read of so many bytes.
 fn read_record(id: StreamId, count: usize) -> Record
-    ensures { record_of result ≡ read_record id count }
+    ensures now { record_of result ≡ read_record id count }
+    ensures rests { leaves_at_rest (record_of result) ≡ true }
 {
     if count == 0 {
         Record::Polled
@@ -69,7 +71,8 @@ fn exact_record(
     answer: &Poll<Result<(), StreamReadExactError>>,
     size: usize,
 ) -> Record
-    ensures { record_of result ≡ records_exact id size answer.now }
+    ensures now { record_of result ≡ records_exact id size answer.now }
+    ensures rests { leaves_at_rest (record_of result) ≡ true }
 {
     match answer {
         Poll::Ready(Ok(_)) => Record::BytesRead(id, size),
@@ -101,29 +104,26 @@ impl RecvStream {
     ///
     /// The error is `Reset` with the peer's code where it reset the half, and `NotConnected` where the
     /// connection isn't open; unread bytes come first.
-    ///
-    /// # Errors
-    ///
-    /// `OutOfMemory` where the call's record found no memory.
+    /// It takes no memory.
     pub fn read(
         &mut self,
         d: &mut Driver,
         buf: &mut [u8],
-    ) -> Result<Poll<Result<Option<usize>, StreamReadError>>, OutOfMemory>
+    ) -> Poll<Result<Option<usize>, StreamReadError>>
         ensures reply { (side : Side) (log : Log) (taken : ℕ) → Follows side d.old log taken → IsReachable side log → has_receiving_half side log self.old ≡ true
-            → IfOk result (λ a. read_reply buf.new a ≡ (call_effect side log (calls.Read self.old (length buf.old))).reply) }
+            → read_reply buf.new result ≡ (call_effect side log (calls.Read self.old (length buf.old))).reply }
         ensures log { (side : Side) (log : Log) (taken : ℕ) → Follows side d.old log taken → IsReachable side log → has_receiving_half side log self.old ≡ true
-            → OnOk result (Follows side d.new (call_effect side log (calls.Read self.old (length buf.old))).log taken) }
-        ensures rest { IfOk result (λ a. drop (read_into a) buf.new ≡ drop (read_into a) buf.old) }
-        ensures empty { length buf.old ≡ 0 → IfOk result (λ a. a ≡ Ready (Ok (Some 0))) }
+            → Follows side d.new (call_effect side log (calls.Read self.old (length buf.old))).log taken }
+        ensures rest { drop (read_into result) buf.new ≡ drop (read_into result) buf.old }
+        ensures empty { length buf.old ≡ 0 → result ≡ Ready (Ok (Some 0)) }
         ensures same { self.new ≡ self.old }
     {
         let t = transport(d);
         let answer = t.read_answer(self.id, buf.len());
         let count = buf.len().min(t.unread(self.id) as usize);
         t.copy_unread(self.id, &mut buf[..count]);
-        record(d, &read_record(self.id, count))?;
-        Ok(answer)
+        record(d, &read_record(self.id, count));
+        answer
     }
 
     /// Fills the buffer with bytes that came.
@@ -132,20 +132,17 @@ impl RecvStream {
     /// number, and they are in the buffer's front; else nothing is read, and the error is `Reset` with
     /// the peer's code where it reset the half, `NotConnected` where the connection isn't open, and the
     /// call else pending.
-    ///
-    /// # Errors
-    ///
-    /// `OutOfMemory` where the call's record found no memory.
+    /// It takes no memory.
     pub fn read_exact(
         &mut self,
         d: &mut Driver,
         buf: &mut [u8],
-    ) -> Result<Poll<Result<(), StreamReadExactError>>, OutOfMemory>
+    ) -> Poll<Result<(), StreamReadExactError>>
         ensures reply { (side : Side) (log : Log) (taken : ℕ) → Follows side d.old log taken → IsReachable side log → has_receiving_half side log self.old ≡ true
-            → IfOk result (λ a. exact_reply buf.new a ≡ (call_effect side log (calls.ReadExact self.old (length buf.old))).reply) }
+            → exact_reply buf.new result ≡ (call_effect side log (calls.ReadExact self.old (length buf.old))).reply }
         ensures log { (side : Side) (log : Log) (taken : ℕ) → Follows side d.old log taken → IsReachable side log → has_receiving_half side log self.old ≡ true
-            → OnOk result (Follows side d.new (call_effect side log (calls.ReadExact self.old (length buf.old))).log taken) }
-        ensures rest { IfOk result (λ a. drop (exactly_read (length buf.old) a) buf.new ≡ drop (exactly_read (length buf.old) a) buf.old) }
+            → Follows side d.new (call_effect side log (calls.ReadExact self.old (length buf.old))).log taken }
+        ensures rest { drop (exactly_read (length buf.old) result) buf.new ≡ drop (exactly_read (length buf.old) result) buf.old }
         ensures same { self.new ≡ self.old }
     {
         let t = transport(d);
@@ -153,8 +150,8 @@ impl RecvStream {
         let count = exactly_read(&answer, buf.len());
         let made = exact_record(self.id, &answer, buf.len());
         t.copy_unread(self.id, &mut buf[..count]);
-        record(d, &made)?;
-        Ok(answer)
+        record(d, &made);
+        answer
     }
 
     /// Gives the half up: the peer is told this code, where the connection is open.

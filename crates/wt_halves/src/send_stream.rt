@@ -1,5 +1,6 @@
 //! The sending half of a stream (RFC 9000, sections 2.4 and 3.1).
 ghost use Rattle.std.specs.Prelude.{◌≡◌, Err, IfOk, Ok, OnOk, if◌then◌else◌, true, ℕ};
+ghost use Rattle.wt_driver.specs.Calling.{leaves_at_rest};
 ghost use Rattle.wt_driver.specs.Tie.{Follows};
 ghost use Rattle.wt_halves.specs.Replies.{reset_reply};
 ghost use Rattle.wt_laws.specs.Reachable.{IsReachable};
@@ -49,7 +50,8 @@ fn unless_closed(is_closed: bool) -> Result<(), ClosedStream>
 
 /// The record of a priority that is set.
 fn priority_record(id: StreamId, priority: i32, is_closed: bool) -> Record
-    ensures { record_of result ≡ (if is_closed then Polled else PrioritySet id priority) }
+    ensures now { record_of result ≡ (if is_closed then Polled else PrioritySet id priority) }
+    ensures rests { leaves_at_rest (record_of result) ≡ true }
 {
     if is_closed {
         Record::Polled
@@ -172,23 +174,21 @@ impl SendStream {
     /// `Closed` where this end reset it or the peer has all of it, `NotConnected` where the connection
     /// isn't open. Else the call is pending.
     ///
-    /// # Errors
-    ///
-    /// `OutOfMemory` where the call's record found no memory.
-    pub fn stopped(&mut self, d: &mut Driver) -> Result<Poll<StreamWriteError>, OutOfMemory>
+    /// It takes no memory.
+    pub fn stopped(&mut self, d: &mut Driver) -> Poll<StreamWriteError>
         ensures reply { (side : Side) (log : Log) (taken : ℕ) → Follows side d.old log taken → IsReachable side log → has_sending_half side log self.old ≡ true
-            → IfOk result (λ a. stopped_by a ≡ (call_effect side log (calls.Stopped self.old)).reply) }
+            → stopped_by result ≡ (call_effect side log (calls.Stopped self.old)).reply }
         ensures log { (side : Side) (log : Log) (taken : ℕ) → Follows side d.old log taken → IsReachable side log → has_sending_half side log self.old ≡ true
-            → OnOk result (Follows side d.new (call_effect side log (calls.Stopped self.old)).log taken) }
+            → Follows side d.new (call_effect side log (calls.Stopped self.old)).log taken }
         ensures same { self.new ≡ self.old }
     {
         let t = transport(d);
         if !t.can_send(self.id) {
-            return Ok(Poll::Ready(StreamWriteError::NotConnected));
+            return Poll::Ready(StreamWriteError::NotConnected);
         }
         let answer = t.stopped_answer(self.id);
-        record(d, &Record::Polled)?;
-        Ok(answer)
+        record(d, &Record::Polled);
+        answer
     }
 
     /// Resets the half with this code, which goes out where the connection is open.
@@ -227,42 +227,38 @@ impl SendStream {
     ///
     /// The error is `ClosedStream` where [`SendStream::reset`] would answer it.
     ///
-    /// # Errors
-    ///
-    /// `OutOfMemory` where the call's record found no memory.
-    pub fn priority(&self, d: &mut Driver) -> Result<Result<i32, ClosedStream>, OutOfMemory>
+    /// It takes no memory.
+    pub fn priority(&self, d: &mut Driver) -> Result<i32, ClosedStream>
         ensures reply { (side : Side) (log : Log) (taken : ℕ) → Follows side d.old log taken → IsReachable side log → has_sending_half side log self.now ≡ true
-            → IfOk result (λ a. priority_reply a ≡ (call_effect side log (calls.Priority self.now)).reply) }
+            → priority_reply result ≡ (call_effect side log (calls.Priority self.now)).reply }
         ensures log { (side : Side) (log : Log) (taken : ℕ) → Follows side d.old log taken → IsReachable side log → has_sending_half side log self.now ≡ true
-            → OnOk result (Follows side d.new (call_effect side log (calls.Priority self.now)).log taken) }
+            → Follows side d.new (call_effect side log (calls.Priority self.now)).log taken }
     {
         let t = transport(d);
         if !t.can_send(self.id) {
-            return Ok(Err(ClosedStream));
+            return Err(ClosedStream);
         }
         let answer = t.priority_answer(self.id);
-        record(d, &Record::Polled)?;
-        Ok(answer)
+        record(d, &Record::Polled);
+        answer
     }
 
     /// Sets the half's priority; on a half of which [`SendStream::priority`] answers `ClosedStream` that
     /// changes nothing.
     ///
-    /// # Errors
-    ///
-    /// `OutOfMemory` where the call's record found no memory.
-    pub fn set_priority(&mut self, d: &mut Driver, priority: i32) -> Result<(), OutOfMemory>
+    /// It takes no memory.
+    pub fn set_priority(&mut self, d: &mut Driver, priority: i32)
         ensures reply { (side : Side) (log : Log) (taken : ℕ) → Follows side d.old log taken → IsReachable side log → has_sending_half side log self.old ≡ true
-            → OnOk result (replies.Done ≡ (call_effect side log (calls.SetPriority self.old priority)).reply) }
+            → replies.Done ≡ (call_effect side log (calls.SetPriority self.old priority)).reply }
         ensures log { (side : Side) (log : Log) (taken : ℕ) → Follows side d.old log taken → IsReachable side log → has_sending_half side log self.old ≡ true
-            → OnOk result (Follows side d.new (call_effect side log (calls.SetPriority self.old priority)).log taken) }
+            → Follows side d.new (call_effect side log (calls.SetPriority self.old priority)).log taken }
         ensures same { self.new ≡ self.old }
     {
         let t = transport(d);
         if !t.can_send(self.id) {
-            return Ok(());
+            return;
         }
         let made = priority_record(self.id, priority, t.is_closed(self.id));
-        record(d, &made)
+        record(d, &made);
     }
 }

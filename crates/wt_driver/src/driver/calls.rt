@@ -4,6 +4,7 @@ ghost use Rattle.wt_driver_spec.specs.Step.{remove_request};
 ghost use Rattle.wt_driver_spec.specs.Asking.{AwaitsResponse, MayBeCalled, SparesControl};
 ghost use Rattle.wt_seam_spec.specs.Acting.{MayAct};
 ghost use Rattle.wt_turn.specs.Records.{record_of};
+ghost use Rattle.wt_driver.specs.Calling.{leaves_at_rest};
 ghost use Rattle.wt_driver.specs.Tie.{Follows, TakenIn, untaken_since};
 ghost use Rattle.wt_inbox.specs.Stage.{Body, Refines, ResponseHead, Stage, awaits_response, body_offset, with_stage};
 ghost use Rattle.wt_proto.specs.ResponseWalk.{response_offset, response_walk_of};
@@ -131,13 +132,25 @@ impl Driver {
             Record::StreamPassed(id) => self.pass(*id),
             Record::DatagramReceived => self.settle_datagram()?,
             Record::DatagramPassed => self.settle_datagram()?,
-            Record::BytesRead(id, count) => self.consume(*id, *count),
             Record::StreamGivenUp(id) => self.give_up(*id),
-            Record::PrioritySet(id, priority) => self.set_priority(*id, *priority),
             Record::ResetUnsent(id, code) => self.reset_unsent(*id, *code)?,
-            _ => {}
+            _ => self.note_reading(call),
         }
         Ok(())
+    }
+
+    /// Takes in what a call did of which no work comes: bytes that were read, a priority, or what isn't
+    /// kept here.
+    fn note_reading(&mut self, call: &Record)
+        ensures log { (side : Side) (log : Log) (taken : ℕ) → Follows side self.old log taken → MayBeCalled side log (record_of call.now) → leaves_at_rest (record_of call.now) ≡ true
+            → TakenIn side log (Called (record_of call.now)) self.new taken }
+        ensures has_given { self.new.has_given_settings ≡ self.old.has_given_settings }
+    {
+        match call {
+            Record::BytesRead(id, count) => self.consume(*id, *count),
+            Record::PrioritySet(id, priority) => self.set_priority(*id, *priority),
+            _ => {}
+        }
     }
 
     /// A reset after the end: it counts, and nothing goes out.
@@ -231,6 +244,17 @@ impl Driver {
     {
         self.note_call(call)?;
         self.work()
+    }
+
+    /// Takes in what a call did of which no work comes: a driver at rest stays so. It takes no memory.
+    pub fn note_at_rest(&mut self, call: &Record)
+        requires { leaves_at_rest (record_of call.now) ≡ true }
+        ensures log { (side : Side) (log : Log) (taken : ℕ) → Follows side self.old log taken → MayBeCalled side log (record_of call.now)
+            → Follows side self.new (log_and_flush side log (Called (record_of call.now))) taken }
+        ensures has_given { self.new.has_given_settings ≡ self.old.has_given_settings }
+    {
+        self.note_reading(call);
+        self.stay_at_rest();
     }
 
     // ---- what calls send

@@ -1,5 +1,6 @@
 //! The work of a moment.
 ghost use Rattle.std.specs.Prelude.{◌≡◌, ◌↔◌, None, IsTrue, ◌==◌, ◌&&◌, List, ℕ, Some, IfOk, OnOk, drop, false, true, not};
+ghost use Rattle.wt_driver.specs.Calling.{leaves_at_rest};
 ghost use Rattle.wt_driver.specs.DriverValue.{with_state};
 ghost use Rattle.wt_driver.specs.Moving.{CanGiveUp, HasDatagram, MayCheck, MayScan, Moves, WalkFrom, front_of};
 ghost use Rattle.std.specs.Option.{option_or};
@@ -17,7 +18,7 @@ ghost use Rattle.wt_proto.specs.ControlWalk.{control_walk_of};
 ghost use Rattle.wt_proto.specs.SessionWalk.{is_over, session_walk_of};
 ghost use Rattle.wt_spec.specs.Driver.{log_and_flush, transport_view};
 ghost use Rattle.wt_spec.specs.Scan.{check_control, check_qpack, check_session, control_read, critical_if, dequeued_datagram, session_ends, session_read, unless_ended};
-ghost use Rattle.wt_turn.specs.Log.{Entry, Log, events_of, is_open};
+ghost use Rattle.wt_turn.specs.Log.{CallRecord, Called, Entry, Log, events_of, is_open};
 ghost use Rattle.wt_turn.specs.declared.action.Action.{Action};
 ghost use Rattle.wt_wire.specs.declared.side.Side.{Side};
 
@@ -381,5 +382,17 @@ impl Driver {
             self.flush()?;
         }
         Ok(())
+    }
+
+    /// No work comes of a call that leaves a driver at rest: what the moment before had to stop is
+    /// forgotten.
+    pub(super) fn stay_at_rest(&mut self)
+        ensures log { (side : Side) (log : Log) (call : CallRecord) (taken : ℕ) → leaves_at_rest call ≡ true → TakenIn side log (Called call) self.old taken
+            → Follows side self.new (log_and_flush side log (Called call)) taken }
+        ensures has_given { self.new.has_given_settings ≡ self.old.has_given_settings }
+    {
+        if self.inbox.is_open() {
+            self.begin_scan();
+        }
     }
 }

@@ -67,8 +67,8 @@ fn a_sending_half_is_written(rt: HostRuntime) {
 }
 
 fn prioritize(rt: &impl Abort, alloc: Global, driver: &mut Driver, half: &mut SendStream) {
-    half.set_priority(driver, 3).expect(rt, "no memory");
-    let reply = match half.priority(driver).expect(rt, "no memory") {
+    half.set_priority(driver, 3);
+    let reply = match half.priority(driver) {
         Ok(priority) => Reply::Priority(priority),
         Err(_) => Reply::ClosedStream,
     };
@@ -85,7 +85,7 @@ fn finish(rt: &impl Abort, alloc: Global, driver: &mut Driver, half: &mut SendSt
 }
 
 fn stopped(rt: &impl Abort, alloc: Global, driver: &mut Driver, half: &mut SendStream, line: &str) {
-    let reply = match half.stopped(driver).expect(rt, "no memory") {
+    let reply = match half.stopped(driver) {
         Poll::Ready(error) => Reply::StoppedBy(error),
         Poll::Pending => Reply::Pending,
     };
@@ -119,8 +119,7 @@ fn read(
     line: &str,
 ) {
     let mut buffer = buffer(rt, alloc, size);
-    let answer = half.read(driver, buffer.as_mut_slice());
-    let reply = match answer.expect(rt, "no memory") {
+    let reply = match half.read(driver, buffer.as_mut_slice()) {
         Poll::Ready(Ok(Some(count))) => {
             buffer.truncate(count);
             Reply::Read(Some(Piece::from_vec(buffer)))
@@ -142,8 +141,7 @@ fn read_exact(
     line: &str,
 ) {
     let mut buffer = buffer(rt, alloc, size);
-    let answer = half.read_exact(driver, buffer.as_mut_slice());
-    let reply = match answer.expect(rt, "no memory") {
+    let reply = match half.read_exact(driver, buffer.as_mut_slice()) {
         Poll::Ready(Ok(_)) => Reply::Exact(Piece::from_vec(buffer)),
         Poll::Ready(Err(error)) => Reply::ExactFailed(error, Piece::from_vec(buffer)),
         Poll::Pending => Reply::Pending,

@@ -32,7 +32,7 @@ fn receive(rt: &impl Abort, alloc: Global, driver: &mut Driver, session: &mut Co
 }
 
 fn size(rt: &impl Abort, alloc: Global, driver: &mut Driver, session: &Connection, line: &str) {
-    let size = session.max_datagram_size(driver).expect(rt, "no memory");
+    let size = session.max_datagram_size(driver);
     prints(rt, alloc, driver, Reply::Size(size), line);
 }
 

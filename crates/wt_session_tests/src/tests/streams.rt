@@ -32,15 +32,15 @@ fn read_in_turn(
     second: &mut RecvStream,
     left: &mut [u8],
     right: &mut [u8],
-) -> Result<(ReadAnswer, ReadAnswer), OutOfMemory>
+) -> (ReadAnswer, ReadAnswer)
     ensures first { (side : Side) (log : Log) (taken : ℕ) → Follows side d.old log taken → IsReachable side log → has_receiving_half side log first.old ≡ true → has_receiving_half side log second.old ≡ true
-        → IfOk result (λ both. read_reply left.new both.0 ≡ (call_effect side log (calls.Read first.old (length left.old))).reply) }
+        → read_reply left.new result.0 ≡ (call_effect side log (calls.Read first.old (length left.old))).reply }
     ensures second { (side : Side) (log : Log) (taken : ℕ) → Follows side d.old log taken → IsReachable side log → has_receiving_half side log first.old ≡ true → has_receiving_half side log second.old ≡ true
-        → IfOk result (λ both. read_reply right.new both.1 ≡ (call_effect side (call_effect side log (calls.Read first.old (length left.old))).log (calls.Read second.old (length right.old))).reply) }
+        → read_reply right.new result.1 ≡ (call_effect side (call_effect side log (calls.Read first.old (length left.old))).log (calls.Read second.old (length right.old))).reply }
 {
-    let one = first.read(d, left)?;
-    let other = second.read(d, right)?;
-    Ok((one, other))
+    let one = first.read(d, left);
+    let other = second.read(d, right);
+    (one, other)
 }
 
 /// A stream that is being opened is polled, and written where it is open.

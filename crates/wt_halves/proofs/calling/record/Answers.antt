@@ -1,4 +1,4 @@
-use Rattle.std.proofs.Common.{[], OnOk, subst}
+use Rattle.std.proofs.Common.{[], subst}
 use Rattle.wt_halves.proofs.Told.{leads, may_perform}
 use Rattle.wt_halves.proofs.calling.record.Goals as goal
 use Rattle.wt_driver.specs.Tie.{Follows}
@@ -10,6 +10,6 @@ pub returns : goal.returns
 returns c = record {
   log = λ side log taken call reply f r m e.
       let p = Step [] (record_of c.args.made.now) reply in
-      subst (λ (x : Effect). OnOk c.called.result (Follows side c.called.new.self x.log taken)) (leads side log call p e)
-      (c.called.ensures.log side log taken f (may_perform side log call p e r m).1);
+      subst (λ (x : Effect). Follows side c.note_at_rest.new.self x.log taken) (leads side log call p e)
+      (c.note_at_rest.ensures.log side log taken f (may_perform side log call p e r m).1);
 }

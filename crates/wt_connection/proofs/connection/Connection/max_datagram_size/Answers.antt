@@ -12,4 +12,4 @@ returns-clause-reply c = rw (← c.self.view_is) (λ side log taken f r s.
 
 pub returns-clause-log : goal.returns-clause-log
 returns-clause-log c = rw (← c.self.view_is) (λ side log taken f r s.
-    c.in_ok-record.ensures.log side log taken calls.MaxDatagramSize _ f r (may_use side log c.self.inside.session s) (size_by_log side log c.self.inside.session s c.args.d.now taken f r))
+    c.record.ensures.log side log taken calls.MaxDatagramSize _ f r (may_use side log c.self.inside.session s) (size_by_log side log c.self.inside.session s c.args.d.now taken f r))

@@ -1,13 +1,8 @@
-use Rattle.std.proofs.Common.{◌∷◌, refl, rules, subst}
-use Rattle.std.proofs.Math.Facts.{to_z-of_z}
-use Rattle.std.specs.Int.{w32}
-use Rattle.std.specs.Prelude.{FitsSigned, ℤ}
-use Rattle.wt_inbox.specs.Stage.{Refines}
-use Rattle.wt_driver.proofs.Calling.{accepted-taken, delivered-taken, established-taken, given-up-taken, no-other, nothing-taken, of-shape, passed-taken, read-taken, received-taken, skipped-taken, told-taken}
-use Rattle.wt_turn.specs.Records.{record_of}
+use Rattle.std.proofs.Common.{refl}
+use Rattle.wt_driver.proofs.Calling.{accepted-taken, delivered-taken, established-taken, given-up-taken, no-other, of-shape, passed-taken, received-taken, skipped-taken, told-taken}
 use Rattle.wt_driver.specs.Tie.{untaken_since}
 use Rattle.wt_turn.specs.declared.record.Record.TheVariants as records
-use Rattle.wt_turn.specs.Log.{Called, PrioritySet, ResetUnsent}
+use Rattle.wt_turn.specs.Log.{ResetUnsent}
 use Rattle.wt_driver.proofs.driver.Driver.note_call.Goals as goal
 
 pub returns-in-RequestDelivered-clause-log : goal.returns-in-RequestDelivered-clause-log
@@ -31,23 +26,10 @@ returns-in-StreamPassed-clause-log c = λ side log taken f.
     of-shape side log taken c.args.self.now f.refines.stage c.pass.new.self c.args.call.now (records.StreamPassed c.in-StreamPassed.id) c.in-StreamPassed.is
     (λ a. passed-taken side log taken c.args.self.now f c.pass.new.self c.in-StreamPassed.id (c.pass.ensures.log side log f.refines.stage (untaken_since taken log) f.refines.inbox) c.pass.ensures.state c.pass.ensures.queue c.pass.ensures.settings a)
 
-pub returns-in-BytesRead-clause-log : goal.returns-in-BytesRead-clause-log
-returns-in-BytesRead-clause-log c = λ side log taken f.
-    of-shape side log taken c.args.self.now f.refines.stage c.consume.new.self c.args.call.now (records.BytesRead c.in-BytesRead.id c.in-BytesRead.count) c.in-BytesRead.is
-    (λ a. read-taken side log taken c.args.self.now f c.consume.new.self c.in-BytesRead.id c.in-BytesRead.count (λ offset e le. c.consume.ensures.log side log f.refines.stage (untaken_since taken log) offset f.refines.inbox e le) c.consume.ensures.state c.consume.ensures.queue c.consume.ensures.settings a)
-
 pub returns-in-StreamGivenUp-clause-log : goal.returns-in-StreamGivenUp-clause-log
 returns-in-StreamGivenUp-clause-log c = λ side log taken f.
     of-shape side log taken c.args.self.now f.refines.stage c.give_up.new.self c.args.call.now (records.StreamGivenUp c.in-StreamGivenUp.id) c.in-StreamGivenUp.is
     (λ a. given-up-taken side log taken c.args.self.now f c.give_up.new.self c.in-StreamGivenUp.id (c.give_up.ensures.log side log f.refines.stage (untaken_since taken log) f.refines.inbox) c.give_up.ensures.state c.give_up.ensures.queue c.give_up.ensures.settings a)
-
-pub returns-in-PrioritySet-clause-log : goal.returns-in-PrioritySet-clause-log
-returns-in-PrioritySet-clause-log c = λ side log taken f.
-    let fit : FitsSigned w32 c.in-PrioritySet.priority = search rules in
-    of-shape side log taken c.args.self.now f.refines.stage c.set_priority.new.self c.args.call.now (records.PrioritySet c.in-PrioritySet.id c.in-PrioritySet.priority) c.in-PrioritySet.is
-    (λ a. told-taken side log taken c.args.self.now f c.set_priority.new.self (PrioritySet c.in-PrioritySet.id c.in-PrioritySet.priority) refl refl refl
-    (subst (λ (p : ℤ). Refines side c.set_priority.new.self.inbox (Called (PrioritySet c.in-PrioritySet.id p) ∷ log) f.refines.stage (untaken_since taken log)) (to_z-of_z fit)
-    (c.set_priority.ensures.log side log f.refines.stage (untaken_since taken log) f.refines.inbox a.half)) c.set_priority.ensures.state c.set_priority.ensures.queue c.set_priority.ensures.settings a)
 
 pub returns-in_ok-reset_unsent-in-ResetUnsent-clause-log : goal.returns-in_ok-reset_unsent-in-ResetUnsent-clause-log
 returns-in_ok-reset_unsent-in-ResetUnsent-clause-log c = λ side log taken f.
@@ -65,4 +47,6 @@ returns-in_ok-settle_datagram-in-DatagramPassed-clause-log c = λ side log taken
     (λ a. skipped-taken side log taken c.args.self.now f c.settle_datagram-in-DatagramPassed.new.self c.in_ok-settle_datagram-in-DatagramPassed.ensures a)
 
 pub returns-in_default-clause-log : goal.returns-in_default-clause-log
-returns-in_default-clause-log c = λ side log taken f a. nothing-taken side log taken c.args.self.now f (record_of c.args.call.now) (no-other c.args.call.now c.in_default.not-RequestDelivered c.in_default.not-SessionEstablished c.in_default.not-StreamAccepted c.in_default.not-StreamPassed c.in_default.not-BytesRead c.in_default.not-StreamGivenUp c.in_default.not-ResetUnsent c.in_default.not-PrioritySet c.in_default.not-DatagramReceived c.in_default.not-DatagramPassed) a
+returns-in_default-clause-log c = λ side log taken f a.
+    c.note_reading.ensures.log side log taken f a
+    (no-other c.args.call.now c.in_default.not-RequestDelivered c.in_default.not-SessionEstablished c.in_default.not-StreamAccepted c.in_default.not-StreamPassed c.in_default.not-StreamGivenUp c.in_default.not-ResetUnsent c.in_default.not-DatagramReceived c.in_default.not-DatagramPassed)

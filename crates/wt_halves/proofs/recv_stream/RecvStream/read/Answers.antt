@@ -23,8 +23,8 @@ returns-clause-log c = rw (← c.self.view_is) (λ side log taken f r h.
     let size = length c.args.buf.now in
     let unread = unread_now c.transport-t.result.now c.self.inside.id in
     let count : c.min-count.result ≡ min size (length unread) = c.min-count.ensures ∙ ap (λ (n : ℕ). min size n) c.unread.ensures.now in
-    c.in_ok-record.ensures.log side log taken (calls.Read c.self.inside.id size) _ f r (may_use side log c.self.inside.id h)
-    (read_planned side c.args.d.now log taken f r c.self.inside.id h size c.transport-t.result.now c.transport-t.ensures c.min-count.result count (record_of c.read_record.result) c.read_record.ensures))
+    c.record.ensures.log side log taken (calls.Read c.self.inside.id size) _ f r (may_use side log c.self.inside.id h)
+    (read_planned side c.args.d.now log taken f r c.self.inside.id h size c.transport-t.result.now c.transport-t.ensures c.min-count.result count (record_of c.read_record.result) c.read_record.ensures.now))
 
 pub returns-clause-empty : goal.returns-clause-empty
 returns-clause-empty c = λ z.

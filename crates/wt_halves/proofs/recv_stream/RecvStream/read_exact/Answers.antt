@@ -23,5 +23,5 @@ returns-clause-reply c = rw (← c.self.view_is) (λ side log taken f r h.
 pub returns-clause-log : goal.returns-clause-log
 returns-clause-log c = rw (← c.self.view_is) (λ side log taken f r h.
     let size = length c.args.buf.now in
-    c.in_ok-record.ensures.log side log taken (calls.ReadExact c.self.inside.id size) _ f r (may_use side log c.self.inside.id h)
-    (exact_planned side c.args.d.now log taken f r c.self.inside.id h size c.transport-t.result.now c.transport-t.ensures c.read_exact_answer-answer.result c.read_exact_answer-answer.ensures (record_of c.exact_record-made.result) c.exact_record-made.ensures))
+    c.record.ensures.log side log taken (calls.ReadExact c.self.inside.id size) _ f r (may_use side log c.self.inside.id h)
+    (exact_planned side c.args.d.now log taken f r c.self.inside.id h size c.transport-t.result.now c.transport-t.ensures c.read_exact_answer-answer.result c.read_exact_answer-answer.ensures (record_of c.exact_record-made.result) c.exact_record-made.ensures.now))

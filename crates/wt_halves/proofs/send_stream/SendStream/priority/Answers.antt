@@ -16,4 +16,4 @@ returns-clause-reply c = rw (← c.self.view_is) (λ side log taken f r h.
 
 pub returns-clause-log : goal.returns-clause-log
 returns-clause-log c = rw (← c.self.view_is) (λ side log taken f r h.
-    c.in_ok-record.ensures.log side log taken (calls.Priority c.self.inside.id) _ f r (may_use side log c.self.inside.id h) (priority_by_log side c.args.d.now log taken f r c.self.inside.id h))
+    c.record.ensures.log side log taken (calls.Priority c.self.inside.id) _ f r (may_use side log c.self.inside.id h) (priority_by_log side c.args.d.now log taken f r c.self.inside.id h))

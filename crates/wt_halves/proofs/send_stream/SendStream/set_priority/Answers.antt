@@ -1,8 +1,6 @@
-use Rattle.std.proofs.Common.{◌∙◌, ◌≡◌, ap, if◌then◌else◌, ℤ}
+use Rattle.std.proofs.Common.{◌∙◌, ap, if◌then◌else◌, ℤ}
 use Rattle.std.proofs.Math.Facts.{to_z-of_z}
 use Rattle.wt_halves.proofs.Sending.{may_use, missing, set_planned, set_told}
-use Rattle.wt_halves.proofs.Told.{always}
-use Rattle.wt_spec.specs.Answers.{call_effect}
 use Rattle.wt_turn.specs.Log.{Polled, PrioritySet}
 use Rattle.wt_turn.specs.Records.{record_of}
 use Rattle.wt_turn.specs.declared.call.Call.TheVariants as calls
@@ -19,10 +17,10 @@ returns-then-not-can_send-clause-log c = rw (← c.self.view_is) (λ side log ta
 
 pub returns-clause-reply : goal.returns-clause-reply
 returns-clause-reply c = rw (← c.self.view_is) (λ side log taken f r h.
-    always c.record.result (replies.Done ≡ (call_effect side log (calls.SetPriority c.self.inside.id c.args.priority)).reply) (set_told side c.args.d.now log taken f r c.self.inside.id h c.args.priority))
+    set_told side c.args.d.now log taken f r c.self.inside.id h c.args.priority)
 
 pub returns-clause-log : goal.returns-clause-log
 returns-clause-log c = rw (← c.self.view_is) (λ side log taken f r h.
     c.record.ensures.log side log taken (calls.SetPriority c.self.inside.id c.args.priority) replies.Done f r (may_use side log c.self.inside.id h)
     (set_planned side c.args.d.now log taken f r c.self.inside.id h c.args.priority c.transport-t.result.now c.transport-t.ensures c.is_closed.result c.is_closed.ensures (record_of c.priority_record-made.result)
-    (c.priority_record-made.ensures ∙ ap (λ (v : ℤ). if c.is_closed.result then Polled else PrioritySet c.self.inside.id v) (to_z-of_z c.ranges.priority))))
+    (c.priority_record-made.ensures.now ∙ ap (λ (v : ℤ). if c.is_closed.result then Polled else PrioritySet c.self.inside.id v) (to_z-of_z c.ranges.priority))))
