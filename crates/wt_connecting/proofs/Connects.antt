@@ -9,6 +9,7 @@ use Rattle.wt_driver_spec.specs.Asking.{AwaitsResponse}
 use Rattle.wt_driver_spec.specs.Uses.{role_of, use_of}
 use Rattle.wt_laws.specs.Reachable.{IsReachable}
 use Rattle.wt_plan.proofs.FactsSame.{facts-same}
+use Rattle.wt_plan.proofs.PlansSame.{connect-same}
 use Rattle.wt_plan.specs.DriverAnswers.{answers_now, error_now}
 use Rattle.wt_plan.specs.FactsNow.{DriverAnswers, facts_now}
 use Rattle.wt_plan.specs.Planned.{planned}
@@ -48,45 +49,6 @@ use Rattle.wt_wire.specs.declared.side.Side.{Side}
 use Rattle.wt_wire.specs.declared.side.Side.TheVariants.{Client}
 
 -- ---- the plan by what a driver keeps is the one by the log
-
--- the same on both sides of a test
-if-same : (b : Bool) (x y u v : Plan) → x ≡ u → y ≡ v → (if b then x else y) ≡ (if b then u else v)
-if-same true x y u v e g = e
-if-same false x y u v e g = g
-
-module _ (f : CallFacts) (end : ℕ) (walk : ResponseWalk) (bytes : ℕ → List ℕ) (same : walk ≡ f.response) where
-  abbrev other : CallFacts
-  other = record f { request_end = end; response = walk; unread = bytes }
-
-  read-walk : (id : ℕ) (own : List Action) (w : ResponseWalk) → response_read other id own w ≡ response_read f id own w
-  read-walk id own (responses.Fault code) = refl
-  read-walk id own responses.Ended = refl
-  read-walk id own responses.Waiting = refl
-  read-walk id own (responses.Response fields at) = refl
-
-  read-same : (id : ℕ) (own : List Action) → response_read other id own walk ≡ response_read f id own f.response
-  read-same id own = read-walk id own walk ∙ ap (response_read f id own) same
-
-  sent-same : (p : HeadProgress) (id : ℕ) (own out : List Action) → request_sent p other id own out ≡ request_sent p f id own out
-  sent-same Ended id own out = refl
-  sent-same Refused id own out = refl
-  sent-same Short id own out = refl
-  sent-same AllOut id own out = read-same id (own ++ out)
-
-  left-same : (id : ℕ) (own : List Action) (left : List ℕ) → request_left other id own left ≡ request_left f id own left
-  left-same id own left = if-same (is_empty left) _ _ _ _ (read-same id own) (sent-same (progress_of f id left) id own (actions_of_head f id left))
-
-  request-same : (kind : ℕ) (head : List ℕ) → request_plan other kind head ≡ request_plan f kind head
-  request-same kind head =
-      if-same f.has_request_stream _ _ _ _ (left-same kind [] (left_of f kind head))
-      (if-same (not f.is_open) _ _ _ _ refl (if-same (f.may_open kind) _ _ _ _ (left-same kind (actions.Opened (f.next_id kind) ∷ []) (left_of f kind head)) refl))
-
-  unless-same : (reserved : Option (List ℕ)) (head : List ℕ) → request_unless other reserved head ≡ request_unless f reserved head
-  unless-same (Some name) head = refl
-  unless-same None head = request-same (local_bi f.side) head
-
-  connect-same : (reserved : Option (List ℕ)) (head : List ℕ) → continued_connect other reserved head ≡ continued_connect f reserved head
-  connect-same reserved head = if-same (not f.is_connected) _ _ _ _ refl (if-same f.settings_came _ _ _ _ (unless-same reserved head) refl)
 
 connecting-answers-none : (side : Side) (log : Log) (c : Connect) → IsConnecting log c → is_answering (handshake_state (calls_of log)) ≡ true → ⊥
 connecting-answers-none side log c s a = absurd (let x : is_answering (handshake.Connecting c.reserved c.head) ≡ true = ap is_answering (sym s.state) ∙ a in cc)

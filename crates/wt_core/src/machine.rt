@@ -17,7 +17,6 @@ use wt_wire::error::OutOfMemory;
 use wt_wire::side::Side;
 
 /// What a core keeps of its connection.
-#[derive(Drop)]
 pub struct Core {
     alloc: Global,
     /// A turn ran out of memory: no later turn is answered.
@@ -25,6 +24,19 @@ pub struct Core {
     side: Side,
     driver: Driver,
     session: Session,
+}
+
+/// Written out, so that a crate that lets one go need not prove the drop of each of its parts.
+impl Drop for Core {
+    fn drop(self) {
+        let Core {
+            alloc: _,
+            failed: _,
+            side: _,
+            driver: _,
+            session: _,
+        } = self;
+    }
 }
 
 impl Model for Core {

@@ -28,7 +28,6 @@ use wt_wire::side::Side;
 /// dequeued and classified, and what this end's control stream sent. Contracts see what it keeps as a
 /// record, and tie that record to each log that it refines. After a call that answered `OutOfMemory`
 /// nothing is said of it.
-#[derive(Drop)]
 pub struct Driver {
     alloc: Global,
     inbox: Inbox,
@@ -46,6 +45,27 @@ pub struct Driver {
     /// What the peer's SETTINGS say, and whether they were given.
     settings: Option<Settings>,
     has_given_settings: bool,
+}
+
+/// Written out, so that a crate that lets one go need not prove the drop of each of its parts.
+impl Drop for Driver {
+    fn drop(self) {
+        let Driver {
+            alloc: _,
+            inbox: _,
+            unis: _,
+            bis: _,
+            dispatched: _,
+            progress: _,
+            control_opened: _,
+            control_sent: _,
+            settled: _,
+            queue: _,
+            session: _,
+            settings: _,
+            has_given_settings: _,
+        } = self;
+    }
 }
 
 impl Model for Driver {

@@ -25,7 +25,6 @@ use wt_wire::side::Side;
 /// what it keeps as a record, and tie that record to each log that it refines. After `OutOfMemory` it is
 /// as it was before, but for the calls that read what a stream says (`has_..`, `release_..`, `response`,
 /// `control_walk`): after one of these nothing is said of it.
-#[derive(Drop)]
 pub struct Inbox {
     alloc: Global,
     transport: Transport,
@@ -34,6 +33,21 @@ pub struct Inbox {
     responses: Shelf<ResponseWalk>,
     controls: Shelf<ControlWalk>,
     sessions: Shelf<SessionWalk>,
+}
+
+/// Written out, so that a crate that lets one go need not prove the drop of each of its parts.
+impl Drop for Inbox {
+    fn drop(self) {
+        let Inbox {
+            alloc: _,
+            transport: _,
+            unis: _,
+            bis: _,
+            responses: _,
+            controls: _,
+            sessions: _,
+        } = self;
+    }
 }
 
 impl Model for Inbox {

@@ -45,7 +45,7 @@ table-same s log k = λ j. record { handshake = k.handshake_is j; requested = k.
 -- ---- what only some calls ask
 
 -- the facts with another end of the request, another walk over the response, and other unread bytes
-abbrev with_other : CallFacts → ℕ → ResponseWalk → (ℕ → List ℕ) → CallFacts
+abbrev pub with_other : CallFacts → ℕ → ResponseWalk → (ℕ → List ℕ) → CallFacts
 with_other f end walk bytes = record f { request_end = end; response = walk; unread = bytes }
 
 -- the same on both sides of a test
@@ -105,7 +105,7 @@ module _ (f : CallFacts) (end : ℕ) (walk : ResponseWalk) (bytes : ℕ → List
     unless-same (Some name) head = refl
     unless-same None head = request-same (local_bi f.side) head
 
-    connect-same : (reserved : Option (List ℕ)) (head : List ℕ) → continued_connect other reserved head ≡ continued_connect f reserved head
+    pub connect-same : (reserved : Option (List ℕ)) (head : List ℕ) → continued_connect other reserved head ≡ continued_connect f reserved head
     connect-same reserved head = if-same (not f.is_connected) _ _ _ _ refl (if-same f.settings_came _ _ _ _ (unless-same reserved head) refl)
 
 module _ (f : CallFacts) (s : SessionState) (end : ℕ) (walk : ResponseWalk) (bytes : ℕ → List ℕ)
