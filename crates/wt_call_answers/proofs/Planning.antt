@@ -2,8 +2,8 @@
 use Rattle.std.specs.Prelude.{◌&&◌, ◌≡◌, Bool, Err, IfOk, Ok, Result, false, not, true, ℕ}
 use Rattle.std.proofs.Common.{◌∙◌, ap, refl, subst, sym}
 use Rattle.std.proofs.lemmas.Bool.{and_parts}
-use Rattle.wt_driver.specs.DriverValue.{DriverValue}
-use Rattle.wt_driver.specs.Tie.{Follows, untaken_since}
+use Rattle.wt_driver_state.specs.DriverValue.{DriverValue}
+use Rattle.wt_driver_state.specs.Tie.{Follows, untaken_since}
 use Rattle.wt_driver_spec.specs.Asking.{AwaitsResponse}
 use Rattle.wt_driver_spec.specs.DriverState.{DriverState, requests_now, state_of}
 use Rattle.wt_driver_spec.specs.Uses.{role_of, use_of}
@@ -12,7 +12,7 @@ use Rattle.wt_plan.proofs.PlansSame.{plan_same, sending_kept, sending_there}
 use Rattle.wt_plan.specs.DriverAnswers.{answers_now}
 use Rattle.wt_plan.specs.FactsNow.{DriverAnswers, facts_now}
 use Rattle.wt_plan.specs.Planned.{planned}
-use Rattle.wt_plan.specs.Table.{KeepsCalls, TableValue}
+use Rattle.wt_table.specs.Table.{KeepsCalls, TableValue}
 use Rattle.wt_plan.specs.Tells.{KeepsRequestEnd, TellsFacts, session_now}
 use Rattle.wt_plan.specs.declared.plan.Plan as code
 use Rattle.wt_proto.specs.ResponseWalk.{response_walk_of}

@@ -1,9 +1,9 @@
 //! What a plan leads to.
 ghost use Rattle.std.specs.Prelude.{◌≡◌, ◌∷◌, IfOk, List, OnOk, ℕ};
-ghost use Rattle.wt_driver.specs.Tie.{Follows};
+ghost use Rattle.wt_driver_state.specs.Tie.{Follows};
 ghost use Rattle.wt_driver_spec.specs.Asking.{MayBeCalled};
 ghost use Rattle.wt_plan.specs.Planned.{planned};
-ghost use Rattle.wt_plan.specs.Table.{KeepsCalls};
+ghost use Rattle.wt_table.specs.Table.{KeepsCalls};
 ghost use Rattle.wt_seam_spec.specs.Streams.{peer_bi, peer_uni};
 ghost use Rattle.wt_calls.specs.Given.{given_in, with_given};
 ghost use Rattle.wt_session_acts.specs.Performing.{MayPerform, MaySendAll};
@@ -20,7 +20,7 @@ use std::alloc::Global;
 use wt_calls::acting;
 use wt_driver::driver::Driver;
 use wt_plan::plan::Plan;
-use wt_plan::session_table::SessionTable;
+use wt_table::session_table::SessionTable;
 use wt_turn::action::Action;
 use wt_turn::connection_error::ConnectionError;
 use wt_turn::poll::Poll;

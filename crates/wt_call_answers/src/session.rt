@@ -1,10 +1,10 @@
 //! What a connection keeps of the application's calls, and how it answers them.
 ghost use Rattle.std.specs.Prelude.{◌≡◌, [], IfOk, OnOk, false, is_some, true, ℕ};
-ghost use Rattle.wt_driver.specs.Tie.{Follows};
+ghost use Rattle.wt_driver_state.specs.Tie.{Follows};
 ghost use Rattle.wt_laws.specs.Reachable.{IsReachable};
 ghost use Rattle.wt_spec.specs.Turns.{is_call};
 ghost use Rattle.wt_plan.specs.Planned.{planned};
-ghost use Rattle.wt_plan.specs.Table.{KeepsCalls, handshake_as};
+ghost use Rattle.wt_table.specs.Table.{KeepsCalls, handshake_as};
 ghost use Rattle.wt_plan.specs.Tells.{KeepsRequestEnd};
 ghost use Rattle.wt_call_answers.specs.Keeping.{Keeps, may_call_of};
 ghost use Rattle.wt_call_answers.specs.Walking.{KnowsResponse, is_connecting};
@@ -27,7 +27,7 @@ use std::marker::Model;
 use wt_call_plans::plans;
 use wt_driver::driver::Driver;
 use wt_plan::plan::Plan;
-use wt_plan::session_table::{Handshake, SessionTable};
+use wt_table::session_table::{Handshake, SessionTable};
 use wt_proto::response_walk::ResponseWalk;
 use wt_turn::call::Call;
 use wt_turn::record::Record;

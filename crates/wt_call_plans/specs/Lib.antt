@@ -1,3 +1,2 @@
-pub mod ConnectOptions
 pub mod Kept
 pub mod MayPlan

@@ -2,9 +2,9 @@
 use Rattle.std.specs.Prelude.{[], ◌∷◌, ◌≡◌, List, Option, Some, false, is_some, true, ℕ}
 use Rattle.std.proofs.Common.{◌∙◌, ap, refl, sym}
 use Rattle.std.specs.Borrow.{Bor}
-use Rattle.wt_driver.specs.DriverValue.{DriverValue}
+use Rattle.wt_driver_state.specs.DriverValue.{DriverValue}
 use Rattle.wt_dispatch.specs.Requests.{first_request, request_as}
-use Rattle.wt_driver.specs.Tie.{Follows, untaken_since}
+use Rattle.wt_driver_state.specs.Tie.{Follows, untaken_since}
 use Rattle.wt_laws.specs.Reachable.{IsReachable}
 use Rattle.wt_driver_spec.specs.DriverState.{requests_now}
 use Rattle.wt_plan.specs.Tells.{KeepsRequestEnd}

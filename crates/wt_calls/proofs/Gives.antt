@@ -1,13 +1,13 @@
 -- The calls of an accept and of a receive are what the driver gives, and then a poll; and what lets a plan be performed step by step.
 use Rattle.std.specs.Prelude.{[], ◌++◌, ◌∷◌, ◌≡◌, Bool, List, None, Option, Some, false, if◌then◌else◌, length, suc, ℕ}
 use Rattle.std.proofs.Common.{◌∙◌, ap, append-nil, refl, subst, sym}
-use Rattle.wt_driver.specs.DriverValue.{DriverValue}
-use Rattle.wt_driver.specs.Tie.{Follows, untaken_since}
+use Rattle.wt_driver_state.specs.DriverValue.{DriverValue}
+use Rattle.wt_driver_state.specs.Tie.{Follows, untaken_since}
 use Rattle.wt_driver_spec.proofs.Accepting.{accept-is, receive-is}
 use Rattle.wt_driver_spec.specs.Asking.{MayBeCalled, SparesControl, SparesControlAll}
 use Rattle.wt_driver_spec.specs.Due.{accepted, received, reply_or}
 use Rattle.wt_plan.specs.DriverAnswers.{error_now}
-use Rattle.wt_plan.specs.Table.{KeepsCalls, TableValue}
+use Rattle.wt_table.specs.Table.{KeepsCalls, TableValue}
 use Rattle.wt_seam.specs.State.{TransportState}
 use Rattle.wt_seam_spec.specs.Acting.{MayAct, MayActAll}
 use Rattle.wt_seam_spec.specs.Reports.{datagrams_of}

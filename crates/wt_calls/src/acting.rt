@@ -1,7 +1,7 @@
 //! What a call leads to over a driver alone: its actions, its record, and what an accept or a receive gives.
 ghost use Rattle.std.specs.Prelude.{◌≡◌, IfOk, OnOk, ℕ};
-ghost use Rattle.wt_driver.specs.Given.{given_by, payload_by};
-ghost use Rattle.wt_driver.specs.Tie.{Follows};
+ghost use Rattle.wt_driver_state.specs.Given.{given_by, payload_by};
+ghost use Rattle.wt_driver_state.specs.Tie.{Follows};
 ghost use Rattle.wt_driver_spec.specs.Asking.{MayBeCalled};
 ghost use Rattle.wt_driver_spec.specs.Due.{accepted, reply_or};
 ghost use Rattle.wt_plan.specs.Planned.{planned};

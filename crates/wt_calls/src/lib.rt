@@ -1,7 +1,8 @@
 //! What the plan of a call leads to over a driver: its actions, its record, and what an accept or a receive
-//! gives. The plans of wt_call_plans and what a client is asked to connect to are offered again.
+//! gives. The plans of wt_call_plans and, of wt_connect, what a client is asked to connect to are offered again.
 #![tactic(auto)]
 
 pub mod acting;
 
-pub use wt_call_plans::{connect_options, plans};
+pub use wt_call_plans::plans;
+pub use wt_connect::connect_options;

@@ -1,2 +1,3 @@
+pub mod ConnectOptions
 pub mod ConnectTarget
 pub mod Reserved

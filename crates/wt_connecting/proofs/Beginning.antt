@@ -4,8 +4,8 @@ use Rattle.std.proofs.Common.{◌∙◌, ap, subst, sym}
 use Rattle.wt_connect.specs.ConnectTarget.{target_of}
 use Rattle.wt_connect.specs.declared.connect_target.ConnectTarget.{ConnectTarget}
 use Rattle.wt_connecting.specs.Connecting.{Connect, IsConnecting}
-use Rattle.wt_driver.specs.DriverValue.{DriverValue}
-use Rattle.wt_driver.specs.Tie.{Follows}
+use Rattle.wt_driver_state.specs.DriverValue.{DriverValue}
+use Rattle.wt_driver_state.specs.Tie.{Follows}
 use Rattle.wt_driver_spec.specs.Asking.{MayBeCalled}
 use Rattle.wt_laws.specs.Reachable.{IsReachable}
 use Rattle.wt_plan.proofs.Connects.{with_target, without_target}

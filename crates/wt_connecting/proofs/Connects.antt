@@ -3,8 +3,8 @@ use Rattle.std.specs.Prelude.{[], ◌++◌, ◌∷◌, ◌≡◌, Bool, IfOk, Li
 use Rattle.std.proofs.Common.{◌∙◌, ap, refl, subst, sym}
 use Rattle.wt_connecting.proofs.Over.{establishes}
 use Rattle.wt_connecting.specs.Connecting.{Connect, IsConnectReply, IsConnecting, StandsWith}
-use Rattle.wt_driver.specs.DriverValue.{DriverValue}
-use Rattle.wt_driver.specs.Tie.{Follows, untaken_since}
+use Rattle.wt_driver_state.specs.DriverValue.{DriverValue}
+use Rattle.wt_driver_state.specs.Tie.{Follows, untaken_since}
 use Rattle.wt_driver_spec.specs.Asking.{AwaitsResponse}
 use Rattle.wt_driver_spec.specs.Uses.{role_of, use_of}
 use Rattle.wt_laws.specs.Reachable.{IsReachable}

@@ -2,8 +2,8 @@
 use Rattle.std.specs.Prelude.{[], ◌∷◌, List, ℕ}
 use Rattle.std.proofs.Common.{◌∙◌, ap}
 use Rattle.wt_connection.specs.Standing.{IsEstablished}
-use Rattle.wt_driver.specs.DriverValue.{DriverValue}
-use Rattle.wt_driver.specs.Tie.{Follows}
+use Rattle.wt_driver_state.specs.DriverValue.{DriverValue}
+use Rattle.wt_driver_state.specs.Tie.{Follows}
 use Rattle.wt_driver_spec.specs.Asking.{MayBeCalled}
 use Rattle.wt_session_acts.proofs.RecordsMay.{over-made}
 use Rattle.wt_session_spec.specs.Plan.{Establish, perform}

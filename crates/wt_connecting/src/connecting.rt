@@ -3,7 +3,7 @@ ghost use Rattle.std.specs.Prelude.{◌≡◌, ◌∷◌, [], Err, IfOk, None, O
 ghost use Rattle.std.specs.Option.{option_copied};
 ghost use Rattle.wt_connect.specs.ConnectTarget.{target_of};
 ghost use Rattle.wt_connecting.specs.Connecting.{BeginsConnect, Connect, IsConnectReply, IsConnecting, StandsWith, beginning_reply, connecting_reply};
-ghost use Rattle.wt_driver.specs.Tie.{Follows};
+ghost use Rattle.wt_driver_state.specs.Tie.{Follows};
 ghost use Rattle.wt_driver_spec.specs.Asking.{MayBeCalled};
 ghost use Rattle.wt_laws.specs.Reachable.{IsReachable};
 ghost use Rattle.wt_plan.specs.Planned.{planned};

@@ -5,8 +5,8 @@ use Rattle.wt_halves.proofs.Told.{facts_told, leads, told}
 use Rattle.wt_connection.specs.Openings.{IsOpening, OpeningStream, opening_in, ready_in}
 use Rattle.wt_halves.specs.Replies.{closed_in, closed_reply, ready_reply, sent_in, sent_reply}
 use Rattle.wt_connection.specs.Standing.{IsEstablished}
-use Rattle.wt_driver.specs.DriverValue.{DriverValue}
-use Rattle.wt_driver.specs.Tie.{Follows}
+use Rattle.wt_driver_state.specs.DriverValue.{DriverValue}
+use Rattle.wt_driver_state.specs.Tie.{Follows}
 use Rattle.wt_laws.specs.Reachable.{IsReachable}
 use Rattle.wt_message.specs.Datagram.{datagram_bytes}
 use Rattle.wt_plan.specs.FactsNow.{DriverAnswers, facts_now}

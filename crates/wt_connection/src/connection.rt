@@ -3,7 +3,7 @@ ghost use Rattle.std.specs.Prelude.{◌≡◌, IfOk, Ok, OnOk, false, true, ℕ}
 ghost use Rattle.wt_connection.specs.Datagrams.{session_datagram};
 ghost use Rattle.wt_connection.specs.Openings.{IsOpening, opening_in};
 ghost use Rattle.wt_connection.specs.Standing.{IfGiven, IsEstablished};
-ghost use Rattle.wt_driver.specs.Tie.{Follows};
+ghost use Rattle.wt_driver_state.specs.Tie.{Follows};
 ghost use Rattle.wt_halves.specs.Replies.{IsOneStream, closed_in, closed_reply, sent_in, sent_reply};
 ghost use Rattle.wt_laws.specs.Reachable.{IsReachable};
 ghost use Rattle.wt_calls.specs.Given.{poll_reply};

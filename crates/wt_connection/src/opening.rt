@@ -2,7 +2,7 @@
 ghost use Rattle.std.specs.Prelude.{◌≡◌, IfOk, OnOk, false, true, ℕ};
 ghost use Rattle.wt_connection.specs.Openings.{IsOpening, ready_in};
 ghost use Rattle.wt_connection.specs.Standing.{IfGiven, IfPending};
-ghost use Rattle.wt_driver.specs.Tie.{Follows};
+ghost use Rattle.wt_driver_state.specs.Tie.{Follows};
 ghost use Rattle.wt_halves.specs.Replies.{IsOneStream, ready_reply};
 ghost use Rattle.wt_laws.specs.Reachable.{IsReachable};
 ghost use Rattle.wt_spec.specs.Answers.{call_effect};

@@ -4,10 +4,10 @@ use Rattle.wt_seam.proofs.Refining.{refined_fits}
 use Rattle.wt_seam.specs.Step.{fits_now}
 use Rattle.wt_seam_spec.specs.Arrivals.{fits}
 use Rattle.wt_spec.specs.Answers.{may_call}
-use Rattle.wt_driver.specs.DriverValue.{DriverValue}
+use Rattle.wt_driver_state.specs.DriverValue.{DriverValue}
 use Rattle.wt_call_answers.proofs.Admitted.{may_call_kept}
 use Rattle.wt_call_answers.specs.Keeping.{Keeps, SessionValue, may_call_of}
-use Rattle.wt_driver.specs.Tie.{Follows, untaken_since}
+use Rattle.wt_driver_state.specs.Tie.{Follows, untaken_since}
 use Rattle.wt_turn.specs.Log.{Log}
 use Rattle.wt_turn.specs.declared.call.Call.{Call}
 use Rattle.wt_turn.specs.declared.turn.Turn.{Turn}

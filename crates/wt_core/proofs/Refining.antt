@@ -8,8 +8,8 @@ use Rattle.wt_seam.specs.Step.{fits_now}
 use Rattle.wt_seam_spec.specs.Arrivals.{fits}
 use Rattle.wt_spec.specs.Answers.{actions_since, answer_to, is_lawful, log_after, turn_effect}
 use Rattle.wt_spec.specs.Turns.{is_call}
-use Rattle.wt_driver.specs.DriverValue.{DriverValue}
-use Rattle.wt_driver.specs.Tie.{Follows}
+use Rattle.wt_driver_state.specs.DriverValue.{DriverValue}
+use Rattle.wt_driver_state.specs.Tie.{Follows}
 use Rattle.wt_call_answers.specs.Keeping.{Keeps}
 use Rattle.wt_turn.specs.Log.{Log, actions_of}
 use Rattle.wt_turn.specs.declared.action.Action.{Action}

@@ -2,9 +2,9 @@
 use Rattle.std.specs.Prelude.{◌||◌, ◌≡◌, Bool, false, length}
 use Rattle.wt_laws.specs.Reachable.{IsReachable}
 use Rattle.wt_seam.specs.Step.{fits_now}
-use Rattle.wt_driver.specs.DriverValue.{DriverValue}
+use Rattle.wt_driver_state.specs.DriverValue.{DriverValue}
 use Rattle.wt_call_answers.specs.Keeping.{Keeps, SessionValue, may_call_of}
-use Rattle.wt_driver.specs.Tie.{Follows}
+use Rattle.wt_driver_state.specs.Tie.{Follows}
 use Rattle.wt_turn.specs.Log.{Log, actions_of}
 use Rattle.wt_turn.specs.declared.turn.Turn.{Turn}
 use Rattle.wt_turn.specs.declared.turn.Turn.TheVariants as turns

@@ -5,7 +5,7 @@ ghost use Rattle.wt_seam.specs.Step.{fits_now};
 ghost use Rattle.wt_seam_spec.specs.Arrivals.{fits};
 ghost use Rattle.wt_spec.specs.Answers.{answer_to, call_effect, is_lawful, log_after, may_call, turn_effect};
 ghost use Rattle.wt_call_answers.specs.Keeping.{Keeps};
-ghost use Rattle.wt_driver.specs.Tie.{Follows};
+ghost use Rattle.wt_driver_state.specs.Tie.{Follows};
 ghost use Rattle.wt_turn.specs.Log.{Log, actions_of};
 
 use std::alloc::Global;

@@ -1,14 +1,12 @@
 //! The driver of one connection.
 ghost use Rattle.std.specs.Prelude.{◌≡◌, ◌^◌, ◌-◌, [], false, min, None, true};
 ghost use Rattle.wt_inbox.specs.State.{nothing_read, readers_now};
-ghost use Rattle.wt_driver.specs.DriverValue.{first_state};
-ghost use Rattle.wt_driver.specs.Tie.{Follows};
+ghost use Rattle.wt_driver_state.specs.DriverValue.{first_state};
+ghost use Rattle.wt_driver_state.specs.Tie.{Follows};
 
 mod accepts;
-mod acting;
 mod arrivals;
 mod calls;
-mod flush;
 mod moment;
 mod sessions;
 
@@ -69,7 +67,7 @@ impl Drop for Driver {
 }
 
 impl Model for Driver {
-    ghost use Rattle.wt_driver.specs.DriverValue.{DriverValue};
+    ghost use Rattle.wt_driver_state.specs.DriverValue.{DriverValue};
 
     ghost Value = { DriverValue };
 

@@ -6,8 +6,8 @@ use Rattle.std.proofs.Math.Seq.{take-append_seam, take-length}
 use Rattle.std.proofs.lemmas.Bool.{ltb-true}
 use Rattle.std.proofs.lemmas.List.{length-take-le}
 use Rattle.wt_halves.proofs.Told.{facts_told, leads, tells, told}
-use Rattle.wt_driver.specs.DriverValue.{DriverValue}
-use Rattle.wt_driver.specs.Tie.{Follows}
+use Rattle.wt_driver_state.specs.DriverValue.{DriverValue}
+use Rattle.wt_driver_state.specs.Tie.{Follows}
 use Rattle.wt_laws.specs.Reachable.{IsReachable}
 use Rattle.wt_plan.proofs.PlansSame as plans
 use Rattle.wt_plan.specs.FactsNow.{DriverAnswers, facts_now}

@@ -1,8 +1,8 @@
 -- A driver that follows a log of lawful turns tells what calls ask, and a plan that is the call's leads to what the call does.
 use Rattle.std.specs.Prelude.{◌≡◌, Err, Ok, OnOk, Result, true, ℕ}
 use Rattle.std.proofs.Common.{◌∙◌, ap, refl, subst, sym}
-use Rattle.wt_driver.specs.DriverValue.{DriverValue}
-use Rattle.wt_driver.specs.Tie.{Follows, untaken_since}
+use Rattle.wt_driver_state.specs.DriverValue.{DriverValue}
+use Rattle.wt_driver_state.specs.Tie.{Follows, untaken_since}
 use Rattle.wt_laws.specs.Reachable.{IsReachable}
 use Rattle.wt_plan.proofs.FactsSame.{facts-same}
 use Rattle.wt_plan.specs.DriverAnswers.{answers_now}

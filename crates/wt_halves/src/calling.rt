@@ -1,7 +1,7 @@
 //! What a call does over a driver: its plan is performed, or its record made.
 ghost use Rattle.std.specs.Prelude.{◌≡◌, [], IfOk, OnOk, true, ℕ};
-ghost use Rattle.wt_driver.specs.Calling.{leaves_at_rest};
-ghost use Rattle.wt_driver.specs.Tie.{Follows};
+ghost use Rattle.wt_driver_state.specs.Calling.{leaves_at_rest};
+ghost use Rattle.wt_driver_state.specs.Tie.{Follows};
 ghost use Rattle.wt_laws.specs.Reachable.{IsReachable};
 ghost use Rattle.wt_plan.specs.Planned.{planned};
 ghost use Rattle.wt_session_spec.specs.CallFacts.{facts_of};

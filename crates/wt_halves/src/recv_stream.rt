@@ -1,7 +1,7 @@
 //! The receiving half of a stream (RFC 9000, sections 2.4 and 3.2).
 ghost use Rattle.std.specs.Prelude.{◌≡◌, Ok, OnOk, Some, drop, length, true, ℕ};
-ghost use Rattle.wt_driver.specs.Calling.{leaves_at_rest};
-ghost use Rattle.wt_driver.specs.Tie.{Follows};
+ghost use Rattle.wt_driver_state.specs.Calling.{leaves_at_rest};
+ghost use Rattle.wt_driver_state.specs.Tie.{Follows};
 ghost use Rattle.wt_halves.specs.Replies.{exact_reply, exactly_read, read_into, records_exact};
 ghost use Rattle.wt_laws.specs.Reachable.{IsReachable};
 ghost use Rattle.wt_session_spec.specs.HalfPlans.{read_record, read_reply};

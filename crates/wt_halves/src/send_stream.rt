@@ -1,7 +1,7 @@
 //! The sending half of a stream (RFC 9000, sections 2.4 and 3.1).
 ghost use Rattle.std.specs.Prelude.{◌≡◌, Err, IfOk, Ok, OnOk, if◌then◌else◌, true, ℕ};
-ghost use Rattle.wt_driver.specs.Calling.{leaves_at_rest};
-ghost use Rattle.wt_driver.specs.Tie.{Follows};
+ghost use Rattle.wt_driver_state.specs.Calling.{leaves_at_rest};
+ghost use Rattle.wt_driver_state.specs.Tie.{Follows};
 ghost use Rattle.wt_halves.specs.Replies.{reset_reply};
 ghost use Rattle.wt_laws.specs.Reachable.{IsReachable};
 ghost use Rattle.wt_session_spec.specs.HalfPlans.{finish_reply, priority_reply, stopped_by, write_all_reply, write_reply};

@@ -3,8 +3,6 @@ pub mod Halves
 pub mod Reading
 pub mod Responses
 pub mod Requests
-pub mod Uses
-pub mod Noted
 pub mod LawfulLogs
 pub mod FactsSame
 pub mod PlansSame

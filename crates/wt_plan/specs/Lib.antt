@@ -1,7 +1,6 @@
 pub mod Planned
 pub mod FactsNow
 pub mod Heads
-pub mod Table
 pub mod Tells
 pub mod DriverAnswers
 pub mod Inboxes

@@ -10,5 +10,4 @@ pub mod handshake_plans;
 pub mod heads;
 pub mod plan;
 pub mod read_plans;
-pub mod session_table;
 pub mod tells;

@@ -3,10 +3,10 @@ use Rattle.std.specs.Prelude.{[], ◌&&◌, ◌∷◌, ◌≡◌, Bool, Err, IfO
 use Rattle.std.proofs.Common.{◌∙◌, ap, refl, subst, sym}
 use Rattle.std.proofs.lemmas.Bool.{and_parts}
 use Rattle.wt_session.specs.Incoming.{IsUnanswered, Request, StandsWith, incoming_reply, told_of}
-use Rattle.wt_driver.specs.DriverValue.{DriverValue}
+use Rattle.wt_driver_state.specs.DriverValue.{DriverValue}
 use Rattle.wt_driver_spec.specs.DriverState.{requests_now}
 use Rattle.wt_dispatch.specs.Requests.{first_request, request_in}
-use Rattle.wt_driver.specs.Tie.{Follows, untaken_since}
+use Rattle.wt_driver_state.specs.Tie.{Follows, untaken_since}
 use Rattle.wt_driver_spec.specs.Asking.{MayBeCalled}
 use Rattle.wt_laws.specs.Reachable.{IsReachable}
 use Rattle.wt_plan.specs.DriverAnswers.{error_now}

@@ -2,10 +2,10 @@
 use Rattle.std.specs.Prelude.{[], ◌%◌, ◌&&◌, ◌==◌, ◌||◌, ◌∷◌, ◌≡◌, Bool, List, false, not, true, ℕ}
 use Rattle.std.proofs.Common.{◌∙◌, ap, refl, sym}
 use Rattle.std.specs.List.{list_any}
-use Rattle.wt_driver.proofs.Flushed.{receive-later}
-use Rattle.wt_driver.specs.DriverValue.{DriverValue}
-use Rattle.wt_driver.specs.Stages.{is_let_go, is_there}
-use Rattle.wt_driver.specs.Tie.{Follows, untaken_since}
+use Rattle.wt_flush.proofs.Flushed.{receive-later}
+use Rattle.wt_driver_state.specs.DriverValue.{DriverValue}
+use Rattle.wt_driver_state.specs.Stages.{is_let_go, is_there}
+use Rattle.wt_driver_state.specs.Tie.{Follows, untaken_since}
 use Rattle.wt_driver_spec.specs.Moment.{is_local}
 use Rattle.wt_driver_spec.specs.Uses.{use_of}
 use Rattle.wt_laws.proofs.HeaderLaws.{Both, Heads, first-heads, keeps-both}

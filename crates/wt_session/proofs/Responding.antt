@@ -4,8 +4,8 @@ use Rattle.std.proofs.Common.{◌∙◌, ap, refl, subst, sym}
 use Rattle.wt_session.specs.Incoming.{IsUnanswered, Request, unbegun}
 use Rattle.wt_session.specs.Responding.{IsCallOf, IsPollOf, IsResponse, IsResponseReply, Response, StandsWith, response_state, waiting_record}
 use Rattle.wt_connecting.proofs.Over.{establishes}
-use Rattle.wt_driver.specs.DriverValue.{DriverValue}
-use Rattle.wt_driver.specs.Tie.{Follows, untaken_since}
+use Rattle.wt_driver_state.specs.DriverValue.{DriverValue}
+use Rattle.wt_driver_state.specs.Tie.{Follows, untaken_since}
 use Rattle.wt_laws.proofs.SessionLaws.{has_request}
 use Rattle.wt_laws.specs.Reachable.{IsReachable}
 use Rattle.wt_plan.proofs.FactsSame.{facts-same}

@@ -5,7 +5,7 @@ ghost use Rattle.wt_session.specs.Incoming.{IsUnanswered, StandsWith, incoming_r
 ghost use Rattle.wt_session.specs.Responding.{IsPollOf, IsResponse};
 ghost use Rattle.wt_driver_spec.specs.DriverState.{requests_now};
 ghost use Rattle.wt_dispatch.specs.Requests.{first_request};
-ghost use Rattle.wt_driver.specs.Tie.{Follows};
+ghost use Rattle.wt_driver_state.specs.Tie.{Follows};
 ghost use Rattle.wt_driver_spec.specs.Asking.{MayBeCalled};
 ghost use Rattle.wt_laws.specs.Reachable.{IsReachable};
 ghost use Rattle.wt_message.specs.FixedBytes.{response_bytes};

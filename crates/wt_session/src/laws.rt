@@ -1,8 +1,8 @@
 //! What stands for a log stands for the logs behind it, so that calls can come one after another: functions
 //! with empty bodies, whose contracts are the laws.
 ghost use Rattle.std.specs.Prelude.{◌≡◌, [], Bool, false, true, ℕ};
-ghost use Rattle.wt_driver.specs.DriverValue.{DriverValue};
-ghost use Rattle.wt_driver.specs.Tie.{Follows};
+ghost use Rattle.wt_driver_state.specs.DriverValue.{DriverValue};
+ghost use Rattle.wt_driver_state.specs.Tie.{Follows};
 ghost use Rattle.wt_driver_spec.specs.Uses.{use_of};
 ghost use Rattle.wt_laws.specs.Causes.{polls_opening};
 ghost use Rattle.wt_laws.specs.Reachable.{IsReachable};

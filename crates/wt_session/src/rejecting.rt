@@ -1,7 +1,7 @@
 //! The rejection of a request for a session (RFC 9220, section 3).
 ghost use Rattle.std.specs.Prelude.{◌≡◌, IfOk, OnOk, false, true, ℕ};
 ghost use Rattle.wt_session.specs.Responding.{IsPollOf, IsRejection, IsResponse, StandsWith, rejecting_reply};
-ghost use Rattle.wt_driver.specs.Tie.{Follows};
+ghost use Rattle.wt_driver_state.specs.Tie.{Follows};
 ghost use Rattle.wt_laws.specs.Reachable.{IsReachable};
 ghost use Rattle.wt_spec.specs.Answers.{call_effect, may_call};
 ghost use Rattle.wt_turn.specs.Log.{Log};

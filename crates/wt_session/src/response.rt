@@ -1,7 +1,7 @@
 //! The response to a request, as it goes on.
 ghost use Rattle.std.specs.Prelude.{◌≡◌, Bool, IfOk, OnOk, true, ℕ};
 ghost use Rattle.wt_session.specs.Responding.{IsPollOf, IsResponse, IsResponseReply, StandsWith, waiting_record};
-ghost use Rattle.wt_driver.specs.Tie.{Follows};
+ghost use Rattle.wt_driver_state.specs.Tie.{Follows};
 ghost use Rattle.wt_laws.specs.Reachable.{IsReachable};
 ghost use Rattle.wt_plan.specs.Planned.{planned};
 ghost use Rattle.wt_session_spec.specs.CallFacts.{facts_of};

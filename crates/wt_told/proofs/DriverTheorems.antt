@@ -1,12 +1,12 @@
 -- What a driver that refines a log of lawful turns tells of it, as the functions' contracts say it.
 use Rattle.std.specs.Prelude.{[], ◌∷◌, ◌≡◌, Bool, List, None, Option, Some, if◌then◌else◌, true, ℕ}
 use Rattle.std.proofs.Common.{◌∙◌, ap, refl, subst, sym}
-use Rattle.wt_driver.proofs.LetGo.{let-go-gone, unwanted-gone}
-use Rattle.wt_driver.proofs.StageAnswers.{read-staged}
-use Rattle.wt_driver.specs.DriverValue.{DriverValue}
+use Rattle.wt_driver_state.proofs.LetGo.{let-go-gone, unwanted-gone}
+use Rattle.wt_driver_state.proofs.StageAnswers.{read-staged}
+use Rattle.wt_driver_state.specs.DriverValue.{DriverValue}
 use Rattle.wt_dispatch.specs.Requests.{first_request, request_in}
-use Rattle.wt_driver.specs.Stages.{is_let_go, is_unwanted}
-use Rattle.wt_driver.specs.Tie.{Refines}
+use Rattle.wt_driver_state.specs.Stages.{is_let_go, is_unwanted}
+use Rattle.wt_driver_state.specs.Tie.{Refines}
 use Rattle.wt_driver_spec.specs.DriverState.{DriverState, requests_now, state_of}
 use Rattle.wt_driver_spec.specs.Uses.{classified_of}
 use Rattle.wt_inbox.specs.Stage.{GivenUp, IsAt, Stage}

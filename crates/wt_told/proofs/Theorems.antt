@@ -5,7 +5,7 @@ use Rattle.wt_driver_spec.specs.Due.{accepted, received}
 use Rattle.wt_laws.proofs.Steps.{calls-logged}
 use Rattle.wt_laws.specs.Reachable.{AfterTurn, IsReachable}
 use Rattle.wt_spec.specs.Turns.{is_call}
-use Rattle.wt_plan.specs.Table.{KeepsCalls, TableValue}
+use Rattle.wt_table.specs.Table.{KeepsCalls, TableValue}
 use Rattle.wt_plan.specs.Tells.{KeepsRequestEnd}
 use Rattle.wt_proto.specs.declared.verdict.Verdict.TheVariants as verdicts
 use Rattle.wt_session_spec.specs.CallFacts.{facts_of}

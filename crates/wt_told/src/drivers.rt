@@ -1,13 +1,13 @@
 //! What a driver that refines a log of lawful turns tells of it: functions with empty bodies, whose
 //! contracts are the laws.
 ghost use Rattle.std.specs.Prelude.{◌≡◌, [], Bool, List, Option, Some, false, if◌then◌else◌, true, ℕ};
-ghost use Rattle.wt_driver.specs.DriverValue.{DriverValue};
-ghost use Rattle.wt_driver.specs.Stages.{is_let_go, is_unwanted};
+ghost use Rattle.wt_driver_state.specs.DriverValue.{DriverValue};
+ghost use Rattle.wt_driver_state.specs.Stages.{is_let_go, is_unwanted};
 ghost use Rattle.wt_driver_spec.specs.DriverState.{requests_now};
 ghost use Rattle.wt_driver_spec.specs.Moment.{is_local};
 ghost use Rattle.wt_driver_spec.specs.Uses.{classified_of, use_of};
 ghost use Rattle.wt_dispatch.specs.Requests.{first_request};
-ghost use Rattle.wt_driver.specs.Tie.{Refines};
+ghost use Rattle.wt_driver_state.specs.Tie.{Refines};
 ghost use Rattle.wt_laws.specs.Reachable.{IsReachable};
 ghost use Rattle.wt_plan.specs.DriverAnswers.{answers_now, error_now};
 ghost use Rattle.wt_plan.specs.Tells.{KeepsRequestEnd, TellsFacts, driver_facts};

@@ -4,7 +4,7 @@ ghost use Rattle.std.specs.Prelude.{◌∷◌, ◌≡◌, List, None, Some, fals
 ghost use Rattle.wt_driver_spec.specs.Due.{accepted, received};
 ghost use Rattle.wt_laws.specs.Reachable.{IsReachable};
 ghost use Rattle.wt_spec.specs.Turns.{is_call};
-ghost use Rattle.wt_plan.specs.Table.{KeepsCalls, TableValue};
+ghost use Rattle.wt_table.specs.Table.{KeepsCalls, TableValue};
 ghost use Rattle.wt_plan.specs.Tells.{KeepsRequestEnd};
 ghost use Rattle.wt_proto.specs.declared.verdict.Verdict.TheVariants as verdicts;
 ghost use Rattle.wt_session_spec.specs.CallFacts.{facts_of};

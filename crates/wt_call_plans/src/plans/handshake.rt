@@ -23,7 +23,7 @@ use wt_driver::driver::Driver;
 use wt_plan::ends::transport_error;
 use wt_plan::handshake_plans;
 use wt_plan::plan::Plan;
-use wt_plan::session_table::{Handshake, SessionTable};
+use wt_table::session_table::{Handshake, SessionTable};
 use wt_proto::response_walk::ResponseWalk;
 use wt_seam::Transport;
 use wt_turn::connection_error::ConnectionError;

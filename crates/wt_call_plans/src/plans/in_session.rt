@@ -13,7 +13,7 @@ use std::alloc::Global;
 use wt_plan::connection_plans;
 use wt_plan::given_halves::is_opening;
 use wt_plan::plan::Plan;
-use wt_plan::session_table::SessionTable;
+use wt_table::session_table::SessionTable;
 use wt_seam::Transport;
 use wt_turn::piece::Piece;
 use wt_turn::reply::Reply;

@@ -9,7 +9,7 @@ ghost use Rattle.wt_turn.specs.declared.call.Call.TheVariants as calls;
 use std::alloc::Global;
 use wt_plan::given_halves::has_receiving;
 use wt_plan::plan::Plan;
-use wt_plan::session_table::SessionTable;
+use wt_table::session_table::SessionTable;
 use wt_plan::{half_plans, read_plans};
 use wt_seam::Transport;
 use wt_turn::reply::Reply;

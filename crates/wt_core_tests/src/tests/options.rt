@@ -1,7 +1,7 @@
 //! Options of a connect, built and given.
 use std::alloc::Global;
 use std::process::Abort;
-use wt_call_plans::connect_options::{ConnectOptions, ConnectRequestBuilder, IntoConnectOptions};
+use wt_connect::connect_options::{ConnectOptions, ConnectRequestBuilder, IntoConnectOptions};
 
 fn begun(rt: &impl Abort, alloc: Global, url: &str) -> ConnectRequestBuilder {
     ConnectOptions::builder(alloc, url).expect(rt, "no memory")

@@ -1,12 +1,12 @@
 //! Calls that give the session's next stream or datagram, and pass those of others.
 ghost use Rattle.std.specs.Prelude.{◌≡◌, ◌∷◌, IfOk, List, None, OnOk, Some, suc, true, ℕ};
-ghost use Rattle.wt_driver.specs.DriverValue.{IsAmong, with_state, without_first};
+ghost use Rattle.wt_driver_state.specs.DriverValue.{IsAmong, with_state, without_first};
 ghost use Rattle.wt_dispatch.specs.Found.{due_as};
-ghost use Rattle.wt_driver.specs.Given.{ended_or_pending, given_by, is_own, next_datagram_now, payload_by, payload_in};
-ghost use Rattle.wt_driver.specs.Moving.{front_of};
-ghost use Rattle.wt_driver.specs.Results.{result_of};
+ghost use Rattle.wt_driver_state.specs.Given.{ended_or_pending, given_by, is_own, next_datagram_now, payload_by, payload_in};
+ghost use Rattle.wt_driver_state.specs.Moving.{front_of};
+ghost use Rattle.wt_driver_state.specs.Results.{result_of};
 ghost use Rattle.wt_scan.specs.Scanning.{unless_given_up};
-ghost use Rattle.wt_driver.specs.Tie.{Follows};
+ghost use Rattle.wt_driver_state.specs.Tie.{Follows};
 ghost use Rattle.wt_driver_spec.specs.Asking.{MayBeCalled};
 ghost use Rattle.wt_driver_spec.specs.Due.{accepted, due_stream, log_streams, passing, received, state_next_due, take_due};
 ghost use Rattle.wt_driver_spec.specs.Step.{release, without_slot};

@@ -1,8 +1,8 @@
 //! Turns of the transport.
 ghost use Rattle.std.specs.Prelude.{◌≡◌, ◌*◌, ◌+◌, ◌++◌, ◌∷◌, [], IfOk, IsTrue, List, OnOk, Some, false, true, ℕ};
-ghost use Rattle.wt_driver.specs.Arriving.{EventTaken, arrived};
+ghost use Rattle.wt_driver_state.specs.Arriving.{EventTaken, arrived};
 ghost use Rattle.wt_spec.specs.Turns.{event_of, is_call};
-ghost use Rattle.wt_driver.specs.Tie.{Follows};
+ghost use Rattle.wt_driver_state.specs.Tie.{Follows};
 ghost use Rattle.wt_inbox.specs.Stage.{Refines, Stage};
 ghost use Rattle.wt_seam_spec.specs.Arrivals.{fits, log_turn};
 ghost use Rattle.wt_spec.specs.Answers.{log_after, receive};
@@ -15,7 +15,7 @@ ghost use Rattle.wt_seam_spec.specs.Streams.{peer_bi, peer_uni};
 ghost use Rattle.wt_seam.specs.Step.{fits_now};
 ghost use Rattle.wt_inbox.specs.State.{peer_bis_now, peer_unis_now};
 ghost use Rattle.wt_driver_spec.specs.Step.{new_slot};
-ghost use Rattle.wt_driver.specs.DriverValue.{with_state};
+ghost use Rattle.wt_driver_state.specs.DriverValue.{with_state};
 
 use super::Driver;
 use wt_dispatch::slot::{Slot, peer_bi, peer_uni};

@@ -1,13 +1,13 @@
 //! The work of a moment.
 ghost use Rattle.std.specs.Prelude.{◌≡◌, ◌↔◌, None, IsTrue, ◌==◌, ◌&&◌, List, ℕ, Some, IfOk, OnOk, drop, false, true, not};
-ghost use Rattle.wt_driver.specs.Calling.{leaves_at_rest};
-ghost use Rattle.wt_driver.specs.DriverValue.{with_state};
-ghost use Rattle.wt_driver.specs.Moving.{CanGiveUp, HasDatagram, MayCheck, MayScan, Moves, WalkFrom, front_of};
+ghost use Rattle.wt_driver_state.specs.Calling.{leaves_at_rest};
+ghost use Rattle.wt_driver_state.specs.DriverValue.{with_state};
+ghost use Rattle.wt_driver_state.specs.Moving.{CanGiveUp, HasDatagram, MayCheck, MayScan, Moves, WalkFrom, front_of};
 ghost use Rattle.std.specs.Option.{option_or};
-ghost use Rattle.wt_driver.specs.PeerSettings.{settings_checked, settings_noted, settings_read, settings_scanned};
+ghost use Rattle.wt_driver_state.specs.PeerSettings.{settings_checked, settings_noted, settings_read, settings_scanned};
 ghost use Rattle.wt_scan.specs.Scanning.{AllAwait, SlotsReceive};
-ghost use Rattle.wt_driver.specs.Stages.{bi_stages, check_stages, control_stages, datagram_checked, scanned_stages, session_stage, session_stages, uni_stages, unless_ended_stage};
-ghost use Rattle.wt_driver.specs.Tie.{Follows, TakenIn};
+ghost use Rattle.wt_driver_state.specs.Stages.{bi_stages, check_stages, control_stages, datagram_checked, scanned_stages, session_stage, session_stages, uni_stages, unless_ended_stage};
+ghost use Rattle.wt_driver_state.specs.Tie.{Follows, TakenIn};
 ghost use Rattle.wt_dispatch.specs.declared.slot.Half.TheVariants as halves;
 ghost use Rattle.wt_driver_spec.specs.Bounds.{AreDistinct, IsBounded};
 ghost use Rattle.wt_driver_spec.specs.Step.{begin_scan, run_checks, scan_bi_slots, scan_state, scan_uni_slots};
@@ -16,7 +16,8 @@ ghost use Rattle.wt_seam_spec.specs.Reports.{end_of, is_running};
 ghost use Rattle.wt_seam_spec.specs.Streams.{contents};
 ghost use Rattle.wt_proto.specs.ControlWalk.{control_walk_of};
 ghost use Rattle.wt_proto.specs.SessionWalk.{is_over, session_walk_of};
-ghost use Rattle.wt_spec.specs.Driver.{log_and_flush, transport_view};
+ghost use Rattle.wt_flush.specs.Flushing.{Flushes, MayFlush};
+ghost use Rattle.wt_spec.specs.Driver.{actions_after, control_sent, log_and_flush, transport_view};
 ghost use Rattle.wt_spec.specs.Scan.{check_control, check_qpack, check_session, control_read, critical_if, dequeued_datagram, session_ends, session_read, unless_ended};
 ghost use Rattle.wt_turn.specs.Log.{CallRecord, Called, Entry, Log, events_of, is_open};
 ghost use Rattle.wt_turn.specs.declared.action.Action.{Action};
@@ -24,6 +25,7 @@ ghost use Rattle.wt_wire.specs.declared.side.Side.{Side};
 
 use super::Driver;
 use wt_dispatch::slot::Half;
+use wt_flush::flush::flush;
 use wt_proto::control_walk::ControlWalk;
 use wt_proto::session_walk::SessionWalk;
 use wt_scan::scan::scan;
@@ -394,5 +396,28 @@ impl Driver {
         if self.inbox.is_open() {
             self.begin_scan();
         }
+    }
+}
+
+impl Driver {
+    /// What goes out after a moment, in its order.
+    pub(super) fn flush(&mut self) -> Result<(), OutOfMemory>
+        ensures log { (side : Side) (log : Log) (stage : ℕ → Stage) (untaken : List Action) → Refines side self.old.inbox log stage untaken → is_open log ≡ true
+            → control_sent side log ≡ self.old.state.control_sent → MayFlush side log self.old.state.session self.old.state.progress
+            → OnOk result (Flushes side log stage untaken (actions_after (transport_view side log) (control_sent side log) self.old.state.session self.old.state.progress) self.new.inbox self.new.state.control_sent) }
+        ensures rest { OnOk result (self.new.state ≡ record self.old.state { control_sent = self.new.state.control_sent; is_open = self.new.state.is_open }) }
+        ensures queue { OnOk result (self.new.queue ≡ self.old.queue) }
+        ensures settings { OnOk result (self.new.settings ≡ self.old.settings) }
+        ensures open { OnOk result (self.new.state.is_open ≡ self.new.inbox.transport.is_open) }
+        ensures has_given { OnOk result (self.new.has_given_settings ≡ self.old.has_given_settings) }
+    {
+        flush(
+            &mut self.inbox,
+            self.alloc,
+            &mut self.control_opened,
+            &mut self.control_sent,
+            self.session,
+            &self.progress,
+        )
     }
 }

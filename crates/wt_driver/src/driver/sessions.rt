@@ -2,10 +2,10 @@
 //! that is registered.
 ghost use Rattle.std.specs.Prelude.{◌≡◌, IfOk, List, None, OnOk, false, is_some, true, ℕ};
 ghost use Rattle.wt_dispatch.specs.Requests.{first_request};
-ghost use Rattle.wt_driver.specs.Given.{ended_or_pending, given_by};
-ghost use Rattle.wt_driver.specs.Results.{result_of};
-ghost use Rattle.wt_driver.specs.Sessions.{first_given, may_register, opened_answer, queued, registered, registered_answer};
-ghost use Rattle.wt_driver.specs.Tie.{Follows};
+ghost use Rattle.wt_driver_state.specs.Given.{ended_or_pending, given_by};
+ghost use Rattle.wt_driver_state.specs.Results.{result_of};
+ghost use Rattle.wt_driver_state.specs.Sessions.{first_given, may_register, opened_answer, queued, registered, registered_answer};
+ghost use Rattle.wt_driver_state.specs.Tie.{Follows};
 ghost use Rattle.wt_driver_spec.specs.Asking.{MayBeCalled};
 ghost use Rattle.wt_inbox.specs.Stage.{Refines, Stage};
 ghost use Rattle.wt_seam_spec.specs.Joined.{newest_first};

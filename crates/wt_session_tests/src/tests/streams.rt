@@ -1,7 +1,7 @@
 //! Calls on streams one after another, by the contracts of the public types alone: what stood before a
 //! call stands for the next one.
 ghost use Rattle.std.specs.Prelude.{◌≡◌, IfOk, IfSome, false, length, true, ℕ};
-ghost use Rattle.wt_driver.specs.Tie.{Follows};
+ghost use Rattle.wt_driver_state.specs.Tie.{Follows};
 ghost use Rattle.wt_laws.specs.Reachable.{IsReachable};
 ghost use Rattle.wt_connection.specs.Openings.{IsOpening};
 ghost use Rattle.wt_session_spec.specs.HalfPlans.{read_reply, write_reply};

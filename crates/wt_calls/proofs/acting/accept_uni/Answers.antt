@@ -2,7 +2,7 @@ use Rattle.std.proofs.Common.{◌∙◌, subst, sym}
 use Rattle.wt_calls.proofs.Gives.{accept_log, accept_told}
 use Rattle.wt_calls.proofs.acting.accept_uni.Goals as goal
 use Rattle.wt_seam_spec.specs.Streams.{peer_uni}
-use Rattle.wt_driver.specs.Tie.{Follows}
+use Rattle.wt_driver_state.specs.Tie.{Follows}
 use Rattle.wt_driver_spec.specs.Due.{accepted}
 use Rattle.wt_calls.specs.Given.{poll_reply}
 use Rattle.wt_reply.specs.declared.reply.Reply.TheVariants as replies

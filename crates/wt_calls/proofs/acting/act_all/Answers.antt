@@ -2,7 +2,7 @@ use Rattle.std.proofs.Common.{◌++◌, ◌∙◌, ◌∷◌, ◌≡◌, ap, sub
 use Rattle.wt_calls.proofs.Gives.{all_out, may_next, one_behind, one_more}
 use Rattle.wt_calls.proofs.acting.act_all.Goals as goal
 use Rattle.wt_session_acts.specs.Performing.{MaySendAll}
-use Rattle.wt_driver.specs.Tie.{Follows}
+use Rattle.wt_driver_state.specs.Tie.{Follows}
 use Rattle.wt_turn.specs.Log.{with_actions}
 
 pub loop-action-preserved : goal.loop-action-preserved

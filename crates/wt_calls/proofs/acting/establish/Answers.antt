@@ -1,5 +1,5 @@
 use Rattle.std.proofs.Common.{[], OnOk, subst, sym, ℕ}
-use Rattle.wt_driver.specs.Tie.{Follows}
+use Rattle.wt_driver_state.specs.Tie.{Follows}
 use Rattle.wt_driver_spec.specs.Asking.{MayBeCalled}
 use Rattle.wt_spec.specs.Effect.{log_call}
 use Rattle.wt_calls.proofs.acting.establish.Goals as goal

@@ -1,5 +1,5 @@
 use Rattle.std.proofs.Common.{◌∙◌, subst, sym}
-use Rattle.wt_driver.specs.Tie.{Follows}
+use Rattle.wt_driver_state.specs.Tie.{Follows}
 use Rattle.wt_driver_spec.specs.Due.{received}
 use Rattle.wt_calls.proofs.Gives.{receive_log, receive_told}
 use Rattle.wt_calls.proofs.acting.receive.Goals as goal

@@ -1,7 +1,7 @@
 use Rattle.std.proofs.Common.{◌≡◌, IfOk, OnOk, subst}
 use Rattle.wt_halves.proofs.Told.{leads, may_perform}
 use Rattle.wt_halves.proofs.calling.perform.Goals as goal
-use Rattle.wt_driver.specs.Tie.{Follows}
+use Rattle.wt_driver_state.specs.Tie.{Follows}
 use Rattle.wt_plan.specs.Planned.{planned}
 use Rattle.wt_spec.specs.Effect.{Effect}
 

@@ -1,7 +1,7 @@
 use Rattle.std.proofs.Common.{[], subst}
 use Rattle.wt_halves.proofs.Told.{leads, may_perform}
 use Rattle.wt_halves.proofs.calling.record.Goals as goal
-use Rattle.wt_driver.specs.Tie.{Follows}
+use Rattle.wt_driver_state.specs.Tie.{Follows}
 use Rattle.wt_session_spec.specs.Plan.{Step}
 use Rattle.wt_spec.specs.Effect.{Effect}
 use Rattle.wt_turn.specs.Records.{record_of}

@@ -1,6 +1,6 @@
 use Rattle.std.proofs.Common.{[], subst, sym, ℕ}
 use Rattle.wt_session.proofs.incoming.give.Goals as goal
-use Rattle.wt_driver.specs.Tie.{Follows}
+use Rattle.wt_driver_state.specs.Tie.{Follows}
 use Rattle.wt_driver_spec.specs.Asking.{MayBeCalled}
 use Rattle.wt_spec.specs.Effect.{log_call}
 use Rattle.wt_turn.specs.Log.{RequestDelivered}

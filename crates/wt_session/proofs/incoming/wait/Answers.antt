@@ -1,7 +1,7 @@
 use Rattle.std.proofs.Common.{◌∙◌, OnOk, ap, subst, sym}
 use Rattle.wt_session.proofs.Delivering.{failing_reply, failing_stands, undelivered_open, undelivered_over, waiting_reply, waiting_stands}
 use Rattle.wt_session.proofs.incoming.wait.Goals as goal
-use Rattle.wt_driver.specs.Tie.{Follows}
+use Rattle.wt_driver_state.specs.Tie.{Follows}
 use Rattle.wt_inbox.specs.State.{InboxState}
 use Rattle.wt_plan.specs.DriverAnswers.{error_now}
 use Rattle.wt_seam.specs.State.{TransportState}

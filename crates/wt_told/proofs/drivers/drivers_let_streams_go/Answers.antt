@@ -1,4 +1,4 @@
-use Rattle.wt_driver.proofs.LetGo.{peers-let-go}
+use Rattle.wt_driver_state.proofs.LetGo.{peers-let-go}
 use Rattle.wt_told.proofs.DriverTheorems.{let_go_theorem, unwanted_theorem}
 use Rattle.wt_told.proofs.drivers.drivers_let_streams_go.Goals as goal
 

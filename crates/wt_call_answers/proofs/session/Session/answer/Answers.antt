@@ -1,7 +1,7 @@
 use Rattle.std.proofs.Common.{◌∙◌, ◌≡◌, ap, subst, sym}
-use Rattle.wt_driver.specs.Tie.{Follows}
+use Rattle.wt_driver_state.specs.Tie.{Follows}
 use Rattle.wt_plan.specs.Planned.{planned}
-use Rattle.wt_plan.specs.Table.{KeepsCalls}
+use Rattle.wt_table.specs.Table.{KeepsCalls}
 use Rattle.wt_reached.proofs.Theorems.{performs_theorem}
 use Rattle.wt_call_answers.proofs.Answered.{keeps_with}
 use Rattle.wt_call_answers.proofs.session.Session.answer.Goals as goal

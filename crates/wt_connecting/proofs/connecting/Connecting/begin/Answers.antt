@@ -3,7 +3,7 @@ use Rattle.wt_connect.specs.ConnectTarget.{target_of}
 use Rattle.wt_connecting.proofs.Beginning.{dialled_begins, dialled_effect, dialled_log, failed_effect}
 use Rattle.wt_connecting.proofs.Over.{over_may}
 use Rattle.wt_connecting.proofs.connecting.Connecting.begin.Goals as goal
-use Rattle.wt_driver.specs.Tie.{Follows}
+use Rattle.wt_driver_state.specs.Tie.{Follows}
 use Rattle.wt_spec.specs.Effect.{Effect}
 
 pub returns-in-Ok-clause-reply : goal.returns-in-Ok-clause-reply

@@ -1,6 +1,6 @@
 use Rattle.std.proofs.Common.{[], ◌∙◌, ◌∷◌, ◌≡◌, List, Option, ap, subst, sym, ℕ}
 use Rattle.wt_connecting.proofs.connecting.Connecting.dial.Goals as goal
-use Rattle.wt_driver.specs.Tie.{Follows}
+use Rattle.wt_driver_state.specs.Tie.{Follows}
 use Rattle.wt_driver_spec.specs.Asking.{MayBeCalled}
 use Rattle.wt_session_acts.specs.Performing.{MaySendAll}
 use Rattle.wt_spec.specs.Connect.{request_head, reserved_name}

@@ -1,6 +1,6 @@
 use Rattle.std.proofs.Common.{◌∙◌, ap, subst}
 use Rattle.wt_connection.proofs.Sessions.{accept_bi_is}
-use Rattle.wt_driver.specs.Tie.{Follows}
+use Rattle.wt_driver_state.specs.Tie.{Follows}
 use Rattle.wt_spec.specs.Effect.{Effect}
 use Rattle.wt_connection.proofs.Gives.{bi_receives, bi_sends}
 use Rattle.wt_connection.proofs.connection.Connection.accept_bi.Goals as goal

@@ -1,6 +1,6 @@
 use Rattle.std.proofs.Common.{◌∙◌, ap, subst}
 use Rattle.wt_connection.proofs.Sessions.{accept_uni_is}
-use Rattle.wt_driver.specs.Tie.{Follows}
+use Rattle.wt_driver_state.specs.Tie.{Follows}
 use Rattle.wt_calls.specs.Given.{poll_reply}
 use Rattle.wt_spec.specs.Effect.{Effect}
 use Rattle.wt_reply.specs.declared.reply.Reply.TheVariants as replies

@@ -2,7 +2,7 @@ use Rattle.std.proofs.Common.{length, subst, sym, ◌∙◌}
 use Rattle.wt_core.proofs.Refining.{answer_is, reached_after, taken_refines}
 use Rattle.wt_core.proofs.machine.Core.step.Goals as goal
 use Rattle.wt_core.specs.CoreState.{CoreState}
-use Rattle.wt_driver.specs.Tie.{Follows}
+use Rattle.wt_driver_state.specs.Tie.{Follows}
 use Rattle.wt_spec.specs.Answers.{log_after}
 use Rattle.wt_turn.specs.Log.{actions_of}
 

@@ -1,6 +1,6 @@
 use Rattle.std.proofs.Common.{arith, ◌<◌, refl, ◌∙◌}
 use Rattle.std.proofs.lemmas.Grind.{common_steps}
-use Rattle.wt_driver.proofs.AcceptSteps.{end-follows, end-given, looks-again, none-follows, none-given, stream-follows, stream-given, stream-may, stream-passed, stream-passes}
+use Rattle.wt_driver_state.proofs.AcceptSteps.{end-follows, end-given, looks-again, none-follows, none-given, stream-follows, stream-given, stream-may, stream-passed, stream-passes}
 use Rattle.wt_driver_spec.specs.Due.{log_streams}
 use Rattle.wt_driver.proofs.driver.Driver.accept.Goals as goal
 

@@ -1,10 +1,10 @@
 use Rattle.std.proofs.Common.{◌≡◌, ℕ, sym, ap, subst, ◌∙◌}
 use Rattle.std.specs.Prelude.{None}
-use Rattle.wt_driver.proofs.AcceptSteps.{accepted-is, always-ok, nothing-by, nothing-else}
-use Rattle.wt_driver.specs.DriverValue.{DriverValue}
-use Rattle.wt_driver.specs.Given.{given_by}
-use Rattle.wt_driver.specs.Results.{result_of}
-use Rattle.wt_driver.specs.Tie.{Follows, untaken_since}
+use Rattle.wt_driver_state.proofs.AcceptSteps.{accepted-is, always-ok, nothing-by, nothing-else}
+use Rattle.wt_driver_state.specs.DriverValue.{DriverValue}
+use Rattle.wt_driver_state.specs.Given.{given_by}
+use Rattle.wt_driver_state.specs.Results.{result_of}
+use Rattle.wt_driver_state.specs.Tie.{Follows, untaken_since}
 use Rattle.wt_driver_spec.specs.Due.{DueOutcome, accepted}
 use Rattle.wt_inbox.specs.Stage.{Refines}
 use Rattle.wt_seam_spec.specs.Streams.{peer_bi}

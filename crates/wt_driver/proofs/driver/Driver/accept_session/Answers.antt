@@ -1,6 +1,6 @@
 use Rattle.std.proofs.Common.{sym, ◌∙◌}
-use Rattle.wt_driver.proofs.AcceptSteps.{always-ok}
-use Rattle.wt_driver.proofs.ForSessions.{none-follows, request-follows}
+use Rattle.wt_driver_state.proofs.AcceptSteps.{always-ok}
+use Rattle.wt_driver_state.proofs.ForSessions.{none-follows, request-follows}
 use Rattle.wt_driver.proofs.driver.Driver.accept_session.Goals as goal
 
 pub returns-in_ok-called-in-Some-clause-log : goal.returns-in_ok-called-in-Some-clause-log

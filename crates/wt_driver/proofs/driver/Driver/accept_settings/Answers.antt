@@ -1,4 +1,4 @@
-use Rattle.wt_driver.proofs.Answering.{settings-given}
+use Rattle.wt_driver_state.proofs.Answering.{settings-given}
 use Rattle.wt_driver.proofs.driver.Driver.accept_settings.Goals as goal
 
 pub returns-clause-given : goal.returns-clause-given

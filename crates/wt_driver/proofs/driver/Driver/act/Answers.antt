@@ -1,6 +1,6 @@
-use Rattle.wt_driver.proofs.Acting.{acted-follows}
-use Rattle.wt_driver.proofs.Turning.{on-four}
-use Rattle.wt_driver.specs.Tie.{untaken_since}
+use Rattle.wt_driver_state.proofs.Acting.{acted-follows}
+use Rattle.wt_driver_state.proofs.Turning.{on-four}
+use Rattle.wt_driver_state.specs.Tie.{untaken_since}
 use Rattle.wt_driver.proofs.driver.Driver.act.Goals as goal
 
 pub returns-clause-log : goal.returns-clause-log

@@ -1,5 +1,5 @@
 use Rattle.std.proofs.Common.{◌∙◌}
-use Rattle.wt_driver.proofs.Moved.{on_ok}
+use Rattle.wt_driver_state.proofs.Moved.{on_ok}
 use Rattle.wt_turn.specs.Records.{record_of}
 use Rattle.wt_turn.specs.Log.{Called}
 use Rattle.wt_driver.proofs.driver.Driver.called.Goals as goal

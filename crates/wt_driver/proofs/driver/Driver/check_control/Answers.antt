@@ -2,10 +2,10 @@ use Rattle.std.proofs.Common.{ℕ, sym, subst, ◌∙◌}
 use Rattle.std.specs.Prelude.{Option}
 use Rattle.std.proofs.lemmas.Bool.{true≢false}
 use Rattle.std.specs.Option.{option_or}
-use Rattle.wt_driver.proofs.Moved.{ended-moves, open-moves, unless-open, unless-over, with-settings}
-use Rattle.wt_driver.specs.PeerSettings.{settings_read}
-use Rattle.wt_driver.specs.Moving.{Moves, WalkFrom}
-use Rattle.wt_driver.specs.Stages.{control_stages}
+use Rattle.wt_driver_state.proofs.Moved.{ended-moves, open-moves, unless-open, unless-over, with-settings}
+use Rattle.wt_driver_state.specs.PeerSettings.{settings_read}
+use Rattle.wt_driver_state.specs.Moving.{Moves, WalkFrom}
+use Rattle.wt_driver_state.specs.Stages.{control_stages}
 use Rattle.wt_inbox.specs.Stage.{control_offset}
 use Rattle.wt_spec.specs.Driver.{transport_view}
 use Rattle.wt_spec.specs.Scan.{check_control}

@@ -1,8 +1,8 @@
 use Rattle.std.proofs.Common.{◌≡◌, sym, ap, ◌∙◌}
 use Rattle.std.specs.Prelude.{None}
-use Rattle.wt_driver.proofs.Moved.{datagram-due, datagram-not-due}
-use Rattle.wt_driver.specs.DriverValue.{DriverValue, with_state}
-use Rattle.wt_driver.specs.Moving.{front_of}
+use Rattle.wt_driver_state.proofs.Moved.{datagram-due, datagram-not-due}
+use Rattle.wt_driver_state.specs.DriverValue.{DriverValue, with_state}
+use Rattle.wt_driver_state.specs.Moving.{front_of}
 use Rattle.wt_spec.specs.Driver.{transport_view}
 use Rattle.wt_spec.specs.StreamTable.{Progress}
 use Rattle.wt_driver.proofs.driver.Driver.check_datagram.Goals as goal

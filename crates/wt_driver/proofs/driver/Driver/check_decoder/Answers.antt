@@ -1,6 +1,6 @@
 use Rattle.std.proofs.Common.{◌≡◌, ℕ, subst}
 use Rattle.std.specs.Prelude.{Option}
-use Rattle.wt_driver.specs.DriverValue.{with_state}
+use Rattle.wt_driver_state.specs.DriverValue.{with_state}
 use Rattle.wt_spec.specs.Driver.{transport_view}
 use Rattle.wt_spec.specs.Scan.{check_qpack, unless_ended}
 use Rattle.wt_driver.proofs.driver.Driver.check_decoder.Goals as goal

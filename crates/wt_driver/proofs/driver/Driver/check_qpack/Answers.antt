@@ -1,6 +1,6 @@
 use Rattle.std.proofs.Common.{sym, ap}
-use Rattle.wt_driver.proofs.Moved.{unless-same}
-use Rattle.wt_driver.specs.DriverValue.{with_state}
+use Rattle.wt_driver_state.proofs.Moved.{unless-same}
+use Rattle.wt_driver_state.specs.DriverValue.{with_state}
 use Rattle.wt_spec.specs.StreamTable.{Progress}
 use Rattle.wt_driver.proofs.driver.Driver.check_qpack.Goals as goal
 

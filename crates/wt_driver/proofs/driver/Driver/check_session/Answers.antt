@@ -1,9 +1,9 @@
 use Rattle.std.proofs.Common.{ℕ, sym, subst, ◌∙◌}
 use Rattle.std.specs.Prelude.{Option}
 use Rattle.std.proofs.lemmas.Bool.{true≢false}
-use Rattle.wt_driver.proofs.Moved.{ended-moves, open-moves}
-use Rattle.wt_driver.specs.Moving.{Moves, WalkFrom}
-use Rattle.wt_driver.specs.Stages.{session_stages}
+use Rattle.wt_driver_state.proofs.Moved.{ended-moves, open-moves}
+use Rattle.wt_driver_state.specs.Moving.{Moves, WalkFrom}
+use Rattle.wt_driver_state.specs.Stages.{session_stages}
 use Rattle.wt_inbox.specs.Stage.{session_offset}
 use Rattle.wt_spec.specs.Driver.{transport_view}
 use Rattle.wt_spec.specs.Scan.{check_session}

@@ -1,6 +1,6 @@
 use Rattle.std.proofs.Common.{◌∙◌}
-use Rattle.wt_driver.proofs.Moved.{on_ok}
-use Rattle.wt_driver.proofs.AcceptUses.{may-poll}
+use Rattle.wt_driver_state.proofs.Moved.{on_ok}
+use Rattle.wt_driver_state.proofs.AcceptUses.{may-poll}
 use Rattle.wt_seam_spec.specs.Outgoing.{if_open}
 use Rattle.wt_turn.specs.Log.{with_actions}
 use Rattle.wt_turn.specs.declared.action.Action.TheVariants as actions

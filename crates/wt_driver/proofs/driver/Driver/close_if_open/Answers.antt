@@ -1,6 +1,6 @@
-use Rattle.wt_driver.proofs.Acting.{closed-follows}
-use Rattle.wt_driver.proofs.Turning.{on-four}
-use Rattle.wt_driver.specs.Tie.{untaken_since}
+use Rattle.wt_driver_state.proofs.Acting.{closed-follows}
+use Rattle.wt_driver_state.proofs.Turning.{on-four}
+use Rattle.wt_driver_state.specs.Tie.{untaken_since}
 use Rattle.wt_driver.proofs.driver.Driver.close_if_open.Goals as goal
 
 pub returns-clause-log : goal.returns-clause-log

@@ -1,6 +1,6 @@
 use Rattle.std.proofs.Common.{refl, ap}
-use Rattle.wt_driver.proofs.Moved.{noted}
-use Rattle.wt_driver.specs.DriverValue.{DriverValue}
+use Rattle.wt_driver_state.proofs.Moved.{noted}
+use Rattle.wt_driver_state.specs.DriverValue.{DriverValue}
 use Rattle.wt_inbox.specs.Stage.{Anywhere, with_stage}
 use Rattle.wt_spec.specs.Scan.{session_ends}
 use Rattle.wt_driver.proofs.driver.Driver.end_session.Goals as goal

@@ -1,6 +1,6 @@
 use Rattle.std.proofs.Common.{sym, subst}
-use Rattle.wt_driver.specs.DriverValue.{DriverValue}
-use Rattle.wt_driver.specs.Tie.{untaken_since}
+use Rattle.wt_driver_state.specs.DriverValue.{DriverValue}
+use Rattle.wt_driver_state.specs.Tie.{untaken_since}
 use Rattle.wt_inbox.specs.Stage.{Refines}
 use Rattle.wt_driver.proofs.driver.Driver.fits.Goals as goal
 

@@ -1,4 +1,4 @@
-use Rattle.wt_driver.proofs.Answering.{given-follows}
+use Rattle.wt_driver_state.proofs.Answering.{given-follows}
 use Rattle.wt_inbox.proofs.Asked.{on-ok}
 use Rattle.wt_driver.proofs.driver.Driver.give_settings.Goals as goal
 

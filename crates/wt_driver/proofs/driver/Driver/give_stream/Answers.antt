@@ -1,6 +1,6 @@
 use Rattle.std.proofs.Common.{◌∙◌}
-use Rattle.wt_driver.proofs.Moved.{on_ok}
-use Rattle.wt_driver.proofs.Calling.{accepted-taken}
+use Rattle.wt_driver_state.proofs.Moved.{on_ok}
+use Rattle.wt_driver_state.proofs.Calling.{accepted-taken}
 use Rattle.wt_turn.specs.Log.{Called, StreamAccepted}
 use Rattle.wt_driver.proofs.driver.Driver.give_stream.Goals as goal
 

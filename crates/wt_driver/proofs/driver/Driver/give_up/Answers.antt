@@ -1,6 +1,6 @@
 use Rattle.std.proofs.Common.{sym, subst, ◌∙◌}
 use Rattle.wt_scan.proofs.Restaged.{gone-there, left-there}
-use Rattle.wt_driver.specs.DriverValue.{DriverValue}
+use Rattle.wt_driver_state.specs.DriverValue.{DriverValue}
 use Rattle.wt_inbox.specs.Stage.{Refines}
 use Rattle.wt_seam_spec.specs.Streams.{can_receive}
 use Rattle.wt_driver.proofs.driver.Driver.give_up.Goals as goal

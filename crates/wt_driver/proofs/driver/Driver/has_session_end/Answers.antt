@@ -1,5 +1,5 @@
 use Rattle.std.proofs.Common.{refl}
-use Rattle.wt_driver.proofs.Moved.{on_ok, progress-moved}
+use Rattle.wt_driver_state.proofs.Moved.{on_ok, progress-moved}
 use Rattle.wt_driver.proofs.driver.Driver.has_session_end.Goals as goal
 
 pub returns-clause-answer : goal.returns-clause-answer

@@ -1,6 +1,6 @@
 use Rattle.std.proofs.Common.{false, refl}
 use Rattle.std.specs.Prelude.{None}
-use Rattle.wt_driver.proofs.Beginning.{begins}
+use Rattle.wt_driver_state.proofs.Beginning.{begins}
 use Rattle.wt_driver.proofs.driver.Driver.init.Goals as goal
 
 pub returns-clause-log : goal.returns-clause-log

@@ -1,5 +1,5 @@
 use Rattle.std.proofs.Common.{ap, sym, ◌∙◌}
-use Rattle.wt_driver.proofs.Answering.{none-queued}
+use Rattle.wt_driver_state.proofs.Answering.{none-queued}
 use Rattle.wt_dispatch.specs.Requests.{request_as}
 use Rattle.wt_driver.proofs.driver.Driver.next_request.Goals as goal
 

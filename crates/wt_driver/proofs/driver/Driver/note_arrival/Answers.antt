@@ -1,7 +1,7 @@
 use Rattle.std.proofs.Common.{sym, ap, ◌∙◌}
-use Rattle.wt_driver.proofs.Moved.{on_ok}
-use Rattle.wt_driver.proofs.Turning.{bi-arrives, uni-arrives}
-use Rattle.wt_driver.specs.Arriving.{arrived}
+use Rattle.wt_driver_state.proofs.Moved.{on_ok}
+use Rattle.wt_driver_state.proofs.Turning.{bi-arrives, uni-arrives}
+use Rattle.wt_driver_state.specs.Arriving.{arrived}
 use Rattle.wt_spec.specs.Turns.{event_of}
 use Rattle.wt_spec.specs.Driver.{transport_view}
 use Rattle.wt_turn.specs.declared.turn.Turn.{Turn}

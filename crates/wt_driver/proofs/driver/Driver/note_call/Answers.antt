@@ -1,6 +1,6 @@
 use Rattle.std.proofs.Common.{refl}
-use Rattle.wt_driver.proofs.Calling.{accepted-taken, delivered-taken, established-taken, given-up-taken, no-other, of-shape, passed-taken, received-taken, skipped-taken, told-taken}
-use Rattle.wt_driver.specs.Tie.{untaken_since}
+use Rattle.wt_driver_state.proofs.Calling.{accepted-taken, delivered-taken, established-taken, given-up-taken, no-other, of-shape, passed-taken, received-taken, skipped-taken, told-taken}
+use Rattle.wt_driver_state.specs.Tie.{untaken_since}
 use Rattle.wt_turn.specs.declared.record.Record.TheVariants as records
 use Rattle.wt_turn.specs.Log.{ResetUnsent}
 use Rattle.wt_driver.proofs.driver.Driver.note_call.Goals as goal

@@ -3,9 +3,9 @@ use Rattle.std.proofs.Math.Facts.{to_z-of_z}
 use Rattle.std.specs.Int.{w32}
 use Rattle.std.specs.Prelude.{FitsSigned, ℤ}
 use Rattle.wt_inbox.specs.Stage.{Refines}
-use Rattle.wt_driver.proofs.Calling.{keeps-nothing, nothing-taken, of-shape, read-taken, told-taken}
+use Rattle.wt_driver_state.proofs.Calling.{keeps-nothing, nothing-taken, of-shape, read-taken, told-taken}
 use Rattle.wt_turn.specs.Records.{record_of}
-use Rattle.wt_driver.specs.Tie.{untaken_since}
+use Rattle.wt_driver_state.specs.Tie.{untaken_since}
 use Rattle.wt_turn.specs.declared.record.Record.TheVariants as records
 use Rattle.wt_turn.specs.Log.{Called, PrioritySet}
 use Rattle.wt_driver.proofs.driver.Driver.note_reading.Goals as goal

@@ -1,7 +1,7 @@
-use Rattle.wt_driver.proofs.Moved.{on_ok}
+use Rattle.wt_driver_state.proofs.Moved.{on_ok}
 use Rattle.std.proofs.Common.{sym, subst, ◌∙◌}
-use Rattle.wt_driver.proofs.Turning.{event-noted, on-four}
-use Rattle.wt_driver.specs.Tie.{untaken_since}
+use Rattle.wt_driver_state.proofs.Turning.{event-noted, on-four}
+use Rattle.wt_driver_state.specs.Tie.{untaken_since}
 use Rattle.wt_inbox.specs.Stage.{Refines}
 use Rattle.wt_inbox.specs.State.{InboxState}
 use Rattle.wt_driver.proofs.driver.Driver.note_turn.Goals as goal

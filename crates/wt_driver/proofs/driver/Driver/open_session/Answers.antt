@@ -1,6 +1,6 @@
 use Rattle.std.proofs.Common.{sym, ◌∙◌}
-use Rattle.wt_driver.proofs.ForSessions.{answer-open, answer-shut, opened-follows, stands-open}
-use Rattle.wt_driver.specs.Tie.{untaken_since}
+use Rattle.wt_driver_state.proofs.ForSessions.{answer-open, answer-shut, opened-follows, stands-open}
+use Rattle.wt_driver_state.specs.Tie.{untaken_since}
 use Rattle.wt_driver.proofs.driver.Driver.open_session.Goals as goal
 
 pub returns-then-is_open-clause-answer : goal.returns-then-is_open-clause-answer

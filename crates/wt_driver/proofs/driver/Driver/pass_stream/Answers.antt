@@ -1,5 +1,5 @@
 use Rattle.std.proofs.Common.{◌∙◌}
-use Rattle.wt_driver.proofs.Moved.{on_ok}
+use Rattle.wt_driver_state.proofs.Moved.{on_ok}
 use Rattle.wt_driver.proofs.driver.Driver.pass_stream.Goals as goal
 
 pub returns-clause-has_given : goal.returns-clause-has_given

@@ -1,6 +1,6 @@
 use Rattle.std.proofs.Common.{refl, ap, ◌∙◌}
 use Rattle.std.specs.Option.{option_or}
-use Rattle.wt_driver.proofs.Moved.{noted}
+use Rattle.wt_driver_state.proofs.Moved.{noted}
 use Rattle.wt_inbox.specs.Stage.{ControlBody, with_stage}
 use Rattle.wt_proto.specs.declared.control_walk.ControlWalk.{ControlWalk}
 use Rattle.wt_spec.specs.Scan.{control_read}

@@ -1,5 +1,5 @@
 use Rattle.std.proofs.Common.{ap}
-use Rattle.wt_driver.proofs.Moved.{on_ok}
+use Rattle.wt_driver_state.proofs.Moved.{on_ok}
 use Rattle.wt_seam.specs.State.{TransportState}
 use Rattle.wt_driver.proofs.driver.Driver.read_response.Goals as goal
 

@@ -1,5 +1,5 @@
 use Rattle.std.proofs.Common.{sym, ap, drop, ◌∙◌}
-use Rattle.wt_driver.proofs.Moved.{moves-on, not-over, session-there}
+use Rattle.wt_driver_state.proofs.Moved.{moves-on, not-over, session-there}
 use Rattle.wt_scan.proofs.Restaged.{twice}
 use Rattle.wt_driver_spec.specs.DriverState.{DriverState}
 use Rattle.wt_inbox.specs.Stage.{Anywhere, SessionBody, with_stage}

@@ -1,7 +1,7 @@
 use Rattle.std.proofs.Common.{arith, ◌<◌, length, refl, ap, ◌∙◌}
 use Rattle.std.proofs.lemmas.Grind.{common_steps}
-use Rattle.wt_driver.proofs.AcceptSteps.{datagram-follows, datagram-given, datagram-may, datagram-passed, end-follows, end-given, front-own, front-paid, looks-again, none-paid, none-received, received-is}
-use Rattle.wt_driver.specs.DriverValue.{DriverValue}
+use Rattle.wt_driver_state.proofs.AcceptSteps.{datagram-follows, datagram-given, datagram-may, datagram-passed, end-follows, end-given, front-own, front-paid, looks-again, none-paid, none-received, received-is}
+use Rattle.wt_driver_state.specs.DriverValue.{DriverValue}
 use Rattle.wt_driver_spec.specs.Due.{log_datagrams, received}
 use Rattle.wt_spec.specs.Driver.{log_and_flush}
 use Rattle.wt_turn.specs.Log.{Called, DatagramPassed, DatagramReceived}

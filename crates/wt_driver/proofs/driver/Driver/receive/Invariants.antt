@@ -1,6 +1,6 @@
 use Rattle.std.proofs.Common.{◌≡◌, ℕ}
-use Rattle.wt_driver.proofs.AcceptLooks.{LooksOn}
-use Rattle.wt_driver.specs.Tie.{Follows}
+use Rattle.wt_driver_state.proofs.AcceptLooks.{LooksOn}
+use Rattle.wt_driver_state.specs.Tie.{Follows}
 use Rattle.wt_driver_spec.specs.Due.{log_datagrams, received}
 use Rattle.wt_turn.specs.Log.{Log}
 use Rattle.wt_wire.specs.declared.side.Side.{Side}

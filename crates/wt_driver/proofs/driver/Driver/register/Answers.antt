@@ -1,5 +1,5 @@
 use Rattle.std.proofs.Common.{sym, ◌∙◌}
-use Rattle.wt_driver.proofs.ForSessions.{registered-before, registered-done}
+use Rattle.wt_driver_state.proofs.ForSessions.{registered-before, registered-done}
 use Rattle.wt_driver.proofs.driver.Driver.register.Goals as goal
 
 pub returns-in-None-clause-log : goal.returns-in-None-clause-log

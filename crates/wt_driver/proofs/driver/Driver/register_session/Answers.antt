@@ -1,5 +1,5 @@
 use Rattle.std.proofs.Common.{sym, ◌∙◌}
-use Rattle.wt_driver.proofs.ForSessions.{open-now, registered-late, shut-now}
+use Rattle.wt_driver_state.proofs.ForSessions.{open-now, registered-late, shut-now}
 use Rattle.wt_driver.proofs.driver.Driver.register_session.Goals as goal
 
 pub returns-in-Some-clause-log : goal.returns-in-Some-clause-log

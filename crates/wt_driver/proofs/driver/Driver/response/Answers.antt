@@ -1,7 +1,7 @@
-use Rattle.wt_driver.proofs.Answering.{response-follows}
-use Rattle.wt_driver.proofs.StageAnswers.{response-staged}
-use Rattle.wt_driver.proofs.Turning.{on-four}
-use Rattle.wt_driver.specs.Tie.{untaken_since}
+use Rattle.wt_driver_state.proofs.Answering.{response-follows}
+use Rattle.wt_driver_state.proofs.StageAnswers.{response-staged}
+use Rattle.wt_driver_state.proofs.Turning.{on-four}
+use Rattle.wt_driver_state.specs.Tie.{untaken_since}
 use Rattle.wt_driver.proofs.driver.Driver.response.Goals as goal
 
 pub returns-clause-log : goal.returns-clause-log

@@ -1,7 +1,7 @@
 use Rattle.std.proofs.Common.{ap, sym, subst, ◌∙◌}
-use Rattle.wt_driver.proofs.Checks.{checks-done, control-waits, control_checked_stages, decoder_state, encoder_state, local_state, three-checks}
-use Rattle.wt_driver.proofs.Moved.{state-moves}
-use Rattle.wt_driver.specs.Moving.{WalkFrom, datagram_checked_state, session_checked_stages}
+use Rattle.wt_driver_state.proofs.Checks.{checks-done, control-waits, control_checked_stages, decoder_state, encoder_state, local_state, three-checks}
+use Rattle.wt_driver_state.proofs.Moved.{state-moves}
+use Rattle.wt_driver_state.specs.Moving.{WalkFrom, datagram_checked_state, session_checked_stages}
 use Rattle.wt_driver_spec.specs.DriverState.{DriverState}
 use Rattle.wt_inbox.specs.Stage.{session_offset}
 use Rattle.wt_spec.specs.Driver.{transport_view}

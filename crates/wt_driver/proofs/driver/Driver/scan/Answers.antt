@@ -1,10 +1,10 @@
-use Rattle.wt_driver.specs.DriverValue.{DriverValue}
+use Rattle.wt_driver_state.specs.DriverValue.{DriverValue}
 use Rattle.std.proofs.Common.{◌≡◌, ℕ, List, sym, ap, subst, ◌∙◌}
-use Rattle.wt_driver.proofs.Moved.{moves-on, on_ok, reads-on, state-moves}
-use Rattle.wt_driver.specs.PeerSettings.{settings_checked}
-use Rattle.wt_driver.specs.Moving.{HasDatagram, MayCheck, Moves, front_of}
+use Rattle.wt_driver_state.proofs.Moved.{moves-on, on_ok, reads-on, state-moves}
+use Rattle.wt_driver_state.specs.PeerSettings.{settings_checked}
+use Rattle.wt_driver_state.specs.Moving.{HasDatagram, MayCheck, Moves, front_of}
 use Rattle.wt_scan.specs.Scanning.{AllAwait, SlotsReceive}
-use Rattle.wt_driver.specs.Stages.{bi_stages, check_stages, uni_stages}
+use Rattle.wt_driver_state.specs.Stages.{bi_stages, check_stages, uni_stages}
 use Rattle.wt_dispatch.specs.declared.slot.Half.TheVariants.{Bi, Uni}
 use Rattle.wt_driver_spec.specs.Bounds.{AreDistinct, IsBounded}
 use Rattle.wt_driver_spec.specs.DriverState.{DriverState}

@@ -1,5 +1,5 @@
 use Rattle.std.proofs.Common.{refl}
-use Rattle.wt_driver.proofs.Moved.{unis-moved, on_ok}
+use Rattle.wt_driver_state.proofs.Moved.{unis-moved, on_ok}
 use Rattle.wt_driver.proofs.driver.Driver.scan_unis.Goals as goal
 
 pub returns-clause-log : goal.returns-clause-log

@@ -1,9 +1,9 @@
 use Rattle.std.proofs.Common.{◌∷◌, sym, subst, ◌∙◌}
-use Rattle.wt_driver.proofs.AtRest.{rest-follows}
-use Rattle.wt_driver.proofs.Worked.{idle-follows}
-use Rattle.wt_driver.specs.DriverValue.{DriverValue}
+use Rattle.wt_driver_state.proofs.AtRest.{rest-follows}
+use Rattle.wt_driver_state.proofs.Worked.{idle-follows}
+use Rattle.wt_driver_state.specs.DriverValue.{DriverValue}
 use Rattle.wt_inbox.specs.Stage.{Refines}
-use Rattle.wt_driver.specs.Tie.{untaken_since}
+use Rattle.wt_driver_state.specs.Tie.{untaken_since}
 use Rattle.wt_turn.specs.Log.{Called}
 use Rattle.wt_driver.proofs.driver.Driver.stay_at_rest.Goals as goal
 

@@ -1,7 +1,7 @@
 use Rattle.std.proofs.Common.{◌∙◌}
-use Rattle.wt_driver.proofs.Moved.{on_ok}
-use Rattle.wt_driver.proofs.Turning.{byte-follows}
-use Rattle.wt_driver.specs.Tie.{untaken_since}
+use Rattle.wt_driver_state.proofs.Moved.{on_ok}
+use Rattle.wt_driver_state.proofs.Turning.{byte-follows}
+use Rattle.wt_driver_state.specs.Tie.{untaken_since}
 use Rattle.wt_driver.proofs.driver.Driver.take_byte.Goals as goal
 
 pub returns-clause-log : goal.returns-clause-log

@@ -1,6 +1,6 @@
 use Rattle.std.proofs.Common.{arith, refl, ◌<◌, ◌≤◌, length, ◌∙◌}
 use Rattle.std.proofs.lemmas.Grind.{common_steps}
-use Rattle.wt_driver.proofs.Turning.{bytes-begin, bytes-end, bytes-on}
+use Rattle.wt_driver_state.proofs.Turning.{bytes-begin, bytes-end, bytes-on}
 use Rattle.wt_driver.proofs.driver.Driver.take_bytes.Goals as goal
 
 pub loop-at-init : goal.loop-at-init

@@ -1,6 +1,6 @@
 use Rattle.std.proofs.Common.{◌≡◌, ◌-◌, ℕ, true, length}
-use Rattle.wt_driver.proofs.Turning.{BytesSoFar}
-use Rattle.wt_driver.specs.Tie.{Follows}
+use Rattle.wt_driver_state.proofs.Turning.{BytesSoFar}
+use Rattle.wt_driver_state.specs.Tie.{Follows}
 use Rattle.wt_seam_spec.specs.Arrivals.{fits}
 use Rattle.wt_turn.specs.Log.{Log}
 use Rattle.wt_turn.specs.declared.turn.Turn.TheVariants as turns

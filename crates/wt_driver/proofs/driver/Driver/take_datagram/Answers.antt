@@ -1,6 +1,6 @@
 use Rattle.std.proofs.Common.{ap, ◌∙◌}
-use Rattle.wt_driver.specs.DriverValue.{DriverValue}
-use Rattle.wt_driver.proofs.AcceptUses.{settled-taken}
+use Rattle.wt_driver_state.specs.DriverValue.{DriverValue}
+use Rattle.wt_driver_state.proofs.AcceptUses.{settled-taken}
 use Rattle.wt_turn.specs.Log.{Called}
 use Rattle.wt_driver.proofs.driver.Driver.take_datagram.Goals as goal
 

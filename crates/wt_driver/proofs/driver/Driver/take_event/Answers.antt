@@ -1,6 +1,6 @@
 use Rattle.std.proofs.Common.{◌∙◌}
-use Rattle.wt_driver.proofs.Moved.{on_ok}
-use Rattle.wt_driver.proofs.Turning.{event-follows}
+use Rattle.wt_driver_state.proofs.Moved.{on_ok}
+use Rattle.wt_driver_state.proofs.Turning.{event-follows}
 use Rattle.wt_driver.proofs.driver.Driver.take_event.Goals as goal
 
 pub returns-clause-log : goal.returns-clause-log

@@ -1,8 +1,8 @@
 use Rattle.std.proofs.Common.{ℕ, List, subst}
 use Rattle.std.specs.Prelude.{OnOk}
-use Rattle.wt_driver.specs.Tie.{Follows}
+use Rattle.wt_driver_state.specs.Tie.{Follows}
 use Rattle.wt_spec.specs.Answers.{receive}
-use Rattle.wt_driver.proofs.Turning.{piece-follows, turn-follows}
+use Rattle.wt_driver_state.proofs.Turning.{piece-follows, turn-follows}
 use Rattle.wt_driver.proofs.driver.Driver.turn.Goals as goal
 
 pub returns-in-Bytes-clause-log : goal.returns-in-Bytes-clause-log

@@ -1,11 +1,11 @@
 use Rattle.std.proofs.Common.{◌∷◌, refl, sym, ap, subst, ◌∙◌}
 use Rattle.std.proofs.lemmas.Bool.{true≢false}
-use Rattle.wt_driver.proofs.Worked.{flush-control, flush-may, idle-follows, scan-datagram, scan-may, scan-receives, work-follows}
-use Rattle.wt_driver.specs.DriverValue.{DriverValue}
+use Rattle.wt_driver_state.proofs.Worked.{flush-control, flush-may, idle-follows, scan-datagram, scan-may, scan-receives, work-follows}
+use Rattle.wt_driver_state.specs.DriverValue.{DriverValue}
 use Rattle.wt_inbox.specs.Stage.{Refines}
-use Rattle.wt_driver.specs.Stages.{scanned_stages}
+use Rattle.wt_driver_state.specs.Stages.{scanned_stages}
 use Rattle.wt_spec.specs.Driver.{transport_view}
-use Rattle.wt_driver.specs.Tie.{untaken_since}
+use Rattle.wt_driver_state.specs.Tie.{untaken_since}
 use Rattle.wt_driver.proofs.driver.Driver.work.Goals as goal
 
 pub returns-in_ok-flush : goal.returns-in_ok-flush

@@ -1,6 +1,6 @@
 use Rattle.std.proofs.Common.{arith, ◌<◌, ◌≡◌, length, ◌∙◌}
 use Rattle.std.proofs.lemmas.Grind.{common_steps}
-use Rattle.wt_driver.proofs.Removing.{slot-absent-is, slot-removed-is}
+use Rattle.wt_driver_state.proofs.Removing.{slot-absent-is, slot-removed-is}
 use Rattle.wt_driver.proofs.driver.accepts.remove_slot.Goals as goal
 
 pub returns-then-eq : goal.returns-then-eq

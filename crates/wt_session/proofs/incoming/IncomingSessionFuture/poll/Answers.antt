@@ -2,7 +2,7 @@ use Rattle.std.proofs.Common.{◌∙◌, ◌≡◌, IfOk, OnOk, ap, subst, sym}
 use Rattle.wt_session.proofs.Delivering.{delivered_effect, first_is_request, given_reply, given_stands, may_deliver, undelivered_effect}
 use Rattle.wt_session.proofs.incoming.IncomingSessionFuture.poll.Goals as goal
 use Rattle.wt_session.specs.Incoming.{StandsWith, incoming_reply, told_of}
-use Rattle.wt_driver.specs.Tie.{Follows}
+use Rattle.wt_driver_state.specs.Tie.{Follows}
 use Rattle.wt_spec.specs.Effect.{Effect}
 
 pub returns-in-Some-clause-reply : goal.returns-in-Some-clause-reply

@@ -1,0 +1,163 @@
+-- A call of which no work comes leaves what a driver at rest keeps, but for the stops of the moment before.
+use Rattle.std.proofs.Common.{◌≡◌, ℕ, suc, Bool, true, false, List, [], ◌∷◌, ◌++◌, refl, sym, ap, subst, ◌∙◌}
+use Rattle.std.specs.Prelude.{◌&&◌, ◌||◌, Option, Some, None, if◌then◌else◌, nat_lt}
+use Rattle.wt_driver_state.specs.Calling.{leaves_at_rest}
+use Rattle.wt_driver_state.specs.DriverValue.{DriverValue, with_state}
+use Rattle.wt_driver_state.specs.PeerSettings.{KeepsSettings, settings_read}
+use Rattle.wt_driver_state.specs.Stages.{StageSays, StagesFit, stream_use}
+use Rattle.wt_driver_state.specs.Tie.{Follows, TakenIn}
+use Rattle.wt_driver_spec.proofs.RestMoments.{open-says, quiet-call, quiet-call-rests, quiet-call-state}
+use Rattle.wt_driver_spec.proofs.ScanSlots.{slots-same}
+use Rattle.wt_driver_spec.specs.DriverState.{Arrived, Dequeued, DriverState, Held, slot_by, slots, state_of}
+use Rattle.wt_driver_spec.specs.Rest.{AtRest, Rests, begin_if}
+use Rattle.wt_driver_spec.specs.Step.{after_call, begin_scan}
+use Rattle.wt_driver_spec.specs.Uses.{classified_of, role_of}
+use Rattle.wt_proto.specs.declared.verdict.Verdict.{Verdict}
+use Rattle.wt_spec.specs.Driver.{apply_if, call_view, log_and_flush, stream_table, transport_view}
+use Rattle.wt_spec.specs.Scan.{Scan, SlotRule, bi_ids, bi_rule, dequeue, has, is_released, occupied, scan, scan_bis, scan_order, scan_unis, uni_ids, uni_rule, unless_ended, visit, without_stops}
+use Rattle.wt_spec.specs.StreamTable.{CallView, Classified, Ending, Progress, StreamTable, TransportView, control_start, first_at, verdict_of}
+use Rattle.wt_turn.specs.Log.{BytesRead, CallRecord, Called, ConnectStarted, HandshakeOver, Log, OpeningFailed, OpeningStarted, Polled, PrioritySet, ResponseStarted, is_open}
+use Rattle.wt_wire.specs.declared.side.Side.{Side}
+
+-- ---- a scan that finds nothing to do
+
+module _ (ready : Bool) (d : CallView) (rule : SlotRule) where
+  -- behind the first stream
+  module _ (k : ℕ) (ks : List ℕ) (p : Scan)
+      (again : (n : ℕ) → Rests ready rule n (slots d p.table ks) → (scan ready d rule ks (record p { occupied = n })).table ≡ p.table) where
+    held : (b : Bool) → Rests ready rule p.occupied ((if b then [] else record { id = k; place = Held } ∷ []) ++ slots d p.table ks)
+        → (scan ready d rule ks (record p { occupied = occupied b p.occupied })).table ≡ p.table
+    held true r = again p.occupied r
+    held false r = again (suc p.occupied) r.1
+
+    free : (b : Bool) → has k p.table.dequeued ≡ b → Rests ready rule p.occupied (record { id = k; place = if b then Dequeued else Arrived } ∷ slots d p.table ks)
+        → (scan ready d rule ks (dequeue (b || (ready && nat_lt p.occupied rule.slots)) d rule k p)).table ≡ p.table
+    free true e r = rw (r.0, e) (again (suc p.occupied) r.1)
+    free false e r = rw r.0 (again (suc p.occupied) r.1)
+
+    visited : (o : Option Verdict) → Rests ready rule p.occupied (slot_by k (d.released k) (has k p.table.dequeued) o ++ slots d p.table ks)
+        → (scan ready d rule ks (visit ready d rule k o p)).table ≡ p.table
+    visited (Some v) r = held (is_released (d.released k) v) r
+    visited None r = free (has k p.table.dequeued) refl r
+
+  -- it leaves the table
+  scan-leaves : (ks : List ℕ) (p : Scan) → Rests ready rule p.occupied (slots d p.table ks) → (scan ready d rule ks p).table ≡ p.table
+  scan-leaves [] p r = refl
+  scan-leaves (k ∷ ks) p r = by p.table.progress.ending (visited k ks p (λ n s. scan-leaves ks (record p { occupied = n }) s) (verdict_of k p.table.classified) r)
+    where
+      by : (o : Option Ending) → (scan ready d rule ks (visit ready d rule k (verdict_of k p.table.classified) p)).table ≡ p.table
+          → (unless_ended o (λ u. scan ready d rule ks (visit ready d rule k (verdict_of k u.table.classified) u)) p).table ≡ p.table
+      by None e = e
+      by (Some x) e = refl
+
+-- so does that of a table with other progress
+plain-scan : (ready : Bool) (d : CallView) (rule : SlotRule) (ks : List ℕ) (s u : StreamTable) → u.dequeued ≡ s.dequeued → u.classified ≡ s.classified → Rests ready rule 0 (slots d s ks)
+    → (scan ready d rule ks (record { occupied = 0; table = u })).table ≡ u
+plain-scan ready d rule ks s u dequeued classified r =
+    scan-leaves ready d rule ks (record { occupied = 0; table = u })
+    (subst (Rests ready rule 0) (sym (slots-same d s u ks (λ j e. record { dequeued = ap (has j) dequeued; classified = ap (verdict_of j) classified }))) r)
+
+-- ---- the record of a call
+
+-- a call of which no work comes
+record Plain (log : Log) (r : CallRecord) (s : DriverState) : Type 0 where
+  same : after_call r s ≡ s
+  view : call_view (Called r ∷ log) ≡ call_view log
+
+plain : (log : Log) (r : CallRecord) (s : DriverState) → leaves_at_rest r ≡ true → Plain log r s
+plain log (ConnectStarted reserved head) s e = record { same = refl; view = refl }
+plain log (ResponseStarted accepts head) s e = record { same = refl; view = refl }
+plain log HandshakeOver s e = record { same = refl; view = refl }
+plain log (OpeningStarted id session) s e = record { same = refl; view = refl }
+plain log (OpeningFailed id) s e = record { same = refl; view = refl }
+plain log (BytesRead id count) s e = record { same = refl; view = refl }
+plain log (PrioritySet id priority) s e = record { same = refl; view = refl }
+plain log Polled s e = record { same = refl; view = refl }
+plain log _ s e = absurd cc
+
+module _ (side : Side) (log : Log) (r : CallRecord) (taken : ℕ) (d : DriverValue) (leaves : leaves_at_rest r ≡ true) (in_ : TakenIn side log (Called r) d taken) (o : is_open log ≡ true) where
+  abbrev t : TransportView
+  t = transport_view side log
+
+  abbrev table : StreamTable
+  table = stream_table side log
+
+  abbrev before : DriverState
+  before = state_of side log
+
+  p : Plain log r before
+  p = plain log r before leaves
+
+  rests : AtRest side log
+  rests = in_.rests o
+
+  -- what is kept then
+  state-behind : state_of side (Called r ∷ log) ≡ begin_scan before
+  state-behind = quiet-call-state side log r in_.may in_.fits p.same in_.rests ∙ ap (λ (b : Bool). begin_if b before) (sym (open-says side log) ∙ o)
+
+  unis-rest : Rests t.ready (uni_rule t) 0 (slots (call_view log) table (uni_ids t))
+  unfolding state_of
+  unis-rest = rests.rests.unis
+
+  bis-rest : Rests t.ready (bi_rule t) 0 (slots (call_view log) table (bi_ids t))
+  unfolding state_of
+  bis-rest = rests.rests.bis
+
+  -- no stream is classified
+  scanned-same : (scan_order t (call_view log) table).classified ≡ table.classified
+  scanned-same =
+      let start : StreamTable = without_stops table in
+      let unis : scan_unis t (call_view log) start ≡ start = plain-scan t.ready (call_view log) (uni_rule t) (uni_ids t) table start refl refl unis-rest in
+      let bis : scan_bis t (call_view log) start ≡ start = plain-scan t.ready (call_view log) (bi_rule t) (bi_ids t) table start refl refl bis-rest in
+      ap (λ (x : StreamTable). (scan_bis t (call_view log) x).classified) unis ∙ ap (λ (x : StreamTable). x.classified) bis
+
+  classified-same : (stream_table side (Called r ∷ log)).classified ≡ table.classified
+  unfolding stream_table
+  classified-same =
+      ap (λ (b : Bool). (apply_if b (scan_order t (call_view (Called r ∷ log))) table).classified) o
+      ∙ ap (λ (v : CallView). (scan_order t v table).classified) p.view
+      ∙ scanned-same
+
+  progress-behind : (stream_table side (Called r ∷ log)).progress ≡ (begin_scan before).progress
+  unfolding state_of
+  progress-behind = ap (λ (s : DriverState). s.progress) state-behind
+
+  ending-same : (stream_table side (Called r ∷ log)).progress.ending ≡ table.progress.ending
+  unfolding state_of
+  ending-same = ap (λ (x : Progress). x.ending) progress-behind
+
+  came-same : (stream_table side (Called r ∷ log)).progress.settings ≡ table.progress.settings
+  unfolding state_of
+  came-same = ap (λ (x : Progress). x.settings) progress-behind
+
+  staged : StagesFit side (Called r ∷ log) in_.stage
+  staged = λ k.
+      subst (λ (cs : List Classified). StageSays (role_of side k) (stream_use side (Called r ∷ log) k) (stream_table side (Called r ∷ log)).progress.ending (classified_of k cs) (in_.stage k)) (sym classified-same)
+      (subst (λ (e : Option Ending). StageSays (role_of side k) (stream_use side (Called r ∷ log) k) e (classified_of k table.classified) (in_.stage k)) (sym ending-same) (in_.fit k))
+
+  settings : KeepsSettings side (Called r ∷ log) d.settings
+  settings = record {
+    came = in_.settings.came ∙ sym came-same;
+    read = λ s is. ap (λ (cs : List Classified). settings_read t (first_at control_start cs)) classified-same ∙ in_.settings.read s is;
+  }
+
+  -- The driver follows the log with the call.
+  pub rest-follows : Follows side (with_state d (begin_scan d.state)) (log_and_flush side log (Called r)) taken
+  rest-follows =
+      let alone : log_and_flush side log (Called r) ≡ Called r ∷ log = quiet-call side log r in_.may in_.fits p.same in_.rests in
+      let kept : d.state ≡ before = in_.state_is ∙ (λ i. record (p.same i) { is_open = before.is_open }) in
+      subst (λ (l : Log). Follows side (with_state d (begin_scan d.state)) l taken) (sym alone) (record {
+        refines = record {
+          stage = in_.stage;
+          inbox = in_.inbox;
+          staged = staged;
+          state_is = ap begin_scan kept ∙ sym state-behind;
+          queue_is = in_.queue_is;
+          settings = settings;
+          fits = (in_.may, in_.fits);
+          uses = (in_.can, in_.uses);
+        };
+        within = in_.within;
+        rests = quiet-call-rests side log r in_.may in_.fits p.same in_.rests;
+        sends = in_.sends;
+      })

@@ -1,0 +1,271 @@
+-- A call's record taken in, from what the driver's parts ensure.
+use Rattle.std.proofs.Common.{◌≡◌, ◌≤◌, ◌+◌, ℕ, suc, Bool, true, List, ◌∷◌, length, drop, refl, sym, ap, subst, ◌∙◌, add-one}
+use Rattle.std.specs.Prelude.{Some, ℤ}
+use Rattle.wt_driver_state.proofs.Early.{early}
+use Rattle.wt_driver_state.proofs.Moved.{open-is}
+use Rattle.wt_driver_state.proofs.Receives.{sessions-receive, there-is}
+use Rattle.wt_driver_state.proofs.StageAnswers.{read-staged, response-staged}
+use Rattle.wt_driver_state.proofs.StageEntries.{called-fits, read-so}
+use Rattle.wt_driver_state.proofs.StageTables.{is-own}
+use Rattle.wt_driver_state.proofs.StageWork.{passed-waits, received-waits}
+use Rattle.wt_driver_state.specs.Calling.{IsEarly, called_queue, leaves_at_rest}
+use Rattle.wt_driver_state.specs.PeerSettings.{KeepsSettings}
+use Rattle.wt_driver_spec.specs.Asking.{Establishes, MayBeCalled}
+use Rattle.wt_driver_state.specs.DriverValue.{DriverValue, IsAmong, with_state, without_first}
+use Rattle.wt_turn.specs.Records.{record_of}
+use Rattle.wt_turn.specs.declared.record.Record.{Record}
+use Rattle.wt_turn.specs.declared.record.Record.TheVariants as records
+use Rattle.wt_scan.specs.Scanning.{unless_given_up}
+use Rattle.wt_driver_state.specs.Stages.{called_stages, established_stages, is_there}
+use Rattle.wt_driver_state.specs.Tie.{Follows, TakenIn, unsettled, untaken_since}
+use Rattle.wt_driver_spec.proofs.RestMoments.{open-says}
+use Rattle.wt_driver_spec.specs.DriverState.{DriverState, state_of}
+use Rattle.wt_driver_spec.specs.Moment.{may_release}
+use Rattle.wt_driver_spec.specs.Step.{after_call, remove_request, release}
+use Rattle.wt_inbox.proofs.Passing.{goes-called, passes}
+use Rattle.wt_inbox.specs.Stage as inboxes
+use Rattle.wt_inbox.specs.Stage.{Body, GivenUp, Stage, awaits_response, body_offset, with_stage}
+use Rattle.wt_proto.specs.ResponseWalk.{response_offset, response_walk_of}
+use Rattle.wt_inbox.specs.State.{InboxState}
+use Rattle.wt_seam.specs.State as seam
+use Rattle.wt_streams.specs.StreamState.{rows}
+use Rattle.wt_seam_spec.specs.Sent.{is_reset, priority_of}
+use Rattle.wt_seam_spec.specs.Reports.{end_of, initial_credit}
+use Rattle.wt_seam_spec.specs.Streams.{can_receive, contents, stream_count}
+use Rattle.wt_seam_spec.specs.Unread.{ReadPosition}
+use Rattle.wt_spec.specs.Driver.{stream_table}
+use Rattle.wt_spec.specs.Halves as halves
+use Rattle.wt_spec.specs.StreamTable.{verdict_of}
+use Rattle.wt_turn.specs.Log.{BytesRead, CallRecord, Called, ConnectStarted, DatagramPassed, DatagramReceived, HandshakeOver, Log, OpeningFailed, OpeningStarted, Polled, PrioritySet, RequestDelivered, ResetUnsent, ResponseStarted, SessionEstablished, StreamAccepted, StreamGivenUp, StreamPassed, all_events_of, calls_of, events_of}
+use Rattle.wt_turn.specs.declared.action.Action.{Action}
+use Rattle.wt_wire.specs.declared.side.Side.{Side}
+use Rattle.wt_wire.specs.declared.side.Side.TheVariants.{Client, Server}
+
+-- ---- records that tell the transport nothing
+
+-- neither a priority nor a reset
+abbrev pub TellsNothing : CallRecord → Type 0
+TellsNothing (PrioritySet id priority) = ⊥
+TellsNothing (ResetUnsent id code) = ⊥
+TellsNothing _ = Unit {0}
+
+same-reset : (r : CallRecord) (log : Log) (k : ℕ) → TellsNothing r → is_reset (Called r ∷ log) k ≡ is_reset log k
+same-reset (ResetUnsent id code) log k n = absurd n
+same-reset _ log k n = refl
+
+same-priority : (r : CallRecord) (calls : List CallRecord) (k : ℕ) → TellsNothing r → priority_of (r ∷ calls) k ≡ priority_of calls k
+same-priority (PrioritySet id priority) calls k n = absurd n
+same-priority _ calls k n = refl
+
+module _ (side : Side) (t : seam.TransportState) (log : Log) (position : ℕ → ReadPosition) (untaken : List Action) (r : CallRecord) (n : TellsNothing r) where
+  same-stream : (pieces : ℕ → List (List ℕ)) (k : ℕ) → seam.stream_of (Called r ∷ log) position pieces k ≡ seam.stream_of log position pieces k
+  same-stream pieces k = λ i. record (seam.stream_of log position pieces k) { reset = same-reset r log k n i; priority = same-priority r (calls_of log) k n i }
+
+  transport-kept : seam.Refines side t log position untaken → seam.Refines side t (Called r ∷ log) position untaken
+  transport-kept s = record {
+    pieces = s.pieces;
+    facts = record {
+      streams = λ k. subst (seam.IsStream side (stream_count side log) (initial_credit (all_events_of log)) k) (sym (same-stream s.pieces k)) (s.facts.streams k);
+      unconnected = s.facts.unconnected;
+      unallowed = s.facts.unallowed;
+      open_same = s.facts.open_same;
+    };
+    holds = λ k. record { bytes = (s.holds k).bytes; filled = (s.holds k).filled; within = (s.holds k).within };
+    state = s.state ∙ sym (λ i. record (seam.state_of side log position s.pieces untaken) { streams = rows (λ k. same-stream s.pieces k i) (stream_count side log) });
+  }
+
+pub inbox-kept : (side : Side) (x : InboxState) (log : Log) (stage : ℕ → Stage) (untaken : List Action) (r : CallRecord) → TellsNothing r → inboxes.Refines side x log stage untaken → inboxes.Refines side x (Called r ∷ log) stage untaken
+inbox-kept side x log stage untaken r n s = passes side x log stage untaken s x.transport (Called r ∷ log) untaken (goes-called side log r) (transport-kept side x.transport log s.position untaken r n s.transport)
+
+-- ---- a record taken in
+
+queue-so : (r : CallRecord) (log : Log) → unsettled (Called r ∷ log) ≡ called_queue r (unsettled log)
+queue-so DatagramReceived log = received-waits log
+queue-so DatagramPassed log = passed-waits log
+queue-so _ log = refl
+
+-- What letting the response go ensures where a session is established: a client reads on behind it.
+abbrev pub ReleasesResponse : DriverValue → DriverValue → ℕ → ℕ → Type 0
+ReleasesResponse d new id at = (log : Log) (stage : ℕ → Stage) (untaken : List Action) → inboxes.Refines Client d.inbox log stage untaken → awaits_response (stage id) ≡ true
+    → response_offset (response_walk_of (contents log id) (end_of (events_of log) id)) ≡ Some at → inboxes.Refines Client new.inbox log (with_stage stage id (Body at)) untaken
+
+-- a server keeps to its stages
+abbrev pub KeepsStages : DriverValue → DriverValue → Type 0
+KeepsStages d new = (log : Log) (stage : ℕ → Stage) (untaken : List Action) → inboxes.Refines Server d.inbox log stage untaken → inboxes.Refines Server new.inbox log stage untaken
+
+established-inbox : (side : Side) (log : Log) (taken : ℕ) (d new : DriverValue) (id at : ℕ) (f : Follows side d log taken) → ReleasesResponse d new id at → KeepsStages d new → Establishes side log id at
+    → inboxes.Refines side new.inbox log (established_stages side id at f.refines.stage) (untaken_since taken log)
+established-inbox Client log taken d new id at f client server a = client log f.refines.stage (untaken_since taken log) f.refines.inbox (response-staged Client log f.refines.stage id f.refines.fits f.refines.staged a.0) a.1
+established-inbox Server log taken d new id at f client server a = server log f.refines.stage (untaken_since taken log) f.refines.inbox
+
+module _ (side : Side) (log : Log) (taken : ℕ) (d : DriverValue) (f : Follows side d log taken) (r : CallRecord) (a : MayBeCalled side log r) where
+  open-before : d.state.is_open ≡ (state_of side log).is_open
+  open-before = ap (λ (s : DriverState). s.is_open) f.refines.state_is
+
+  -- the record, with what it did
+  pub call-taken : (new : DriverValue) (b : Bool) → inboxes.Refines side new.inbox (Called r ∷ log) (called_stages side log r f.refines.stage) (untaken_since taken log) → new.state ≡ record (after_call r d.state) { is_open = b }
+      → b ≡ (state_of side log).is_open → new.queue ≡ called_queue r d.queue → new.settings ≡ d.settings → TakenIn side log (Called r) new taken
+  call-taken new b x s o q k = record {
+    stage = called_stages side log r f.refines.stage;
+    inbox = x;
+    fit = called-fits side log f.refines.stage r (is-own side log f.refines.fits) a.can f.refines.staged;
+    state_is = s ∙ (λ i. record (after_call r (f.refines.state_is i)) { is_open = o i });
+    queue_is = q ∙ ap (called_queue r) f.refines.queue_is ∙ sym (queue-so r log);
+    settings = subst (KeepsSettings side log) (sym k) f.refines.settings;
+    within = f.within;
+    moment = refl;
+    may = a.may;
+    can = a.can;
+    fits = f.refines.fits;
+    uses = f.refines.uses;
+    rests = f.rests;
+    sends = a.sends;
+  }
+
+  -- the transport stands as before
+  pub open-behind : (x : InboxState) (stage : ℕ → Stage) → inboxes.Refines side x (Called r ∷ log) stage (untaken_since taken log) → x.transport.is_open ≡ (state_of side log).is_open
+  open-behind x stage s = open-is side (Called r ∷ log) (untaken_since taken log) x stage s ∙ open-says side log
+
+-- ---- each record
+
+-- the driver keeps nothing of the call
+abbrev pub ChangesNothing : CallRecord → Type 0
+ChangesNothing (ConnectStarted reserved head) = Unit {0}
+ChangesNothing (ResponseStarted accepts head) = Unit {0}
+ChangesNothing HandshakeOver = Unit {0}
+ChangesNothing (OpeningStarted id session) = Unit {0}
+ChangesNothing (OpeningFailed id) = Unit {0}
+ChangesNothing Polled = Unit {0}
+ChangesNothing _ = ⊥
+
+module _ (side : Side) (log : Log) (taken : ℕ) (d : DriverValue) (f : Follows side d log taken) where
+  abbrev Asks : CallRecord → Type 0
+  Asks r = MayBeCalled side log r
+
+  opened : d.state.is_open ≡ (state_of side log).is_open
+  opened = ap (λ (s : DriverState). s.is_open) f.refines.state_is
+
+  behind : (r : CallRecord) (x : InboxState) (stage : ℕ → Stage) → inboxes.Refines side x (Called r ∷ log) stage (untaken_since taken log) → x.transport.is_open ≡ (state_of side log).is_open
+  behind r x stage s = open-is side (Called r ∷ log) (untaken_since taken log) x stage s ∙ open-says side log
+
+  kept : (r : CallRecord) → TellsNothing r → inboxes.Refines side d.inbox (Called r ∷ log) f.refines.stage (untaken_since taken log)
+  kept r n = inbox-kept side d.inbox log f.refines.stage (untaken_since taken log) r n f.refines.inbox
+
+  pub nothing-taken : (r : CallRecord) → ChangesNothing r → Asks r → TakenIn side log (Called r) d taken
+  nothing-taken (ConnectStarted reserved head) n a = call-taken side log taken d f (ConnectStarted reserved head) a d d.state.is_open (kept (ConnectStarted reserved head) tt) refl opened refl refl
+  nothing-taken (ResponseStarted accepts head) n a = call-taken side log taken d f (ResponseStarted accepts head) a d d.state.is_open (kept (ResponseStarted accepts head) tt) refl opened refl refl
+  nothing-taken HandshakeOver n a = call-taken side log taken d f HandshakeOver a d d.state.is_open (kept HandshakeOver tt) refl opened refl refl
+  nothing-taken (OpeningStarted id session) n a = call-taken side log taken d f (OpeningStarted id session) a d d.state.is_open (kept (OpeningStarted id session) tt) refl opened refl refl
+  nothing-taken (OpeningFailed id) n a = call-taken side log taken d f (OpeningFailed id) a d d.state.is_open (kept (OpeningFailed id) tt) refl opened refl refl
+  nothing-taken Polled n a = call-taken side log taken d f Polled a d d.state.is_open (kept Polled tt) refl opened refl refl
+  nothing-taken (RequestDelivered id) n a = absurd n
+  nothing-taken (SessionEstablished id at) n a = absurd n
+  nothing-taken (StreamAccepted id) n a = absurd n
+  nothing-taken (StreamPassed id) n a = absurd n
+  nothing-taken (BytesRead id count) n a = absurd n
+  nothing-taken (StreamGivenUp id) n a = absurd n
+  nothing-taken (ResetUnsent id code) n a = absurd n
+  nothing-taken (PrioritySet id priority) n a = absurd n
+  nothing-taken DatagramReceived n a = absurd n
+  nothing-taken DatagramPassed n a = absurd n
+
+  first : (id : ℕ) → may_release side (stream_table side log).classified id ≡ true → IsEarly d id
+  first id may = early side log id f.refines.fits may d f.refines.state_is
+
+  module _ (new : DriverValue) where
+    pub delivered-taken : (id : ℕ) → new ≡ with_state d (remove_request id d.state) → Asks (RequestDelivered id) → TakenIn side log (Called (RequestDelivered id)) new taken
+    delivered-taken id e a = subst (λ (v : DriverValue). TakenIn side log (Called (RequestDelivered id)) v taken) (sym e)
+        (call-taken side log taken d f (RequestDelivered id) a (with_state d (remove_request id d.state)) d.state.is_open (kept (RequestDelivered id) tt) refl opened refl refl)
+
+    pub established-taken : (id at : ℕ) → ReleasesResponse d new id at → KeepsStages d new → new.state ≡ record d.state { session = Some (id, at); is_open = new.inbox.transport.is_open } → new.queue ≡ d.queue → new.settings ≡ d.settings
+        → Asks (SessionEstablished id at) → TakenIn side log (Called (SessionEstablished id at)) new taken
+    established-taken id at client server s q k a =
+        let stage = established_stages side id at f.refines.stage in
+        let x = established-inbox side log taken d new id at f client server a.half in
+        let y = inbox-kept side new.inbox log stage (untaken_since taken log) (SessionEstablished id at) tt x in
+        call-taken side log taken d f (SessionEstablished id at) a new new.inbox.transport.is_open y s (behind (SessionEstablished id at) new.inbox stage y) q k
+
+    pub accepted-taken : (id : ℕ) → (IsAmong 4 id d.state.unis → IsAmong 1 id d.state.bis → new ≡ with_state d (release id d.state)) → Asks (StreamAccepted id) → TakenIn side log (Called (StreamAccepted id)) new taken
+    accepted-taken id e a = subst (λ (v : DriverValue). TakenIn side log (Called (StreamAccepted id)) v taken) (sym (e (first id a.may).unis (first id a.may).bis))
+        (call-taken side log taken d f (StreamAccepted id) a (with_state d (release id d.state)) d.state.is_open (kept (StreamAccepted id) tt) refl opened refl refl)
+
+    abbrev settled_value : DriverValue
+    settled_value = record d { state = record d.state { datagrams = suc d.state.datagrams }; queue = without_first d.queue }
+
+    pub received-taken : new ≡ record d { state = record d.state { datagrams = suc d.state.datagrams }; queue = without_first d.queue } → Asks DatagramReceived → TakenIn side log (Called DatagramReceived) new taken
+    received-taken e a = subst (λ (v : DriverValue). TakenIn side log (Called DatagramReceived) v taken) (sym e)
+        (call-taken side log taken d f DatagramReceived a settled_value d.state.is_open (kept DatagramReceived tt) (λ i. record d.state { datagrams = sym (add-one d.state.datagrams) i }) opened refl refl)
+
+    pub skipped-taken : new ≡ record d { state = record d.state { datagrams = suc d.state.datagrams }; queue = without_first d.queue } → Asks DatagramPassed → TakenIn side log (Called DatagramPassed) new taken
+    skipped-taken e a = subst (λ (v : DriverValue). TakenIn side log (Called DatagramPassed) v taken) (sym e)
+        (call-taken side log taken d f DatagramPassed a settled_value d.state.is_open (kept DatagramPassed tt) (λ i. record d.state { datagrams = sym (add-one d.state.datagrams) i }) opened refl refl)
+
+    -- a stream that is passed is one of the peer's, so it was given up
+    pub passed-taken : (id : ℕ) → inboxes.Refines side new.inbox log (with_stage f.refines.stage id (unless_given_up (can_receive side log id) (f.refines.stage id))) (untaken_since taken log)
+        → (IsAmong 4 id d.state.unis → IsAmong 1 id d.state.bis → new.state ≡ record (release id d.state) { is_open = new.inbox.transport.is_open }) → new.queue ≡ d.queue → new.settings ≡ d.settings → Asks (StreamPassed id) → TakenIn side log (Called (StreamPassed id)) new taken
+    passed-taken id x s q k a =
+        let can : can_receive side log id ≡ true = sessions-receive side log id f.refines.fits a.can.0 in
+        let z : inboxes.Refines side new.inbox log (with_stage f.refines.stage id GivenUp) (untaken_since taken log) =
+        subst (λ (b : Bool). inboxes.Refines side new.inbox log (with_stage f.refines.stage id (unless_given_up b (f.refines.stage id))) (untaken_since taken log)) can x in
+        let y = inbox-kept side new.inbox log (with_stage f.refines.stage id GivenUp) (untaken_since taken log) (StreamPassed id) tt z in
+        call-taken side log taken d f (StreamPassed id) a new new.inbox.transport.is_open y (s (first id a.may).unis (first id a.may).bis) (behind (StreamPassed id) new.inbox (with_stage f.refines.stage id GivenUp) y) q k
+
+    -- a stream that is given up was let go where it was there
+    pub given-up-taken : (id : ℕ) → inboxes.Refines side new.inbox log (with_stage f.refines.stage id (unless_given_up (can_receive side log id) (f.refines.stage id))) (untaken_since taken log)
+        → new.state ≡ record d.state { is_open = new.inbox.transport.is_open } → new.queue ≡ d.queue → new.settings ≡ d.settings → Asks (StreamGivenUp id) → TakenIn side log (Called (StreamGivenUp id)) new taken
+    given-up-taken id x s q k a =
+        let later = called_stages side log (StreamGivenUp id) f.refines.stage in
+        let same : can_receive side log id ≡ is_there side log id = there-is side log id f.refines.fits a.can in
+        let z : inboxes.Refines side new.inbox log later (untaken_since taken log) =
+        subst (λ (b : Bool). inboxes.Refines side new.inbox log (with_stage f.refines.stage id (unless_given_up b (f.refines.stage id))) (untaken_since taken log)) same x in
+        let y = inbox-kept side new.inbox log later (untaken_since taken log) (StreamGivenUp id) tt z in
+        call-taken side log taken d f (StreamGivenUp id) a new new.inbox.transport.is_open y s (behind (StreamGivenUp id) new.inbox later y) q k
+
+    pub read-taken : (id count : ℕ)
+        → ((offset : ℕ) → body_offset (f.refines.stage id) ≡ Some offset → count ≤ length (drop offset (contents log id)) → inboxes.Refines side new.inbox log (with_stage f.refines.stage id (Body (offset + count))) (untaken_since taken log))
+        → new.state ≡ record d.state { is_open = new.inbox.transport.is_open } → new.queue ≡ d.queue → new.settings ≡ d.settings → Asks (BytesRead id count) → TakenIn side log (Called (BytesRead id count)) new taken
+    read-taken id count x s q k a =
+        let at = halves.body_start (verdict_of id (stream_table side log).classified) + halves.total_read id (calls_of log) in
+        let e : body_offset (f.refines.stage id) ≡ Some at = read-staged side log f.refines.stage id f.refines.fits f.refines.uses f.refines.staged a.half in
+        let z = x at e a.can.1 in
+        let w = subst (λ (to : Stage). inboxes.Refines side new.inbox log (with_stage f.refines.stage id to) (untaken_since taken log)) (sym (read-so count at (f.refines.stage id) e)) z in
+        let y = inbox-kept side new.inbox log (called_stages side log (BytesRead id count) f.refines.stage) (untaken_since taken log) (BytesRead id count) tt w in
+        call-taken side log taken d f (BytesRead id count) a new new.inbox.transport.is_open y s (behind (BytesRead id count) new.inbox (called_stages side log (BytesRead id count) f.refines.stage) y) q k
+
+    pub told-taken : (r : CallRecord) → after_call r d.state ≡ d.state → called_queue r d.queue ≡ d.queue → called_stages side log r f.refines.stage ≡ f.refines.stage → inboxes.Refines side new.inbox (Called r ∷ log) f.refines.stage (untaken_since taken log)
+        → new.state ≡ record d.state { is_open = new.inbox.transport.is_open } → new.queue ≡ d.queue → new.settings ≡ d.settings → Asks r → TakenIn side log (Called r) new taken
+    told-taken r same same_queue same_stages x s q k a =
+        call-taken side log taken d f r a new new.inbox.transport.is_open (subst (λ (z : ℕ → Stage). inboxes.Refines side new.inbox (Called r ∷ log) z (untaken_since taken log)) (sym same_stages) x)
+        (s ∙ (λ i. record (sym same i) { is_open = new.inbox.transport.is_open })) (behind r new.inbox f.refines.stage x) (q ∙ sym same_queue) k
+
+-- a call that isn't one of these leaves a driver at rest
+pub no-other : (call : Record) → ((id : ℕ) → call ≡ records.RequestDelivered id → ⊥) → ((id at : ℕ) → call ≡ records.SessionEstablished id at → ⊥) → ((id : ℕ) → call ≡ records.StreamAccepted id → ⊥)
+    → ((id : ℕ) → call ≡ records.StreamPassed id → ⊥) → ((id : ℕ) → call ≡ records.StreamGivenUp id → ⊥) → ((id code : ℕ) → call ≡ records.ResetUnsent id code → ⊥)
+    → (call ≡ records.DatagramReceived → ⊥) → (call ≡ records.DatagramPassed → ⊥) → leaves_at_rest (record_of call) ≡ true
+no-other (records.RequestDelivered id) a b c d e f g h = absurd (a id refl)
+no-other (records.SessionEstablished id at) a b c d e f g h = absurd (b id at refl)
+no-other (records.StreamAccepted id) a b c d e f g h = absurd (c id refl)
+no-other (records.StreamPassed id) a b c d e f g h = absurd (d id refl)
+no-other (records.StreamGivenUp id) a b c d e f g h = absurd (e id refl)
+no-other (records.ResetUnsent id code) a b c d e f g h = absurd (f id code refl)
+no-other records.DatagramReceived a b c d e f g h = absurd (g refl)
+no-other records.DatagramPassed a b c d e f g h = absurd (h refl)
+no-other _ a b c d e f g h = refl
+
+-- nothing is kept of one of them that read no bytes and set no priority
+pub keeps-nothing : (call : Record) → ((id count : ℕ) → call ≡ records.BytesRead id count → ⊥) → ((id : ℕ) (p : ℤ) → call ≡ records.PrioritySet id p → ⊥) → leaves_at_rest (record_of call) ≡ true
+    → ChangesNothing (record_of call)
+keeps-nothing (records.BytesRead id count) a b e = absurd (a id count refl)
+keeps-nothing (records.PrioritySet id p) a b e = absurd (b id p refl)
+keeps-nothing (records.ConnectStarted reserved head) a b e = tt
+keeps-nothing (records.ResponseStarted accepts head) a b e = tt
+keeps-nothing records.HandshakeOver a b e = tt
+keeps-nothing (records.OpeningStarted id session) a b e = tt
+keeps-nothing (records.OpeningFailed id) a b e = tt
+keeps-nothing records.Polled a b e = tt
+keeps-nothing _ a b e = absurd cc
+
+-- what is shown of a record's shape holds of the record
+pub of-shape : (side : Side) (log : Log) (taken : ℕ) (d : DriverValue) (stage : ℕ → Stage) (new : DriverValue) (call shape : Record) → call ≡ shape
+    → (MayBeCalled side log (record_of shape) → TakenIn side log (Called (record_of shape)) new taken) → MayBeCalled side log (record_of call) → TakenIn side log (Called (record_of call)) new taken
+of-shape side log taken d stage new call shape e g = subst (λ (x : Record). MayBeCalled side log (record_of x) → TakenIn side log (Called (record_of x)) new taken) (sym e) g

@@ -1,0 +1,21 @@
+-- What a turn of the transport brings, and what a driver is once it took it in.
+use Rattle.std.specs.Prelude.{◌≡◌, None, Option, Some, false, true, ℕ}
+use Rattle.wt_driver_state.specs.DriverValue.{DriverValue}
+use Rattle.wt_driver_state.specs.Tie.{Follows, TakenIn}
+use Rattle.wt_driver_spec.specs.Step.{with_arrival}
+use Rattle.wt_seam_spec.specs.Reports.{with_datagram}
+use Rattle.wt_spec.specs.Driver.{log_and_flush}
+use Rattle.wt_spec.specs.StreamTable.{TransportView}
+use Rattle.wt_turn.specs.Log.{Event, Log, Reported, ReportedLate, is_open}
+use Rattle.wt_wire.specs.declared.side.Side.{Side}
+
+-- a driver that noted what an event brings: a stream's slot, a datagram
+abbrev pub arrived : TransportView → Option Event → DriverValue → DriverValue
+arrived t None d = d
+arrived t (Some e) d = record d { state = with_arrival t e d.state; queue = with_datagram e d.queue }
+
+-- A driver took in an event: its moment's work is to be done, or it came after the end, and that is all.
+pub record EventTaken (side : Side) (log : Log) (e : Event) (d : DriverValue) (taken : ℕ) : Type 0 where
+  pub counted : is_open log ≡ true → TakenIn side log (Reported e) d taken
+  pub late : is_open log ≡ false → Follows side d (log_and_flush side log (ReportedLate e)) taken
+  pub ended : is_open log ≡ false → d.state.is_open ≡ false

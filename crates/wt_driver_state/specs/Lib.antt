@@ -1,0 +1,10 @@
+pub mod Given
+pub mod Stages
+pub mod Moving
+pub mod DriverValue
+pub mod Results
+pub mod PeerSettings
+pub mod Tie
+pub mod Arriving
+pub mod Calling
+pub mod Sessions

@@ -1,0 +1,63 @@
+-- Which logs a driver refines.
+use Rattle.std.specs.Prelude.{◌-◌, ◌≡◌, ◌≤◌, ◌∷◌, List, drop, length, take, true, ℕ}
+use Rattle.wt_driver_state.specs.DriverValue.{DriverValue}
+use Rattle.wt_driver_state.specs.PeerSettings.{KeepsSettings}
+use Rattle.wt_driver_spec.specs.Asking.{SendsWhileOpen}
+use Rattle.wt_driver_state.specs.Stages.{StagesFit, TableFits, stream_use}
+use Rattle.wt_driver_spec.specs.Uses.{MayUseBy, Uses}
+use Rattle.wt_driver_spec.specs.DriverState.{state_of}
+use Rattle.wt_driver_spec.specs.Moment.{Fits, MayFollow}
+use Rattle.wt_driver_spec.specs.Rest.{RestsWhileOpen}
+use Rattle.wt_driver_spec.specs.Step.{after_entry}
+use Rattle.wt_inbox.specs.Stage as inboxes
+use Rattle.wt_inbox.specs.Stage.{Stage}
+use Rattle.wt_seam_spec.specs.Reports.{datagrams_of}
+use Rattle.wt_spec.specs.Driver.{is_moment, settled_datagrams, stream_table, transport_view}
+use Rattle.wt_turn.specs.Log.{Entry, Log, actions_of, calls_of, events_of}
+use Rattle.wt_turn.specs.declared.action.Action.{Action}
+use Rattle.wt_wire.specs.declared.side.Side.{Side}
+
+-- the datagrams that came and that no call settled, the oldest first
+abbrev pub unsettled : Log → List (List ℕ)
+unsettled log = drop (settled_datagrams (calls_of log)) (datagrams_of (events_of log))
+
+-- A driver refines a log, with these actions not taken yet, the newest first: its inbox does at stages that fit the log,
+-- it keeps the state of the log and the peer's SETTINGS, and the datagrams that aren't settled wait.
+pub record Refines (side : Side) (d : DriverValue) (log : Log) (untaken : List Action) : Type 0 where
+  pub stage : ℕ → Stage
+  pub inbox : inboxes.Refines side d.inbox log stage untaken
+  pub staged : StagesFit side log stage
+  pub state_is : d.state ≡ state_of side log
+  pub queue_is : d.queue ≡ unsettled log
+  pub settings : KeepsSettings side log d.settings
+  pub fits : Fits side log
+  pub uses : Uses side log
+
+-- the actions of the log that weren't taken yet, the newest first, where so many were taken
+abbrev pub untaken_since : ℕ → Log → List Action
+untaken_since taken log = take (length (actions_of log) - taken) (actions_of log)
+
+-- A driver follows a log, of which so many actions were taken: it refines it, with the other ones not taken yet, and where
+-- the connection is open all is at rest, and the driver may send.
+pub record Follows (side : Side) (d : DriverValue) (log : Log) (taken : ℕ) : Type 0 where
+  pub refines : Refines side d log (untaken_since taken log)
+  pub within : taken ≤ length (actions_of log)
+  pub rests : RestsWhileOpen side log
+  pub sends : SendsWhileOpen side log
+
+-- A driver has taken in a moment's entry, and the moment's work is still to be done.
+pub record TakenIn (side : Side) (log : Log) (m : Entry) (d : DriverValue) (taken : ℕ) : Type 0 where
+  pub stage : ℕ → Stage
+  pub inbox : inboxes.Refines side d.inbox (m ∷ log) stage (untaken_since taken (m ∷ log))
+  pub fit : TableFits side (stream_use side (m ∷ log)) (stream_table side log) stage
+  pub state_is : d.state ≡ after_entry (transport_view side log) m (state_of side log)
+  pub queue_is : d.queue ≡ unsettled (m ∷ log)
+  pub settings : KeepsSettings side log d.settings
+  pub within : taken ≤ length (actions_of (m ∷ log))
+  pub moment : is_moment m ≡ true
+  pub may : MayFollow side log m
+  pub can : MayUseBy side log m
+  pub fits : Fits side log
+  pub uses : Uses side log
+  pub rests : RestsWhileOpen side log
+  pub sends : SendsWhileOpen side (m ∷ log)

@@ -1,0 +1,15 @@
+use Rattle.std.proofs.Common.{◌≡◌, ◌-◌, ℕ, List, true, length}
+use Rattle.wt_flush.proofs.Flushed.{StopsSoFar}
+use Rattle.wt_flush.specs.Flushing.{CanStop}
+use Rattle.wt_inbox.specs.Stage.{Refines, Stage}
+use Rattle.wt_turn.specs.Log.{Log, is_open}
+use Rattle.wt_turn.specs.declared.action.Action.{Action}
+use Rattle.wt_wire.specs.declared.side.Side.{Side}
+use Rattle.wt_flush.proofs.flush.stop_all.Given as goal
+
+abbrev pub invariant-loop-at : goal.invariant-loop-at
+invariant-loop-at l = (side : Side) (log : Log) (stage : ℕ → Stage) (untaken : List Action) → Refines side l.fn.inbox log stage untaken → is_open log ≡ true → CanStop side log l.stops
+    → StopsSoFar side log stage untaken l.stops l.at l.inbox
+
+abbrev pub decreases-loop-at : goal.decreases-loop-at
+decreases-loop-at l = length l.stops - l.at

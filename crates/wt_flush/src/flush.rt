@@ -1,0 +1,201 @@
+//! What goes out at a moment.
+ghost use Rattle.std.specs.Prelude.{◌≡◌, ◌<◌, ◌+◌, ◌∷◌, [], None, Some, true, false, List, ℕ, OnOk, IfOk, drop, length, take, not};
+ghost use Rattle.wt_flush.specs.Flushing.{CanReset, CanStop, ControlRuns, Flushes, MayFlush, OpensControl, Sends, SendsControl};
+ghost use Rattle.wt_driver_spec.specs.AtOnce.{control_flushed};
+ghost use Rattle.wt_inbox.specs.Stage.{Refines, Stage};
+ghost use Rattle.wt_message.specs.FixedBytes.{local_control_bytes};
+ghost use Rattle.wt_seam_spec.specs.Joined.{send_of};
+ghost use Rattle.wt_seam_spec.specs.Streams.{can_receive, can_send, local_uni};
+ghost use Rattle.wt_spec.specs.Driver.{ControlSent, actions_after, close_actions, control_actions, control_sent, opened_if, reset_if, session_id, stop_actions, transport_view};
+ghost use Rattle.std.specs.Option.{option_copied};
+ghost use Rattle.wt_turn.specs.Log.{Log, Sent, is_open};
+ghost use Rattle.wt_turn.specs.declared.action.Action.{Action};
+ghost use Rattle.wt_turn.specs.declared.action.Action.TheVariants as actions;
+ghost use Rattle.wt_wire.specs.Codes.{code_of};
+ghost use Rattle.wt_wire.specs.declared.side.Side.{Side};
+
+use crate::acting::{close, reset, stop};
+use std::alloc::Global;
+use wt_dispatch::classified::Stopped;
+use wt_dispatch::ending::{Ending, EndingKind};
+use wt_dispatch::progress::Progress;
+use wt_inbox::Inbox;
+use wt_proto::outgoing::control_stream_head;
+use wt_turn::piece::Piece;
+use wt_wire::error::{ErrorCode, OutOfMemory};
+use wt_wire::ids::StreamId;
+use wt_wire::side::Side;
+use wt_wire::varint::VarInt;
+
+// ---- this end's control stream
+
+/// The bytes from this offset on; none past the end.
+fn after(bytes: &[u8], at: usize) -> &[u8]
+    ensures { result.now ≡ drop at bytes.now }
+{
+    if at < bytes.len() {
+        &bytes[at..]
+    } else {
+        &bytes[bytes.len()..]
+    }
+}
+
+/// The stream that is this end's control stream: its first unidirectional one.
+fn control_id(side: Side) -> StreamId
+    ensures { result ≡ local_uni side }
+{
+    match side {
+        Side::Client => StreamId::new(VarInt::from_u32(2)),
+        Side::Server => StreamId::new(VarInt::from_u32(3)),
+    }
+}
+
+/// Opens the control stream where it isn't.
+fn open_control(inbox: &mut Inbox, opened: &mut bool) -> Result<(), OutOfMemory>
+    ensures log { (side : Side) (log : Log) (stage : ℕ → Stage) (untaken : List Action) → Refines side inbox.old log stage untaken → is_open log ≡ true
+        → (control_sent side log).opened ≡ opened.old → (transport_view side log).may_open ≡ true
+        → OnOk result (OpensControl side log stage untaken (opened_if (not opened.old) (local_uni side)) inbox.new opened.new) }
+{
+    if !*opened {
+        let _id = inbox.open_uni()?;
+        *opened = true;
+    }
+    Ok(())
+}
+
+/// Sends the bytes of the control stream that are left, as far as credit goes.
+fn send_control(inbox: &mut Inbox, alloc: Global, sent: &mut usize) -> Result<(), OutOfMemory>
+    ensures log { (side : Side) (log : Log) (stage : ℕ → Stage) (untaken : List Action) → Refines side inbox.old log stage untaken → is_open log ≡ true
+        → control_sent side log ≡ record { opened = true; sent = sent.old } → ControlRuns side log → (transport_view side log).may_open ≡ true
+        → OnOk result (SendsControl side log stage untaken (send_of (local_uni side) (drop sent.old (take (transport_view side log).credit local_control_bytes))) inbox.new
+        sent.new (sent.old + length (drop sent.old (take (transport_view side log).credit local_control_bytes)))) }
+{
+    let id = control_id(inbox.side());
+    if !inbox.may_send(id) {
+        return Ok(());
+    }
+    let head = control_stream_head(alloc)?;
+    let count = inbox.send(id, after(head.as_slice(), *sent))?;
+    match sent.checked_add(count) {
+        None => Err(OutOfMemory),
+        Some(sum) => {
+            *sent = sum;
+            Ok(())
+        }
+    }
+}
+
+/// This end's control stream opens as soon as it may, and sends as far as credit goes.
+fn flush_control(
+    inbox: &mut Inbox,
+    alloc: Global,
+    opened: &mut bool,
+    sent: &mut usize,
+) -> Result<(), OutOfMemory>
+    ensures log { (side : Side) (log : Log) (stage : ℕ → Stage) (untaken : List Action) → Refines side inbox.old log stage untaken → is_open log ≡ true
+        → control_sent side log ≡ record { opened = opened.old; sent = sent.old } → ControlRuns side log
+        → OnOk result (Flushes side log stage untaken (control_actions (transport_view side log).may_open (local_uni side) (transport_view side log).credit (control_sent side log)) inbox.new (record { opened = opened.new; sent = sent.new })) }
+{
+    if inbox.may_open_uni() {
+        open_control(inbox, opened)?;
+        send_control(inbox, alloc, sent)?;
+    }
+    Ok(())
+}
+
+// ---- the stops
+
+fn stop_one(inbox: &mut Inbox, stopped: &Stopped) -> Result<(), OutOfMemory>
+    ensures log { (side : Side) (log : Log) (stage : ℕ → Stage) (untaken : List Action) → Refines side inbox.old log stage untaken → is_open log ≡ true
+        → can_receive side log stopped.now.id ≡ true
+        → OnOk result (Refines side inbox.new (Sent (actions.StopOut stopped.now.id (code_of stopped.now.code)) ∷ log) stage (actions.StopOut stopped.now.id (code_of stopped.now.code) ∷ untaken)) }
+{
+    stop(inbox, stopped.id, stopped.code.to_code())
+}
+
+fn stop_all(inbox: &mut Inbox, stops: &[Stopped]) -> Result<(), OutOfMemory>
+    ensures log { (side : Side) (log : Log) (stage : ℕ → Stage) (untaken : List Action) → Refines side inbox.old log stage untaken → is_open log ≡ true
+        → CanStop side log stops.now → OnOk result (Sends side log stage untaken (stop_actions stops.now) inbox.new) }
+{
+    let mut at = 0;
+    while at < stops.len() {
+        stop_one(inbox, &stops[at])?;
+        at += 1;
+    }
+    Ok(())
+}
+
+// ---- the end
+
+fn session_id(session: Option<(StreamId, usize)>) -> StreamId
+    ensures { result ≡ session_id session }
+{
+    match session {
+        None => StreamId::new(VarInt::from_u32(0)),
+        Some((id, _)) => id,
+    }
+}
+
+/// Resets the session's stream, where a capsule closed the session.
+fn reset_if(inbox: &mut Inbox, by_capsule: bool, id: StreamId) -> Result<(), OutOfMemory>
+    ensures log { (side : Side) (log : Log) (stage : ℕ → Stage) (untaken : List Action) → Refines side inbox.old log stage untaken → is_open log ≡ true
+        → (by_capsule ≡ true → can_send side log id ≡ true) → OnOk result (Sends side log stage untaken (reset_if by_capsule id) inbox.new) }
+{
+    if by_capsule {
+        reset(inbox, id, ErrorCode::NoError.to_code())?;
+    }
+    Ok(())
+}
+
+fn close_with(inbox: &mut Inbox, alloc: Global, code: ErrorCode) -> Result<(), OutOfMemory>
+    ensures log { (side : Side) (log : Log) (stage : ℕ → Stage) (untaken : List Action) → Refines side inbox.old log stage untaken → is_open log ≡ true
+        → OnOk result (Sends side log stage untaken (actions.Close (code_of code) [] ∷ []) inbox.new) }
+{
+    close(inbox, code.to_code(), Piece::new(alloc))
+}
+
+/// A fault closes with its code, the end of the session with H3_NO_ERROR.
+fn flush_ending(
+    inbox: &mut Inbox,
+    alloc: Global,
+    session: Option<(StreamId, usize)>,
+    ending: Option<&Ending>,
+) -> Result<(), OutOfMemory>
+    ensures log { (side : Side) (log : Log) (stage : ℕ → Stage) (untaken : List Action) → Refines side inbox.old log stage untaken → is_open log ≡ true
+        → CanReset side log session (option_copied ending.entry) → OnOk result (Sends side log stage untaken (close_actions (session_id session) (option_copied ending.entry)) inbox.new) }
+{
+    let Some(ending) = ending else {
+        return Ok(());
+    };
+    match ending.kind() {
+        EndingKind::ByFault(code) => close_with(inbox, alloc, *code),
+        EndingKind::BySession(_, _, by_capsule) => {
+            reset_if(inbox, *by_capsule, session_id(session))?;
+            close_with(inbox, alloc, ErrorCode::NoError)
+        }
+    }
+}
+
+// ---- all of it
+
+/// What goes out after a moment, in its order: the control stream as far as credit goes, the stops, and the ending.
+///
+/// # Errors
+///
+/// `OutOfMemory` where an action found no memory; a part of it may be out then.
+pub fn flush(
+    inbox: &mut Inbox,
+    alloc: Global,
+    opened: &mut bool,
+    sent: &mut usize,
+    session: Option<(StreamId, usize)>,
+    progress: &Progress,
+) -> Result<(), OutOfMemory>
+    ensures log { (side : Side) (log : Log) (stage : ℕ → Stage) (untaken : List Action) → Refines side inbox.old log stage untaken → is_open log ≡ true
+        → control_sent side log ≡ record { opened = opened.old; sent = sent.old } → MayFlush side log session progress.now
+        → OnOk result (Flushes side log stage untaken (actions_after (transport_view side log) (control_sent side log) session progress.now) inbox.new (record { opened = opened.new; sent = sent.new })) }
+{
+    flush_control(inbox, alloc, opened, sent)?;
+    stop_all(inbox, progress.stops())?;
+    flush_ending(inbox, alloc, session, progress.ending())
+}
