@@ -1,6 +1,6 @@
 -- What the steps within a moment leave, from what their calls ensure.
 use Rattle.std.proofs.Common.{◌≡◌, ℕ, Bool, true, false, List, refl, sym, ap, subst, ◌∙◌}
-use Rattle.std.specs.Prelude.{◌==◌, ◌&&◌, Option, Some, None, Result, Ok, Err, OnOk}
+use Rattle.std.specs.Prelude.{◌==◌, ◌&&◌, Option, Some, None}
 use Rattle.wt_driver_state.specs.DriverValue.{DriverValue, with_state}
 use Rattle.wt_driver_state.specs.Moving.{Moves}
 use Rattle.wt_scan.specs.Scanning.{Scans, known_by, rule_of}
@@ -26,10 +26,6 @@ use Rattle.wt_wire.specs.declared.side.Side.{Side}
 and_parts_right : (a b : Bool) → (a && b) ≡ true → b ≡ true
 and_parts_right true b e = e
 and_parts_right false b e = absurd cc
-
-pub on_ok : {T E P Q : Type 0} (r : Result T E) → (P → Q) → OnOk r P → OnOk r Q
-on_ok (Ok x) f p = f p
-on_ok (Err e) f p = p
 
 module _ (side : Side) (log : Log) (untaken : List Action) where
   -- the connection stands as the log says

@@ -4,7 +4,8 @@ use Rattle.std.specs.Prelude.{◌&&◌, ◌==◌, Option, Some, None, Result, Ok
 use Rattle.std.proofs.lemmas.Bool.{and_parts}
 use Rattle.std.proofs.lemmas.List.{drop_more, drop_all}
 use Rattle.wt_flush.proofs.FlushFacts.{counts-more, receives-on}
-use Rattle.wt_driver_state.proofs.Moved.{on_ok, open-is}
+use Rattle.std.proofs.lemmas.Result.{on_ok_weaker}
+use Rattle.wt_driver_state.proofs.Moved.{open-is}
 use Rattle.wt_driver_state.proofs.SettingsKept.{idle-keeps}
 use Rattle.wt_driver_state.proofs.StageMoments.{late-staged}
 use Rattle.wt_driver_state.proofs.StageWork.{datagram-waits}
@@ -232,7 +233,7 @@ event-follows side log taken turn e d new r is t work same = subst (λ (l : Log)
   where
     by : (o : Bool) → is_open log ≡ o → OnOk r (Follows side new (flush side (event_entry o e ∷ log)) taken)
     by true o = work (Reported e) (t.counted o)
-    by false o = on_ok r (λ (g : d.state.is_open ≡ false → new ≡ d). subst (λ (v : DriverValue). Follows side v (log_and_flush side log (ReportedLate e)) taken) (sym (g (t.ended o))) (t.late o)) same
+    by false o = on_ok_weaker r (λ (g : d.state.is_open ≡ false → new ≡ d). subst (λ (v : DriverValue). Follows side v (log_and_flush side log (ReportedLate e)) taken) (sym (g (t.ended o))) (t.late o)) same
 
 -- a byte's moment
 pub byte-follows : (side : Side) (log : Log) (taken : ℕ) (d : DriverValue) (f : Follows side d log taken) (id byte : ℕ) (mid new : DriverValue) (r : Result (Unit {0}) OutOfMemory)
@@ -244,7 +245,7 @@ byte-follows side log taken d f id byte mid new r x s q k work same = by (is_ope
         → OnOk r (Follows side new (if o then log_and_flush side log (Received id byte) else log) taken)
     by true o y = work (Received id byte) (byte-taken side log taken d f id byte mid o y s q k)
     by false o y =
-        on_ok r
+        on_ok_weaker r
         (λ (g : mid.state.is_open ≡ false → new ≡ mid).
         subst (λ (v : DriverValue). Follows side v log taken) (sym (g (ap (λ (k : DriverState). k.is_open) s ∙ open-is side log (untaken_since taken log) mid.inbox f.refines.stage y ∙ o)))
         (unchanged-follows side log taken d f mid y s q k))

@@ -1,5 +1,5 @@
 use Rattle.wt_flush.proofs.FlushedWhole.{all-sent, log_sent, log_stopped, sent-open, sent-stops, stopped-open, stopped-reset, untaken_sent, untaken_stopped}
-use Rattle.wt_driver_state.proofs.Moved.{on_ok}
+use Rattle.std.proofs.lemmas.Result.{on_ok_weaker}
 use Rattle.wt_flush.proofs.flush.flush.Goals as goal
 
 pub returns : goal.returns
@@ -12,5 +12,5 @@ returns c = record {
       (rw c.stops.ensures (sent-stops side log stage untaken session p o may)) in
       let third = c.flush_ending.ensures.log side (log_stopped side log stage untaken session p o may) stage (untaken_stopped side log stage untaken session p o may) (rw c.stops.ensures at second) (stopped-open side log stage untaken session p o may)
       (rw c.ending.ensures (stopped-reset side log stage untaken session p o may)) in
-      on_ok c.flush_ending.result (all-sent side log stage untaken session p o may c.flush_control.new.inbox c.flush_ending.new.inbox _ f) (rw c.ending.ensures at third);
+      on_ok_weaker c.flush_ending.result (all-sent side log stage untaken session p o may c.flush_control.new.inbox c.flush_ending.new.inbox _ f) (rw c.ending.ensures at third);
 }

@@ -1,7 +1,7 @@
 use Rattle.std.proofs.Common.{ap, sym, ◌∙◌, Some}
 use Rattle.std.specs.Option.{option_copied}
 use Rattle.wt_flush.proofs.Flushed.{ending_open, ending_resets, ending_sends}
-use Rattle.wt_driver_state.proofs.Moved.{on_ok}
+use Rattle.std.proofs.lemmas.Result.{on_ok_weaker}
 use Rattle.wt_dispatch.specs.Places.{ending_of}
 use Rattle.wt_seam_spec.specs.Joined.{newest_first}
 use Rattle.wt_spec.specs.Driver.{reset_if, session_id}
@@ -17,5 +17,5 @@ returns-in_ok-reset_if-in-BySession c = record {
       let is = ap option_copied c.in-Some.is ∙ ap (λ (e : Ending). Some e) (sym c.kind.ensures ∙ ap ending_of c.in-BySession.is) in
       let first = c.in_ok-reset_if-in-BySession.ensures.log side log stage untaken r o (rw c.session_id.ensures (ending_resets side log stage untaken c.args.session _ _ b _ is can)) in
       let second = c.close_with-in-BySession.ensures.log side (with_actions (reset_if b id) log) stage (newest_first (reset_if b id) untaken) (rw c.session_id.ensures at first) (ending_open side log stage untaken c.args.session _ _ b _ is o) in
-      on_ok c.close_with-in-BySession.result (ending_sends side log stage untaken c.args.session _ _ b _ is c.close_with-in-BySession.new.inbox) second;
+      on_ok_weaker c.close_with-in-BySession.result (ending_sends side log stage untaken c.args.session _ _ b _ is c.close_with-in-BySession.new.inbox) second;
 }

@@ -1,5 +1,5 @@
 use Rattle.std.proofs.Common.{◌∙◌}
-use Rattle.wt_driver_state.proofs.Moved.{on_ok}
+use Rattle.std.proofs.lemmas.Result.{on_ok_weaker}
 use Rattle.wt_driver_state.proofs.AcceptUses.{may-poll}
 use Rattle.wt_seam_spec.specs.Outgoing.{if_open}
 use Rattle.wt_turn.specs.Log.{with_actions}
@@ -13,4 +13,4 @@ returns-clause-log c = λ side log taken f.
     c.called.ensures.log side closed taken g (may-poll side closed taken c.close_if_open.new.self g)
 
 pub returns-clause-has_given : goal.returns-clause-has_given
-returns-clause-has_given c = on_ok c.called.result (λ e. e ∙ c.in_ok-close_if_open.ensures.has_given) c.called.ensures.has_given
+returns-clause-has_given c = on_ok_weaker c.called.result (λ e. e ∙ c.in_ok-close_if_open.ensures.has_given) c.called.ensures.has_given

@@ -1,5 +1,5 @@
 use Rattle.std.proofs.Common.{◌∙◌}
-use Rattle.wt_driver_state.proofs.Moved.{on_ok}
+use Rattle.std.proofs.lemmas.Result.{on_ok_weaker}
 use Rattle.wt_driver_state.proofs.Calling.{accepted-taken}
 use Rattle.wt_turn.specs.Log.{Called, StreamAccepted}
 use Rattle.wt_driver.proofs.driver.Driver.give_stream.Goals as goal
@@ -8,4 +8,4 @@ pub returns-clause-log : goal.returns-clause-log
 returns-clause-log c = λ side log taken f a. c.work.ensures.log side log (Called (StreamAccepted c.args.id)) taken (accepted-taken side log taken c.args.self.now f c.release.new.self c.args.id c.release.ensures.release a)
 
 pub returns-clause-has_given : goal.returns-clause-has_given
-returns-clause-has_given c = on_ok c.work.result (λ e. e ∙ c.release.ensures.has_given) c.work.ensures.has_given
+returns-clause-has_given c = on_ok_weaker c.work.result (λ e. e ∙ c.release.ensures.has_given) c.work.ensures.has_given

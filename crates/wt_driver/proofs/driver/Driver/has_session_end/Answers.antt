@@ -1,5 +1,6 @@
 use Rattle.std.proofs.Common.{refl}
-use Rattle.wt_driver_state.proofs.Moved.{on_ok, progress-moved}
+use Rattle.std.proofs.lemmas.Result.{on_ok_weaker}
+use Rattle.wt_driver_state.proofs.Moved.{progress-moved}
 use Rattle.wt_driver.proofs.driver.Driver.has_session_end.Goals as goal
 
 pub returns-clause-answer : goal.returns-clause-answer
@@ -8,4 +9,4 @@ returns-clause-answer c = rw (← c.self.view_is) (λ side log stage untaken at 
 pub returns-clause-log : goal.returns-clause-log
 returns-clause-log c = rw (← c.self.view_is)
     (λ side log stage untaken at r e.
-    on_ok c.has_session_end.result (λ q. progress-moved side log untaken _ c.has_session_end.new.self stage _ _ r q refl) (c.has_session_end.ensures.log side log stage untaken r at e))
+    on_ok_weaker c.has_session_end.result (λ q. progress-moved side log untaken _ c.has_session_end.new.self stage _ _ r q refl) (c.has_session_end.ensures.log side log stage untaken r at e))

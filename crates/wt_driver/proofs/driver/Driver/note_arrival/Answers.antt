@@ -1,5 +1,5 @@
 use Rattle.std.proofs.Common.{sym, ap, ◌∙◌}
-use Rattle.wt_driver_state.proofs.Moved.{on_ok}
+use Rattle.std.proofs.lemmas.Result.{on_ok_weaker}
 use Rattle.wt_driver_state.proofs.Turning.{bi-arrives, uni-arrives}
 use Rattle.wt_driver_state.specs.Arriving.{arrived}
 use Rattle.wt_spec.specs.Turns.{event_of}
@@ -9,12 +9,12 @@ use Rattle.wt_driver.proofs.driver.Driver.note_arrival.Goals as goal
 
 pub returns-in-PeerUni-clause-log : goal.returns-in-PeerUni-clause-log
 returns-in-PeerUni-clause-log c = λ side log stage untaken r o.
-    on_ok c.open_peer_uni.result
+    on_ok_weaker c.open_peer_uni.result
     (λ e. e ∙ uni-arrives side log stage untaken c.args.self.now r o ∙ ap (λ (t : Turn). arrived (transport_view side log) (event_of t) c.args.self.now) (sym c.in-PeerUni.is))
     c.open_peer_uni.ensures
 
 pub returns-in-PeerBi-clause-log : goal.returns-in-PeerBi-clause-log
 returns-in-PeerBi-clause-log c = λ side log stage untaken r o.
-    on_ok c.open_peer_bi.result
+    on_ok_weaker c.open_peer_bi.result
     (λ e. e ∙ bi-arrives side log stage untaken c.args.self.now r o ∙ ap (λ (t : Turn). arrived (transport_view side log) (event_of t) c.args.self.now) (sym c.in-PeerBi.is))
     c.open_peer_bi.ensures

@@ -1,4 +1,4 @@
-use Rattle.wt_driver_state.proofs.Moved.{on_ok}
+use Rattle.std.proofs.lemmas.Result.{on_ok_weaker}
 use Rattle.std.proofs.Common.{sym, subst, ◌∙◌}
 use Rattle.wt_driver_state.proofs.Turning.{event-noted, on-four}
 use Rattle.wt_driver_state.specs.Tie.{untaken_since}
@@ -17,4 +17,4 @@ returns-clause-log c = λ side log taken e f is.
     c.record_turn.ensures.state c.record_turn.ensures.queue c.record_turn.ensures.settings
 
 pub returns-clause-has_given : goal.returns-clause-has_given
-returns-clause-has_given c = on_ok c.record_turn.result (λ e. e ∙ c.in_ok-note_arrival_while_open.ensures.has_given) c.record_turn.ensures.has_given
+returns-clause-has_given c = on_ok_weaker c.record_turn.result (λ e. e ∙ c.in_ok-note_arrival_while_open.ensures.has_given) c.record_turn.ensures.has_given

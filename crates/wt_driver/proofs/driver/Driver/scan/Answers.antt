@@ -1,6 +1,7 @@
 use Rattle.wt_driver_state.specs.DriverValue.{DriverValue}
 use Rattle.std.proofs.Common.{◌≡◌, ℕ, List, sym, ap, subst, ◌∙◌}
-use Rattle.wt_driver_state.proofs.Moved.{moves-on, on_ok, reads-on, state-moves}
+use Rattle.std.proofs.lemmas.Result.{on_ok_weaker}
+use Rattle.wt_driver_state.proofs.Moved.{moves-on, reads-on, state-moves}
 use Rattle.wt_driver_state.specs.PeerSettings.{settings_checked}
 use Rattle.wt_driver_state.specs.Moving.{HasDatagram, MayCheck, Moves, front_of}
 use Rattle.wt_scan.specs.Scanning.{AllAwait, SlotsReceive}
@@ -46,7 +47,7 @@ returns-clause-log c = λ side log stage untaken r o h w g.
     let due : HasDatagram side log d3 =
     subst (λ (q : List (List ℕ)). t.datagram d3.state.datagrams ≡ front_of q) (sym a3.queue)
     (subst (λ (s : DriverState). t.datagram s.datagrams ≡ front_of d0.queue) (sym a3.state_is) h) in
-    on_ok c.run_checks.result
+    on_ok_weaker c.run_checks.result
     (λ m4.
     subst (λ (z : ℕ → Stage). Moves side log untaken d0 d4 z (run_checks t s3) (settings_checked t s3 d0.settings)) (ap (λ (s : DriverState). check_stages t s st3) a3.state_is)
     (reads-on side log untaken d0 d3 d4 st3 (check_stages t d3.state st3) s3 (run_checks t) d0.settings (settings_checked t) a3 m4))
@@ -54,6 +55,6 @@ returns-clause-log c = λ side log stage untaken r o h w g.
 
 pub returns-clause-has_given : goal.returns-clause-has_given
 returns-clause-has_given c =
-    on_ok c.run_checks.result
+    on_ok_weaker c.run_checks.result
     (λ e. e ∙ c.in_ok-scan_bis.ensures.has_given ∙ c.in_ok-scan_unis.ensures.has_given ∙ ap (λ (v : DriverValue). v.has_given_settings) c.begin_scan.ensures)
     c.run_checks.ensures.has_given

@@ -1,5 +1,5 @@
 use Rattle.std.proofs.Common.{◌∙◌}
-use Rattle.wt_driver_state.proofs.Moved.{on_ok}
+use Rattle.std.proofs.lemmas.Result.{on_ok_weaker}
 use Rattle.wt_driver_state.proofs.Turning.{byte-follows}
 use Rattle.wt_driver_state.specs.Tie.{untaken_since}
 use Rattle.wt_driver.proofs.driver.Driver.take_byte.Goals as goal
@@ -11,4 +11,4 @@ returns-clause-log c = λ side log taken f may.
     (λ m in_. c.work.ensures.log side log m taken in_) c.work.ensures.closed
 
 pub returns-clause-has_given : goal.returns-clause-has_given
-returns-clause-has_given c = on_ok c.work.result (λ e. e ∙ c.in_ok-note_byte.ensures.has_given) c.work.ensures.has_given
+returns-clause-has_given c = on_ok_weaker c.work.result (λ e. e ∙ c.in_ok-note_byte.ensures.has_given) c.work.ensures.has_given

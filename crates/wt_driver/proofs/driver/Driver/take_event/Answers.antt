@@ -1,5 +1,5 @@
 use Rattle.std.proofs.Common.{◌∙◌}
-use Rattle.wt_driver_state.proofs.Moved.{on_ok}
+use Rattle.std.proofs.lemmas.Result.{on_ok_weaker}
 use Rattle.wt_driver_state.proofs.Turning.{event-follows}
 use Rattle.wt_driver.proofs.driver.Driver.take_event.Goals as goal
 
@@ -8,4 +8,4 @@ returns-clause-log c = λ side log taken e f is.
     event-follows side log taken c.args.turn.now e c.note_turn.new.self c.work.new.self c.work.result is (c.in_ok-note_turn.ensures.log side log taken e f is) (λ m in_. c.work.ensures.log side log m taken in_) c.work.ensures.closed
 
 pub returns-clause-has_given : goal.returns-clause-has_given
-returns-clause-has_given c = on_ok c.work.result (λ e. e ∙ c.in_ok-note_turn.ensures.has_given) c.work.ensures.has_given
+returns-clause-has_given c = on_ok_weaker c.work.result (λ e. e ∙ c.in_ok-note_turn.ensures.has_given) c.work.ensures.has_given
