@@ -29,7 +29,7 @@ use Rattle.wt_wire.specs.declared.side.StreamEnd.{StreamEnd}
 -- ---- what is classified is dequeued
 
 -- each classified stream is dequeued
-abbrev AllDequeued : StreamTable → Type 0
+abbrev pub AllDequeued : StreamTable → Type 0
 AllDequeued s = (j : ℕ) (v : Verdict) → verdict_of j s.classified ≡ Some v → has j s.dequeued ≡ true
 
 module _ (ready : Bool) (d : CallView) (rule : SlotRule) where
@@ -50,11 +50,11 @@ module _ (ready : Bool) (d : CallView) (rule : SlotRule) where
       classify-dequeued (is_final (rule.verdict k)) k (record p { table = with_dequeued k p.table }) (dequeued-here k p.table.dequeued)
       (λ j v e. dequeued-stays k j p.table.dequeued (all j v e))
 
-  visit-dequeued : (o : Option Verdict) (k : ℕ) (p : Scan) → AllDequeued p.table → AllDequeued (visit ready d rule k o p).table
+  pub visit-dequeued : (o : Option Verdict) (k : ℕ) (p : Scan) → AllDequeued p.table → AllDequeued (visit ready d rule k o p).table
   visit-dequeued (Some v) k p all = all
   visit-dequeued None k p all = dequeue-dequeued (has k p.table.dequeued || (ready && nat_lt p.occupied rule.slots)) k p all
 
-  scan-dequeued : (ks : List ℕ) (p : Scan) → AllDequeued p.table → AllDequeued (scan ready d rule ks p).table
+  pub scan-dequeued : (ks : List ℕ) (p : Scan) → AllDequeued p.table → AllDequeued (scan ready d rule ks p).table
   scan-dequeued [] p all = all
   scan-dequeued (k ∷ ks) p all = by p.table.progress.ending (scan-dequeued ks q (visit-dequeued (verdict_of k p.table.classified) k p all))
     where
@@ -72,7 +72,7 @@ dequeued-where true t d s all =
     scan-dequeued t.ready d (bi_rule t) (bi_ids t) (record { occupied = 0; table = scan_unis t d (without_stops s) })
     (scan-dequeued t.ready d (uni_rule t) (uni_ids t) (record { occupied = 0; table = without_stops s }) all)
 
-all-dequeued : (side : Side) (log : Log) → AllDequeued (stream_table side log)
+pub all-dequeued : (side : Side) (log : Log) → AllDequeued (stream_table side log)
 unfolding stream_table
 all-dequeued side [] = λ j v e. absurd cc
 all-dequeued side (m ∷ log) = dequeued-where (is_moment m && is_open (m ∷ log)) (transport_view side (m ∷ log)) (call_view (m ∷ log)) (stream_table side log) (all-dequeued side log)
@@ -80,11 +80,11 @@ all-dequeued side (m ∷ log) = dequeued-where (is_moment m && is_open (m ∷ lo
 -- ---- how many hold a slot
 
 -- the stream unreleased a slot
-abbrev unreleased : CallView → StreamTable → ℕ → Bool
+abbrev pub unreleased : CallView → StreamTable → ℕ → Bool
 unreleased d s k = unreleased_by (d.released k) (verdict_of k s.classified)
 
 -- how many of these aren't
-abbrev held : CallView → StreamTable → List ℕ → ℕ
+abbrev pub held : CallView → StreamTable → List ℕ → ℕ
 held d s [] = 0
 held d s (k ∷ ks) = one_more_if (unreleased d s k) (held d s ks)
 
@@ -99,7 +99,7 @@ held-append d s [] k = refl
 held-append d s (j ∷ ks) k = ap (one_more_if (unreleased d s j)) (held-append d s ks k) ∙ both-counted (unreleased d s j) (unreleased d s k) (held d s ks)
 
 -- those of the first n streams of a kind
-held-before : (side : Side) (log : Log) (kind n : ℕ) → unreleased_before side log kind n ≡ held (call_view log) (stream_table side log) (stream_ids kind 0 n)
+pub held-before : (side : Side) (log : Log) (kind n : ℕ) → unreleased_before side log kind n ≡ held (call_view log) (stream_table side log) (stream_ids kind 0 n)
 held-before side log kind zero = refl
 held-before side log kind (suc n) =
     ap (one_more_if (is_unreleased side log (4 * n + kind))) (held-before side log kind n)
@@ -107,7 +107,7 @@ held-before side log kind (suc n) =
     ∙ ap (held (call_view log) (stream_table side log)) (sym (ids-more kind 0 n n (omega arith)))
 
 -- the ids of a kind, at the nth
-ids-at : (kind from n count m : ℕ) → m ≡ from + n → n < count → (more : List ℕ) × (stream_ids kind from count ≡ stream_ids kind from n ++ (4 * m + kind) ∷ more)
+pub ids-at : (kind from n count m : ℕ) → m ≡ from + n → n < count → (more : List ℕ) × (stream_ids kind from count ≡ stream_ids kind from n ++ (4 * m + kind) ∷ more)
 ids-at kind from n zero m e low = absurd (omega (arith, low))
 ids-at kind from zero (suc count) m e low = (stream_ids kind (suc from) count, (let same : from ≡ m = omega (arith, e) in ap (λ (i : ℕ). (4 * i + kind) ∷ stream_ids kind (suc from) count) same))
 ids-at kind from (suc n) (suc count) m e low =
@@ -213,7 +213,7 @@ module _ (ready : Bool) (d : CallView) (rule : SlotRule) where
   dequeue-counts false k p none = rw none (sym (add-one p.occupied))
   dequeue-counts true k p none = classify-counts (is_final (rule.verdict k)) k (record p { table = with_dequeued k p.table }) none
 
-  visit-counts : (o : Option Verdict) (k : ℕ) (p : Scan) → verdict_of k p.table.classified ≡ o → (visit ready d rule k o p).occupied ≡ one_more_if (unreleased d (visit ready d rule k o p).table k) p.occupied
+  pub visit-counts : (o : Option Verdict) (k : ℕ) (p : Scan) → verdict_of k p.table.classified ≡ o → (visit ready d rule k o p).occupied ≡ one_more_if (unreleased d (visit ready d rule k o p).table k) p.occupied
   visit-counts (Some v) k p e = rw e (counts-so (is_released (d.released k) v) p.occupied)
   visit-counts None k p e = dequeue-counts (has k p.table.dequeued || (ready && nat_lt p.occupied rule.slots)) k p e
 
@@ -383,7 +383,7 @@ was-ready side (m ∷ log) j e = by (is_moment m && is_open (m ∷ log)) e (was-
 
 -- ---- as they are claimed
 
-none-where : (o : Option Verdict) → is_some o ≡ false → o ≡ None
+pub none-where : (o : Option Verdict) → is_some o ≡ false → o ≡ None
 none-where None e = refl
 none-where (Some v) e = absurd cc
 

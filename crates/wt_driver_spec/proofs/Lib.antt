@@ -2,6 +2,7 @@ pub mod ScanSlots
 pub mod ClassifiedOnce
 pub mod MomentScan
 pub mod StreamIds
+pub mod NextStreams
 pub mod Following
 pub mod Bounded
 pub mod Resting
@@ -16,6 +17,7 @@ pub mod DistinctSlots
 pub mod ScanLoop
 pub mod AcceptLoop
 pub mod Dequeues
+pub mod LookOrder
 pub mod Theorems
 pub mod ControlStream
 pub mod Asked

@@ -12,13 +12,13 @@ use Rattle.wt_spec.specs.StreamTable.{TransportView}
 use Rattle.wt_wire.specs.declared.side.Side.{Side}
 use Rattle.wt_wire.specs.declared.side.Side.TheVariants.{Client, Server}
 
-record Among (kind n count k : ℕ) : Type 0 where
-  place : ℕ
-  from : n ≤ place
-  below : place < n + count
-  is : k ≡ 4 * place + kind
+pub record Among (kind n count k : ℕ) : Type 0 where
+  pub place : ℕ
+  pub from : n ≤ place
+  pub below : place < n + count
+  pub is : k ≡ 4 * place + kind
 
-among : (kind n count k : ℕ) → has k (stream_ids kind n count) ≡ true → Among kind n count k
+pub among : (kind n count k : ℕ) → has k (stream_ids kind n count) ≡ true → Among kind n count k
 among kind n zero k e = absurd cc
 among kind n (suc count) k e = by (4 * n + kind == k) refl e (among kind (suc n) count k)
   where

@@ -7,5 +7,6 @@ pub mod AtOnce
 pub mod Rest
 pub mod Claims
 pub mod Dequeued
+pub mod LookOrder
 pub mod Uses
 pub mod Asking

@@ -4,6 +4,7 @@ ghost use Rattle.wt_driver_spec.specs.Bounds.{Bounded, HasDistinctSlots};
 ghost use Rattle.wt_driver_spec.specs.Claims.{AcceptFollows, ByteRests, DequeuedAsk, IsOnce, MomentFollows, NothingLeft, ReceiveFollows, RestsOn, StreamsStay};
 ghost use Rattle.wt_driver_spec.specs.Dequeued.{StreamsDequeued};
 ghost use Rattle.wt_driver_spec.specs.DriverState.{state_of};
+ghost use Rattle.wt_driver_spec.specs.LookOrder.{LooksInOrder};
 ghost use Rattle.wt_driver_spec.specs.Moment.{Fits, MayCall, MayFollow};
 ghost use Rattle.wt_driver_spec.specs.Rest.{AtRest, FitsAndRests, IsQuiet, RestsWhileOpen};
 ghost use Rattle.wt_driver_spec.specs.Step.{after_call};
@@ -76,4 +77,12 @@ pub fn streams_are_classified_once()
 pub fn streams_are_dequeued_in_turn()
     ensures dequeued { (side : Side) (log : Log) → FitsAndRests side log → StreamsDequeued side log }
     ensures turns { (side : Side) (all : List Turn) → StreamsDequeued side (log_from side [] all) }
+{}
+
+/// The streams that a moment classifies stand in the order in which it looks at them: unidirectional ones
+/// before bidirectional ones, those of a kind by id. None that is looked at before one of them is passed
+/// over.
+#[tactic(auto, using(crate::proofs::LookOrder::look_order_theorem))]
+pub fn streams_are_looked_at_in_order()
+    ensures { (side : Side) (e : Entry) (log : Log) → LooksInOrder side e log }
 {}

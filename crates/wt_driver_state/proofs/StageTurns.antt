@@ -10,7 +10,8 @@ use Rattle.url.specs.Parser.{parse_url}
 use Rattle.url.specs.Parts.{host_or_empty}
 use Rattle.wt_driver_state.proofs.StageMoments.{moment-uses, actions-use}
 use Rattle.wt_driver_state.proofs.StageScans.{verdict-found, verdict_in}
-use Rattle.wt_driver_state.proofs.StageUses.{answering-queued, is_answering, connecting-side, due-uses, ends-at, established-opened, half-uses, next-given, opened-stays, opening-uses, queued-found, responding-side}
+use Rattle.wt_driver_spec.proofs.NextStreams.{next-given}
+use Rattle.wt_driver_state.proofs.StageUses.{answering-queued, is_answering, connecting-side, due-uses, ends-at, established-opened, half-uses, opened-stays, opening-uses, queued-found, responding-side}
 use Rattle.wt_driver_spec.specs.Uses.{MayUse, RequestOpened, Uses, classified_of, is_sessions, queued_at, role_of, session_at}
 use Rattle.wt_driver_spec.proofs.ClassifiedOnce.{In}
 use Rattle.wt_driver_spec.proofs.Following.{actions-fit, moment-fits}

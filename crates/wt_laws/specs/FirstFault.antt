@@ -50,7 +50,7 @@ pub record PassesUpToControl (side : Side) (log : Log) (before after : StreamTab
 -- last (`FaultIsLast`), or that it is a second one of a kind that comes once; the datagram that the moment takes, where it is none;
 -- the session's fault or its end; that the peer stopped this end's control stream; the fault of the peer's control stream, the
 -- first that was classified; the end of a QPACK stream of the peer's.
--- Which of several streams the moment looks at first isn't said here. And exactly where what comes before the peer's control stream
+-- Which of several streams the moment looks at first stands in `LooksInOrder`. And exactly where what comes before the peer's control stream
 -- passes, SETTINGS that the walk over it has read come, whatever ends the connection then (`SettingsComeRead`: at no other entry).
 pub record TellsFirst (side : Side) (log : Log) (before after : StreamTable) : Type 0 where
   pub stream : (earlier : List Classified) (c : Classified) (code : ErrorCode) → after.classified ≡ earlier ++ c ∷ [] → c.verdict ≡ verdicts.Fault code → after.progress.ending ≡ Some (ByFault code)

@@ -1,25 +1,20 @@
 -- The streams of calls are there, and have their halves.
-use Rattle.std.specs.Prelude.{[], ◌%◌, ◌&&◌, ◌+◌, ◌/◌, ◌<◌, ◌==◌, ◌∷◌, ◌≡◌, ◌≢◌, ◌≤◌, ◌⊎◌, Bool, List, None, Option, Some, drop, false, if◌then◌else◌, is_some, nat_lt, not, suc, true, zero, ℕ}
+use Rattle.std.specs.Prelude.{[], ◌%◌, ◌&&◌, ◌+◌, ◌/◌, ◌<◌, ◌==◌, ◌∷◌, ◌≡◌, ◌≢◌, ◌≤◌, ◌⊎◌, Bool, List, Option, false, if◌then◌else◌, is_some, nat_lt, not, suc, true, zero, ℕ}
 use Rattle.std.proofs.Common.{◌∙◌, ap, arith, inl, inr, refl, subst, sym}
 use Rattle.std.proofs.lemmas.Bool.{and_from, and_parts, eqb-true, lt-ltb, ltb-true, not-true}
 use Rattle.std.specs.List.{list_any}
-use Rattle.wt_proto.specs.Uni.{at_stream_end, or_at_stream_end, session_header_at, session_verdict, typed_header_at, uni_verdict_of}
-use Rattle.wt_proto.specs.declared.verdict.Verdict.{Verdict}
 use Rattle.wt_proto.specs.declared.verdict.Verdict.TheVariants as verdicts
-use Rattle.wt_message.specs.StreamTypes.{control_type, decoder_type, encoder_type, webtransport_type}
 use Rattle.wt_seam_spec.specs.Reports.{end_of}
 use Rattle.wt_seam_spec.specs.Streams.{can_receive, can_send, contents, exists, local_bi, local_count, local_uni, one_more_if, peer_bi, peer_count, peer_opens, peer_uni}
 use Rattle.wt_turn.specs.Log.{Called, Log, Received, Reported, ReportedLate, Sent, actions_of, all_events_of, calls_of, events_of}
-use Rattle.wt_wire.specs.Varint.{varint_at}
 use Rattle.wt_wire.specs.declared.side.Side.{Side}
 use Rattle.wt_wire.specs.declared.side.Side.TheVariants.{Client, Server}
-use Rattle.wt_wire.specs.declared.side.StreamEnd.{StreamEnd}
-use Rattle.wt_wire.specs.declared.side.StreamEnd.TheVariants as ends
 use Rattle.wt_laws.proofs.Classified.{are-peers, eq-turned}
 use Rattle.wt_laws.proofs.Facts.{HasBi, HasUni, HasVerdict, IsSessions, is_local}
 use Rattle.wt_laws.proofs.HeaderLaws.{Heads}
 use Rattle.wt_laws.proofs.Looks.{from-or}
 use Rattle.wt_laws.proofs.ReadLaws.{local-unclassified}
+use Rattle.wt_laws.proofs.RequestLaws.{uni-no-request}
 use Rattle.wt_laws.proofs.SessionLaws.{HadRequest}
 use Rattle.wt_laws.proofs.SessionStream.{Out}
 use Rattle.wt_laws.specs.Laws.{is_session_stream}
@@ -81,41 +76,6 @@ is-local-bi Server = refl
 pub is-local-uni : (side : Side) → is_local side (local_uni side) ≡ true
 is-local-uni Client = refl
 is-local-uni Server = refl
-
--- ---- a request comes on a bidirectional stream
-
-ends-no-request : (end : StreamEnd) → is_request (at_stream_end end) ≡ false
-ends-no-request ends.Running = refl
-ends-no-request ends.Fin = refl
-ends-no-request (ends.Reset code) = refl
-
-module _ (end : StreamEnd) where
-  abbrev NoRequest : Option (Verdict × ℕ) → Type 0
-  NoRequest o = is_request (or_at_stream_end end o) ≡ false
-
-  no-request-if : (b : Bool) (x y : Option (Verdict × ℕ)) → NoRequest x → NoRequest y → NoRequest (if b then x else y)
-  no-request-if true x y p q = p
-  no-request-if false x y p q = q
-
-  no-request-session : (at : ℕ) (o : Option (ℕ × ℕ)) → NoRequest (session_header_at at o)
-  no-request-session at None = ends-no-request end
-  no-request-session at (Some s) = by (s.0 % 4 == 0)
-    where
-      by : (b : Bool) → is_request (if b then verdicts.WebTransport s.0 (at + s.1) else session_verdict 1 0) ≡ false
-      by true = refl
-      by false = refl
-
-  no-request-typed : (bytes : List ℕ) (o : Option (ℕ × ℕ)) → NoRequest (typed_header_at bytes o)
-  no-request-typed bytes None = ends-no-request end
-  no-request-typed bytes (Some t) =
-      no-request-if (t.0 == control_type) _ _ refl
-      (no-request-if (t.0 == encoder_type) _ _ refl
-      (no-request-if (t.0 == decoder_type) _ _ refl
-      (no-request-if (t.0 == webtransport_type) _ _ (no-request-session t.1 (varint_at (drop t.1 bytes))) refl)))
-
-uni-no-request : (bytes : List ℕ) (end : StreamEnd) → is_request (uni_verdict_of bytes end) ≡ false
-unfolding uni_verdict_of
-uni-no-request bytes end = no-request-typed end bytes (varint_at bytes)
 
 module _ (side : Side) (log : Log) (h : Heads side log) where
   -- ---- what the application was given

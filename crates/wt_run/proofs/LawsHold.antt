@@ -1,6 +1,7 @@
 -- Every run keeps the laws.
 use Rattle.std.proofs.Common.{arith, ◌≡◌, ◌<◌, ℕ, List, length, subst, sym, take, true}
 use Rattle.wt_driver_spec.proofs.Dequeues.{dequeued_turns_theorem}
+use Rattle.wt_driver_spec.proofs.LookOrder.{look_order_theorem}
 use Rattle.wt_laws.proofs.DatagramOrEnds.{datagram-or-ends}
 use Rattle.wt_laws.proofs.DatagramTold.{datagram-told}
 use Rattle.wt_laws.proofs.EndingOut.{ending-goes-out}
@@ -55,6 +56,7 @@ driver-is-read side log r = record {
   streams = streams-faultless side log;
   once = once-each side log;
   datagram = λ e earlier goes. datagram-or-ends side e earlier;
+  order = λ e earlier goes. look_order_theorem side e earlier;
   first = λ e earlier goes. first-is-told side e earlier;
   faultless = λ e earlier goes. faultless-or-ends side e earlier;
 }

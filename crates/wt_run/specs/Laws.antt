@@ -12,6 +12,7 @@ use Rattle.wt_wire.specs.declared.lookup.ConnectOutcome.{ConnectOutcome}
 use Rattle.wt_wire.specs.declared.lookup.Lookup.{Lookup}
 use Rattle.wt_wire.specs.declared.side.Side.{Side}
 use Rattle.wt_driver_spec.specs.Dequeued.{StreamsDequeued}
+use Rattle.wt_driver_spec.specs.LookOrder.{LooksInOrder}
 use Rattle.wt_laws.specs.Datagrams.{DatagramTold}
 use Rattle.wt_laws.specs.Ended.{EndingGoesOut, PendingGoesOut}
 use Rattle.wt_laws.specs.Exactly.{AsksFirst, ConnectGoesOn, ConnectsAnswer, HeadsGoOut, MaySend, ReceivingCallsAnswer, RequestGoesOn, RequestsAnswer, ResponsesAnswer, SendingCallsAnswer, SessionCallsAnswer}
@@ -94,6 +95,7 @@ pub record DriverIsRead (side : Side) (log : Log) : Type 0 where
   pub streams : StreamsFaultless side log  -- while it ended none, no classified stream has a fault; one that has a fault is classified last
   pub once : OnceEach side log  -- while it ended none, the control stream and the QPACK streams were classified once each
   pub datagram : AtEachEntry (DatagramOrEnds side) log  -- the datagram that a moment dequeues is the next that came, and has a quarter id, or the driver ends the connection then
+  pub order : AtEachEntry (LooksInOrder side) log  -- of several streams that a moment classifies, unidirectional ones come first, then those of a kind by id, and none that is due before another is passed over
   pub first : AtEachEntry (FirstIsTold side) log  -- of several faults of one moment that of a stream before all others, then the first in the driver's order ends the connection
   pub faultless : AtEachEntry (FaultlessOrEnds side) log  -- a moment at which it doesn't end an open connection shows no fault behind the streams
 

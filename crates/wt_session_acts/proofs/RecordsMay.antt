@@ -1,14 +1,15 @@
 -- Each record of a call may be made, behind what the call sends.
-use Rattle.std.proofs.Common.{arith, ◌≡◌, ◌⊎◌, inl, inr, ℕ, zero, suc, ◌<◌, ◌≤◌, ◌+◌, ◌*◌, ◌%◌, Bool, true, false, List, [], ◌∷◌, refl, sym, ap, ◌∙◌}
+use Rattle.std.proofs.Common.{arith, ◌≡◌, ◌⊎◌, ℕ, zero, suc, ◌<◌, ◌≤◌, ◌%◌, Bool, true, false, List, [], ◌∷◌, refl, ap, ◌∙◌}
 use Rattle.std.specs.Prelude.{Option, Some, None, ◌==◌, ◌&&◌, ◌||◌, length, ℤ}
 use Rattle.std.specs.List.{list_any}
-use Rattle.std.proofs.lemmas.Bool.{eq-eqb, eqb-true, false_from_ne_true, or_left, true≢false}
+use Rattle.std.proofs.lemmas.Bool.{or_left}
+use Rattle.wt_driver_spec.proofs.NextStreams.{next-given}
 use Rattle.wt_driver_spec.specs.Moment.{is_local, names_session}
 use Rattle.wt_driver_spec.specs.Uses.{RequestOpened, classified_of, is_for_application, may_give, passes, queued_at, role_by, role_of, use_of}
 use Rattle.wt_proto.specs.ResponseWalk.{response_offset, response_walk_of}
 use Rattle.wt_seam_spec.specs.Outgoing.{next_id}
 use Rattle.wt_seam_spec.specs.Reports.{end_of}
-use Rattle.wt_seam_spec.specs.Streams.{can_send, contents, local_bi, local_count, local_uni, peer_count, stream_count}
+use Rattle.wt_seam_spec.specs.Streams.{can_send, contents, local_bi, local_count, local_uni}
 use Rattle.wt_session_acts.proofs.Behind.{calls-behind, contents-behind, events-behind, table-behind}
 use Rattle.wt_session_acts.proofs.Classified.{IsQueued}
 use Rattle.wt_session_acts.specs.Performing.{MayBeMade}
@@ -19,7 +20,7 @@ use Rattle.wt_spec.specs.Driver.{established, stream_table}
 use Rattle.wt_spec.specs.Halves.{has_receiving_half, unread_body}
 use Rattle.wt_spec.specs.Handshake.{awaits_answer, handshake_state}
 use Rattle.wt_spec.specs.StreamTable.{StreamTable, verdict_of}
-use Rattle.wt_turn.specs.Log.{BytesRead, CallRecord, ConnectStarted, HandshakeOver, Log, OpeningFailed, OpeningStarted, Polled, PrioritySet, RequestDelivered, ResetUnsent, ResponseStarted, Sent, SessionEstablished, StreamAccepted, StreamGivenUp, actions_of, all_events_of, calls_of, events_of, is_open, with_actions}
+use Rattle.wt_turn.specs.Log.{BytesRead, CallRecord, ConnectStarted, HandshakeOver, Log, OpeningFailed, OpeningStarted, Polled, PrioritySet, RequestDelivered, ResetUnsent, ResponseStarted, Sent, SessionEstablished, StreamAccepted, StreamGivenUp, actions_of, calls_of, events_of, is_open, with_actions}
 use Rattle.wt_turn.specs.declared.action.Action.{Action}
 use Rattle.wt_wire.specs.declared.side.Side.{Side}
 use Rattle.wt_wire.specs.declared.side.Side.TheVariants.{Client, Server}
@@ -95,44 +96,6 @@ server-local (suc (suc (suc (suc r)))) l e = absurd (omega arith)
 given-local : (side : Side) (k : ℕ) → may_give (role_of side k) None ≡ true → is_local side k ≡ true
 given-local Client k e = client-local (k % 4) (k == 0) (omega arith) e
 given-local Server k e = server-local (k % 4) (omega arith) e
-
-client-given : (id kind : ℕ) → id % 4 ≡ kind → (id == 0) ≡ false → (kind ≡ 2) ⊎ (kind ≡ 0) → may_give (role_of Client id) None ≡ true
-client-given id kind m ne (inl e) = rw (m ∙ e, ne) refl
-client-given id kind m ne (inr e) = rw (m ∙ e, ne) refl
-
-server-given : (id kind : ℕ) → id % 4 ≡ kind → (kind ≡ 3) ⊎ (kind ≡ 1) → may_give (role_of Server id) None ≡ true
-server-given id kind m (inl e) = rw (m ∙ e) refl
-server-given id kind m (inr e) = rw (m ∙ e) refl
-
-not-first : (n l kind : ℕ) → (kind ≡ 2) ⊎ ((kind ≡ 0) × ((l == 0) ≡ false)) → (4 * (n + l) + kind == 0) ≡ false
-not-first n l kind (inl e) = false_from_ne_true (4 * (n + l) + kind == 0) (λ f. let z = eqb-true (4 * (n + l) + kind) 0 f in omega arith)
-not-first n l kind (inr e) =
-    false_from_ne_true (4 * (n + l) + kind == 0)
-    (λ f. let z = eqb-true (4 * (n + l) + kind) 0 f in let none : l ≡ 0 = omega arith in true≢false (sym (eq-eqb l 0 none) ∙ e.1))
-
--- the next stream of this end's is the application's, where a client's request has its own
-next-given : (side : Side) (log : Log) (kind : ℕ) → RequestOpened side log → (kind ≡ local_uni side) ⊎ (kind ≡ local_bi side) → may_give (role_of side (next_id side log kind)) None ≡ true
-next-given Client log kind opened is =
-    client-given (next_id Client log kind) kind (by is) (not-first (peer_count Client (all_events_of log) kind) (local_count (actions_of log) kind) kind (placed is)) is
-  where
-    n : ℕ
-    n = stream_count Client log kind
-
-    by : (kind ≡ 2) ⊎ (kind ≡ 0) → (4 * n + kind) % 4 ≡ kind
-    by (inl e) = omega arith
-    by (inr e) = omega arith
-
-    placed : (kind ≡ 2) ⊎ (kind ≡ 0) → (kind ≡ 2) ⊎ ((kind ≡ 0) × ((local_count (actions_of log) kind == 0) ≡ false))
-    placed (inl e) = inl e
-    placed (inr e) = inr (e, ap (λ i. local_count (actions_of log) i == 0) e ∙ opened)
-next-given Server log kind opened is = server-given (next_id Server log kind) kind (by is) is
-  where
-    n : ℕ
-    n = stream_count Server log kind
-
-    by : (kind ≡ 3) ⊎ (kind ≡ 1) → (4 * n + kind) % 4 ≡ kind
-    by (inl e) = omega arith
-    by (inr e) = omega arith
 
 pub opening-made : (side : Side) (log later : Log) (kind session : ℕ) → RequestOpened side log → (kind ≡ local_uni side) ⊎ (kind ≡ local_bi side) → MayBeMade side later (OpeningStarted (next_id side log kind) session)
 opening-made side log later kind session opened is =

@@ -166,6 +166,25 @@ impl Driver {
         }
     }
 
+    /// The session's next stream of a kind, looked for as `accept` does, or what is answered where there
+    /// is none.
+    fn accept_id(
+        &mut self,
+        kind: u64,
+        session: SessionId,
+        looks: u64,
+    ) -> Result<Poll<Result<StreamId, DriverError>>, OutOfMemory>
+        ensures log { (side : Side) (log : Log) (taken : ℕ) → Follows side self.old log taken → OnOk result (Follows side self.new (take_due (log_streams side kind session) (suc looks) log).state taken) }
+        ensures given { (side : Side) (log : Log) (taken : ℕ) → Follows side self.old log taken → IfOk result (λ p. given_by p ≡ (take_due (log_streams side kind session) (suc looks) log).given) }
+        ensures nothing { IfOk result (λ p. given_by p ≡ None → p ≡ ended_or_pending (result_of self.new.state.is_open self.new.state.progress.ending)) }
+        ensures has_given { OnOk result (self.new.has_given_settings ≡ self.old.has_given_settings) }
+    {
+        match self.accept(kind, session, looks)? {
+            Some(id) => Ok(Poll::Ready(Ok(id))),
+            None => self.nothing_left(),
+        }
+    }
+
     /// The session's next unidirectional stream.
     pub fn accept_uni_id(
         &mut self,
@@ -178,10 +197,7 @@ impl Driver {
     {
         let kind = peer_uni(self.inbox.side());
         let looks = self.inbox.peer_unis();
-        match self.accept(kind, session, looks)? {
-            Some(id) => Ok(Poll::Ready(Ok(id))),
-            None => self.nothing_left(),
-        }
+        self.accept_id(kind, session, looks)
     }
 
     /// The session's next bidirectional stream.
@@ -196,10 +212,7 @@ impl Driver {
     {
         let kind = peer_bi(self.inbox.side());
         let looks = self.inbox.peer_bis();
-        match self.accept(kind, session, looks)? {
-            Some(id) => Ok(Poll::Ready(Ok(id))),
-            None => self.nothing_left(),
-        }
+        self.accept_id(kind, session, looks)
     }
 
     // ---- datagrams
