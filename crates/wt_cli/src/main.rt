@@ -7,7 +7,7 @@
 
 use std::env;
 use std::io::Error;
-use wt_ended::ended::{Ended, run};
+use wt_trace::ended::{Ended, run};
 use wt_trace::outside::standard::{StdSink, StdSource};
 
 /// The words after the program's name. The error is a word that isn't UTF-8, or out of memory.

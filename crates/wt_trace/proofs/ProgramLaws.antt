@@ -7,7 +7,7 @@ use Rattle.wt_script.specs.declared.script.ScriptRefused.{ScriptRefused}
 use Rattle.wt_commands.specs.declared.command.Command.{Command}
 use Rattle.wt_commands.specs.Command.{command_script}
 use Rattle.wt_io.specs.Input.{script_limit}
-use Rattle.wt_outcome.specs.Outcome.{script_outcome, too_long}
+use Rattle.wt_trace.specs.Outcome.{script_outcome, too_long}
 use Rattle.wt_trace.specs.Program.{AnswersInput, AnswersKeepLaws, is_run_status}
 use Rattle.wt_run.proofs.LawsHold.{laws}
 

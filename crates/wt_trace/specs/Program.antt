@@ -7,7 +7,7 @@ use Rattle.wt_run.specs.Laws.{KeepsLaws}
 use Rattle.wt_io.specs.Input.{script_limit}
 use Rattle.wt_commands.specs.declared.command.Command.{Command}
 use Rattle.wt_commands.specs.Command.{command_of, command_script}
-use Rattle.wt_outcome.specs.Outcome.{Outcome, input_outcome, run_outcome, usage}
+use Rattle.wt_trace.specs.Outcome.{Outcome, input_outcome, run_outcome, usage}
 
 -- the outcome of an input for the command that is asked for, the usage line where none is
 abbrev pub asked_outcome : Option Command → List ℕ → Outcome

@@ -5,6 +5,8 @@
 //! [`summary::Summary`] is what its answers come to.
 #![tactic(auto)]
 
+pub mod answer;
+pub mod ended;
 pub mod program;
 
 pub use program::run_program;

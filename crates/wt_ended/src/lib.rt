@@ -1,4 +1,0 @@
-//! How the command ends: with the status of its run.
-#![tactic(auto)]
-
-pub mod ended;

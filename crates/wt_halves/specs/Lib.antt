@@ -1,3 +1,0 @@
-pub mod Halves
-pub mod Lending
-pub mod Replies
