@@ -25,7 +25,7 @@ use Rattle.wt_seam_spec.specs.Streams.{local_bi, local_count, local_uni, peer_bi
 use Rattle.wt_connection.proofs.Sessions.{may_use}
 use Rattle.wt_connection.proofs.Stays.{any-stays, fails_opening, given-up-same, session-stays, unended, ungiven}
 use Rattle.wt_connection.specs.Openings.{IsOpening, OpeningStream}
-use Rattle.wt_connection.specs.Replies.{IsOneStream, ready_reply}
+use Rattle.wt_halves.specs.Replies.{IsOneStream, ready_reply}
 use Rattle.wt_connection.specs.Standing.{IfGiven, IfPending, IsEstablished}
 use Rattle.wt_spec.specs.Answers.{call_effect, in_session, is_lawful, log_after}
 use Rattle.wt_spec.specs.Connection.{accepts_stream, continue_opening, ends_opening, is_opening, open_stream, opened_reply, poll_opening, starts_opening, stream_header}

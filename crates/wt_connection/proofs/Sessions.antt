@@ -1,9 +1,9 @@
 -- The calls on the established session: their plans are those by the log, and what their replies may be.
 use Rattle.std.specs.Prelude.{[], ◌/◌, ◌∷◌, ◌≡◌, Bool, List, None, Option, Some, false, if◌then◌else◌, length, nat_lt, not, true, ℕ}
 use Rattle.std.proofs.Common.{◌∙◌, ap, refl, subst, sym}
-use Rattle.wt_connection.proofs.Told.{facts_told, leads, told}
+use Rattle.wt_halves.proofs.Told.{facts_told, leads, told}
 use Rattle.wt_connection.specs.Openings.{IsOpening, OpeningStream, opening_in, ready_in}
-use Rattle.wt_connection.specs.Replies.{closed_in, closed_reply, ready_reply, sent_in, sent_reply}
+use Rattle.wt_halves.specs.Replies.{closed_in, closed_reply, ready_reply, sent_in, sent_reply}
 use Rattle.wt_connection.specs.Standing.{IsEstablished}
 use Rattle.wt_driver_state.specs.DriverValue.{DriverValue}
 use Rattle.wt_driver_state.specs.Tie.{Follows}

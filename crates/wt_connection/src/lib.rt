@@ -1,11 +1,9 @@
-//! A session that is established, over a driver: the streams that it opens and accepts, their halves, and its
-//! datagrams.
+//! A session that is established, over a driver: the streams that it opens and accepts, and its datagrams.
+//! Offered again here are wt_halves' types of a stream's halves.
 #![tactic(auto)]
 
-pub mod bi_stream;
-pub mod calling;
 pub mod connection;
 pub mod datagram;
 pub mod opening;
-pub mod recv_stream;
-pub mod send_stream;
+
+pub use wt_halves::{bi_stream, calling, recv_stream, send_stream};

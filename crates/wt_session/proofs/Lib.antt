@@ -1,6 +1,3 @@
-pub mod Over
-pub mod Beginning
-pub mod Connects
 pub mod Delivering
 pub mod Responding
 pub mod Waits

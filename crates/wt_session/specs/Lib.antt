@@ -1,3 +1,2 @@
-pub mod Connecting
 pub mod Incoming
 pub mod Responding

@@ -8,7 +8,7 @@ ghost use Rattle.wt_laws.specs.Causes.{polls_opening};
 ghost use Rattle.wt_laws.specs.Reachable.{IsReachable};
 ghost use Rattle.wt_seam.specs.Step.{unread_now};
 ghost use Rattle.wt_spec.specs.Turns.{is_call};
-ghost use Rattle.wt_session.specs.Connecting.{Connect, IsConnecting};
+ghost use Rattle.wt_connecting.specs.Connecting.{Connect, IsConnecting};
 ghost use Rattle.wt_session.specs.Incoming.{IsUnanswered, Request};
 ghost use Rattle.wt_connection.specs.Openings.{IsOpening, OpeningStream};
 ghost use Rattle.wt_session.specs.Responding.{IsResponse, Response};

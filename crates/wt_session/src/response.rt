@@ -16,8 +16,8 @@ ghost use Rattle.wt_wire.specs.declared.side.Side.{Side};
 
 use std::alloc::Global;
 use std::marker::Model;
-use wt_connection::calling::perform;
 use wt_driver::driver::Driver;
+use wt_halves::calling::perform;
 use wt_plan::handshake_plans;
 use wt_plan::plan::Plan;
 use wt_turn::piece::Piece;

@@ -1,9 +1,9 @@
 //! Halves that are joined, and datagrams that are written.
 use std::alloc::Global;
 use std::process::Abort;
-use wt_connection::bi_stream::BiStream;
-use wt_connection::recv_stream::RecvStream;
-use wt_connection::send_stream::SendStream;
+use wt_halves::bi_stream::BiStream;
+use wt_halves::recv_stream::RecvStream;
+use wt_halves::send_stream::SendStream;
 use wt_session::datagram::Datagram;
 use wt_wire::ids::{SessionId, StreamId};
 use wt_wire::varint::VarInt;

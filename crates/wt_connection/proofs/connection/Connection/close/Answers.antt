@@ -1,6 +1,6 @@
 use Rattle.std.proofs.Common.{◌≡◌, List, subst, ℕ}
 use Rattle.wt_connection.proofs.Sessions.{close_planned, close_replies, may_use}
-use Rattle.wt_connection.proofs.Told.{always}
+use Rattle.wt_halves.proofs.Told.{always}
 use Rattle.wt_plan.specs.Planned.{planned}
 use Rattle.wt_session_spec.specs.CallFacts.{facts_of}
 use Rattle.wt_session_spec.specs.Plans.{plan_of}

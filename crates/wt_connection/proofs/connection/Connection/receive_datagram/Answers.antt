@@ -1,6 +1,6 @@
 use Rattle.std.proofs.Common.{◌∙◌, ◌≡◌, IfOk, ap, subst}
 use Rattle.wt_connection.proofs.Sessions.{receive_is}
-use Rattle.wt_connection.proofs.Told.{always}
+use Rattle.wt_halves.proofs.Told.{always}
 use Rattle.wt_driver_state.specs.Tie.{Follows}
 use Rattle.wt_calls.specs.Given.{poll_reply}
 use Rattle.wt_spec.specs.Answers.{call_effect}

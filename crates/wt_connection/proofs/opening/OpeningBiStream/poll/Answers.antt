@@ -1,7 +1,7 @@
 use Rattle.std.proofs.Common.{◌∙◌, ap, true, refl, ℕ}
 use Rattle.wt_connection.proofs.Sessions.{bi_ready_comes, may_use, poll_planned}
 use Rattle.wt_connection.specs.Openings.{ready_in}
-use Rattle.wt_connection.specs.Replies.{ready_reply}
+use Rattle.wt_halves.specs.Replies.{ready_reply}
 use Rattle.wt_turn.specs.declared.call.Call.TheVariants as calls
 use Rattle.wt_reply.specs.declared.reply.Reply.{Reply}
 use Rattle.wt_reply.specs.declared.reply.Reply.TheVariants as replies

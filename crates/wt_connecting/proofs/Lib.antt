@@ -1,0 +1,3 @@
+pub mod Over
+pub mod Beginning
+pub mod Connects

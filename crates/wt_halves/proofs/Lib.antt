@@ -1,0 +1,3 @@
+pub mod Told
+pub mod Sending
+pub mod Receiving

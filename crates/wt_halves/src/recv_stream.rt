@@ -1,0 +1,171 @@
+//! The receiving half of a stream (RFC 9000, sections 2.4 and 3.2).
+ghost use Rattle.std.specs.Prelude.{◌≡◌, Ok, OnOk, Some, drop, length, true, ℕ};
+ghost use Rattle.wt_driver_state.specs.Calling.{leaves_at_rest};
+ghost use Rattle.wt_driver_state.specs.Tie.{Follows};
+ghost use Rattle.wt_halves.specs.Replies.{exact_reply, exactly_read, read_into, records_exact};
+ghost use Rattle.wt_laws.specs.Reachable.{IsReachable};
+ghost use Rattle.wt_session_spec.specs.HalfPlans.{read_record, read_reply};
+ghost use Rattle.wt_spec.specs.Answers.{call_effect};
+ghost use Rattle.wt_spec.specs.Halves.{has_receiving_half};
+ghost use Rattle.wt_turn.specs.Log.{Log};
+ghost use Rattle.wt_turn.specs.Records.{record_of};
+ghost use Rattle.wt_turn.specs.declared.call.Call.TheVariants as calls;
+ghost use Rattle.wt_turn.specs.declared.poll.Poll.TheVariants.{Ready};
+ghost use Rattle.wt_reply.specs.declared.reply.Reply.TheVariants as replies;
+ghost use Rattle.wt_wire.specs.declared.side.Side.{Side};
+
+use crate::calling::{carry_out, record, transport};
+use std::alloc::Global;
+use std::marker::Model;
+use wt_driver::driver::Driver;
+use wt_plan::half_plans;
+use wt_turn::poll::Poll;
+use wt_turn::record::Record;
+use wt_turn::stream_error::{StreamReadError, StreamReadExactError};
+use wt_wire::error::OutOfMemory;
+use wt_wire::ids::StreamId;
+use wt_wire::varint::VarInt;
+
+/// The receiving half of a stream that the application has. Contracts see the stream's id.
+///
+/// Each call takes the driver of the connection that gave the half.
+#[derive(Debug, Drop)]
+pub struct RecvStream {
+    id: StreamId,
+}
+
+impl Model for RecvStream {
+    ghost use Rattle.std.specs.Prelude.{ℕ};
+
+    ghost Value = { ℕ };
+
+    ghost view = { λ half. half.id };
+}
+
+/// The record of a read of so many bytes.
+fn read_record(id: StreamId, count: usize) -> Record
+    ensures now { record_of result ≡ read_record id count }
+    ensures rests { leaves_at_rest (record_of result) ≡ true }
+{
+    if count == 0 {
+        Record::Polled
+    } else {
+        Record::BytesRead(id, count)
+    }
+}
+
+/// How many bytes a read of exactly so many takes, by its answer.
+fn exactly_read(answer: &Poll<Result<(), StreamReadExactError>>, size: usize) -> usize
+    ensures { result ≡ exactly_read size answer.now }
+{
+    match answer {
+        Poll::Ready(Ok(_)) => size,
+        Poll::Ready(Err(StreamReadExactError::FinishedEarly(count))) => *count,
+        Poll::Ready(Err(StreamReadExactError::Read(_))) | Poll::Pending => 0,
+    }
+}
+
+/// The record of a read of exactly so many bytes, by its answer.
+fn exact_record(
+    id: StreamId,
+    answer: &Poll<Result<(), StreamReadExactError>>,
+    size: usize,
+) -> Record
+    ensures now { record_of result ≡ records_exact id size answer.now }
+    ensures rests { leaves_at_rest (record_of result) ≡ true }
+{
+    match answer {
+        Poll::Ready(Ok(_)) => Record::BytesRead(id, size),
+        Poll::Ready(Err(StreamReadExactError::FinishedEarly(count))) => {
+            Record::BytesRead(id, *count)
+        }
+        Poll::Ready(Err(StreamReadExactError::Read(_))) | Poll::Pending => Record::Polled,
+    }
+}
+
+impl RecvStream {
+    /// The receiving half of this stream.
+    pub fn new(id: StreamId) -> RecvStream
+        ensures { result ≡ id }
+    {
+        RecvStream { id }
+    }
+
+    /// The stream's id.
+    pub fn id(&self) -> StreamId
+        ensures { result ≡ self.now }
+    {
+        self.id
+    }
+
+    /// Reads bytes into the buffer's front, as many as it holds and came, and answers how many: 0 into
+    /// an empty buffer, None once the peer finished the half and all of it is read. Without unread bytes
+    /// on a half that goes on the call is pending.
+    ///
+    /// The error is `Reset` with the peer's code where it reset the half, and `NotConnected` where the
+    /// connection isn't open; unread bytes come first.
+    /// It takes no memory.
+    pub fn read(
+        &mut self,
+        d: &mut Driver,
+        buf: &mut [u8],
+    ) -> Poll<Result<Option<usize>, StreamReadError>>
+        ensures reply { (side : Side) (log : Log) (taken : ℕ) → Follows side d.old log taken → IsReachable side log → has_receiving_half side log self.old ≡ true
+            → read_reply buf.new result ≡ (call_effect side log (calls.Read self.old (length buf.old))).reply }
+        ensures log { (side : Side) (log : Log) (taken : ℕ) → Follows side d.old log taken → IsReachable side log → has_receiving_half side log self.old ≡ true
+            → Follows side d.new (call_effect side log (calls.Read self.old (length buf.old))).log taken }
+        ensures rest { drop (read_into result) buf.new ≡ drop (read_into result) buf.old }
+        ensures empty { length buf.old ≡ 0 → result ≡ Ready (Ok (Some 0)) }
+        ensures same { self.new ≡ self.old }
+    {
+        let t = transport(d);
+        let answer = t.read_answer(self.id, buf.len());
+        let count = buf.len().min(t.unread(self.id) as usize);
+        t.copy_unread(self.id, &mut buf[..count]);
+        record(d, &read_record(self.id, count));
+        answer
+    }
+
+    /// Fills the buffer with bytes that came.
+    ///
+    /// Where fewer are unread: once the peer finished the half the error is `FinishedEarly` with their
+    /// number, and they are in the buffer's front; else nothing is read, and the error is `Reset` with
+    /// the peer's code where it reset the half, `NotConnected` where the connection isn't open, and the
+    /// call else pending.
+    /// It takes no memory.
+    pub fn read_exact(
+        &mut self,
+        d: &mut Driver,
+        buf: &mut [u8],
+    ) -> Poll<Result<(), StreamReadExactError>>
+        ensures reply { (side : Side) (log : Log) (taken : ℕ) → Follows side d.old log taken → IsReachable side log → has_receiving_half side log self.old ≡ true
+            → exact_reply buf.new result ≡ (call_effect side log (calls.ReadExact self.old (length buf.old))).reply }
+        ensures log { (side : Side) (log : Log) (taken : ℕ) → Follows side d.old log taken → IsReachable side log → has_receiving_half side log self.old ≡ true
+            → Follows side d.new (call_effect side log (calls.ReadExact self.old (length buf.old))).log taken }
+        ensures rest { drop (exactly_read (length buf.old) result) buf.new ≡ drop (exactly_read (length buf.old) result) buf.old }
+        ensures same { self.new ≡ self.old }
+    {
+        let t = transport(d);
+        let answer = t.read_exact_answer(self.id, buf.len());
+        let count = exactly_read(&answer, buf.len());
+        let made = exact_record(self.id, &answer, buf.len());
+        t.copy_unread(self.id, &mut buf[..count]);
+        record(d, &made);
+        answer
+    }
+
+    /// Gives the half up: the peer is told this code, where the connection is open.
+    ///
+    /// # Errors
+    ///
+    /// `OutOfMemory` where what goes out found no memory.
+    pub fn stop(self, alloc: Global, d: &mut Driver, code: VarInt) -> Result<(), OutOfMemory>
+        ensures reply { (side : Side) (log : Log) (taken : ℕ) → Follows side d.old log taken → IsReachable side log → has_receiving_half side log self ≡ true
+            → OnOk result (replies.Done ≡ (call_effect side log (calls.StopRecv self code)).reply) }
+        ensures log { (side : Side) (log : Log) (taken : ℕ) → Follows side d.old log taken → IsReachable side log → has_receiving_half side log self ≡ true
+            → OnOk result (Follows side d.new (call_effect side log (calls.StopRecv self code)).log taken) }
+    {
+        let plan = half_plans::stop(alloc, transport(d), self.id, code)?;
+        carry_out(alloc, d, plan)
+    }
+}
