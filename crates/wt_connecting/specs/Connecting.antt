@@ -1,13 +1,19 @@
 -- A client's connect as it goes on (RFC 9220, section 3), and what its calls reply.
 use Rattle.std.specs.Prelude.{◌≡◌, Err, List, Ok, Option, Result, ℕ}
+use Rattle.wt_connect.specs.ConnectOptions.{Options}
 use Rattle.wt_connection.specs.Standing.{IsEstablished}
 use Rattle.wt_spec.specs.Handshake as handshake
 use Rattle.wt_turn.specs.Log.{Log, calls_of}
 use Rattle.wt_error.specs.declared.connecting_error.ConnectingError.{ConnectingError}
+use Rattle.wt_turn.specs.declared.call.Call.{Call}
+use Rattle.wt_turn.specs.declared.call.Call.TheVariants as calls
 use Rattle.wt_turn.specs.declared.poll.Poll.{Poll}
 use Rattle.wt_turn.specs.declared.poll.Poll.TheVariants.{Pending, Ready}
 use Rattle.wt_reply.specs.declared.reply.Reply.{Reply}
 use Rattle.wt_reply.specs.declared.reply.Reply.TheVariants as replies
+use Rattle.wt_wire.specs.declared.lookup.ConnectOutcome.{ConnectOutcome}
+use Rattle.wt_wire.specs.declared.lookup.Lookup.{Lookup}
+use Rattle.wt_wire.specs.declared.side.Side.{Side}
 
 -- a connect: the first name of a field that only the session layer sets, and the frame of its request
 pub record Connect : Type 0 where
@@ -17,6 +23,14 @@ pub record Connect : Type 0 where
 -- the connect of the log goes on
 pub record IsConnecting (log : Log) (c : Connect) : Type 0 where
   pub state : handshake.handshake_state (calls_of log) ≡ handshake.Connecting c.reserved c.head
+
+-- this end has this connect, which goes on
+abbrev pub HasConnect : Connect → Side → Log → Type 0
+HasConnect c side log = IsConnecting log c
+
+-- the call that begins a connect with these options
+abbrev pub connect_call : Options → Lookup → ConnectOutcome → Call
+connect_call options lookup outcome = calls.Connect (options.url, options.headers) lookup outcome
 
 -- what the beginning of a connect replies
 abbrev pub beginning_reply : Result Connect ConnectingError → Reply

@@ -1,10 +1,9 @@
 //! A client's connect (RFC 9220, section 3).
 ghost use Rattle.std.specs.Prelude.{◌≡◌, ◌∷◌, [], Err, IfOk, None, Ok, OnOk, Option, true, ℕ};
-ghost use Rattle.std.specs.Option.{option_copied};
-ghost use Rattle.wt_connect.specs.ConnectTarget.{target_of};
-ghost use Rattle.wt_connecting.specs.Connecting.{BeginsConnect, Connect, IsConnectReply, IsConnecting, StandsWith, beginning_reply, connecting_reply};
+ghost use Rattle.wt_connecting.specs.Connecting.{BeginsConnect, Connect, HasConnect, IsConnectReply, IsConnecting, StandsWith, beginning_reply, connect_call, connecting_reply};
 ghost use Rattle.wt_driver_state.specs.Tie.{Follows};
 ghost use Rattle.wt_driver_spec.specs.Asking.{MayBeCalled};
+ghost use Rattle.wt_halves.specs.Answering.{LeadsOn, MayCall, RepliesTo, StandsBehind};
 ghost use Rattle.wt_laws.specs.Reachable.{IsReachable};
 ghost use Rattle.wt_plan.specs.Planned.{planned};
 ghost use Rattle.wt_plan.specs.Tells.{driver_facts};
@@ -13,9 +12,8 @@ ghost use Rattle.wt_session_acts.specs.Performing.{MaySendAll};
 ghost use Rattle.wt_session_spec.specs.CallFacts.{facts_of};
 ghost use Rattle.wt_session_spec.specs.Plans.{plan_of};
 ghost use Rattle.wt_session_spec.specs.SessionState.{session_state};
-ghost use Rattle.wt_spec.specs.Answers.{call_effect, may_call};
+ghost use Rattle.wt_spec.specs.Answers.{may_call};
 ghost use Rattle.wt_spec.specs.Connect as connects;
-ghost use Rattle.wt_spec.specs.Effect.{log_call};
 ghost use Rattle.wt_turn.specs.Log.{ConnectStarted, Log, with_actions};
 ghost use Rattle.wt_turn.specs.declared.action.Action.TheVariants as actions;
 ghost use Rattle.wt_turn.specs.declared.call.Call.TheVariants as calls;
@@ -167,12 +165,9 @@ impl Connecting {
         outcome: ConnectOutcome,
         d: &mut Driver,
     ) -> Result<Result<Connecting, ConnectingError>, OutOfMemory>
-        ensures reply { (side : Side) (log : Log) (taken : ℕ) → Follows side d.old log taken → IsReachable side log → may_call side log (calls.Connect (options.url, options.headers) lookup outcome) ≡ true
-            → IfOk result (λ r. beginning_reply r ≡ (call_effect side log (calls.Connect (options.url, options.headers) lookup outcome)).reply) }
-        ensures log { (side : Side) (log : Log) (taken : ℕ) → Follows side d.old log taken → IsReachable side log → may_call side log (calls.Connect (options.url, options.headers) lookup outcome) ≡ true
-            → OnOk result (Follows side d.new (call_effect side log (calls.Connect (options.url, options.headers) lookup outcome)).log taken) }
-        ensures stands { (side : Side) (log : Log) (taken : ℕ) → Follows side d.old log taken → IsReachable side log → may_call side log (calls.Connect (options.url, options.headers) lookup outcome) ≡ true
-            → IfOk result (λ r. BeginsConnect (call_effect side log (calls.Connect (options.url, options.headers) lookup outcome)).log r) }
+        ensures reply { IfOk result (RepliesTo d.old (MayCall (connect_call options lookup outcome)) (connect_call options lookup outcome) beginning_reply) }
+        ensures log { OnOk result (LeadsOn d.old (MayCall (connect_call options lookup outcome)) (connect_call options lookup outcome) d.new) }
+        ensures stands { IfOk result (λ r. StandsBehind d.old (MayCall (connect_call options lookup outcome)) (connect_call options lookup outcome) (λ side log. BeginsConnect log r)) }
     {
         let target = connect_target(alloc, options.url(), lookup, outcome)?;
         match target {
@@ -213,11 +208,9 @@ impl Connecting {
         alloc: Global,
         d: &mut Driver,
     ) -> Result<Poll<Result<Connection, ConnectingError>>, OutOfMemory>
-        ensures reply { (side : Side) (log : Log) (taken : ℕ) → Follows side d.old log taken → IsReachable side log → IsConnecting log self.old
-            → IfOk result (λ p. connecting_reply p ≡ (call_effect side log calls.Handshake).reply) }
-        ensures log { (side : Side) (log : Log) (taken : ℕ) → Follows side d.old log taken → IsReachable side log → IsConnecting log self.old → OnOk result (Follows side d.new (call_effect side log calls.Handshake).log taken) }
-        ensures stands { (side : Side) (log : Log) (taken : ℕ) → Follows side d.old log taken → IsReachable side log → IsConnecting log self.old
-            → IfOk result (λ p. StandsWith (call_effect side log calls.Handshake).log self.new (connecting_reply p)) }
+        ensures reply { IfOk result (RepliesTo d.old (HasConnect self.old) calls.Handshake connecting_reply) }
+        ensures log { OnOk result (LeadsOn d.old (HasConnect self.old) calls.Handshake d.new) }
+        ensures stands { IfOk result (λ p. StandsBehind d.old (HasConnect self.old) calls.Handshake (λ side log. StandsWith log self.new (connecting_reply p))) }
         ensures lawful { (side : Side) (log : Log) → IsConnecting log self.old → may_call side log calls.Handshake ≡ true }
         ensures same { self.new ≡ self.old }
     {

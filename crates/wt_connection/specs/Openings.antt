@@ -10,6 +10,7 @@ use Rattle.wt_reply.specs.declared.reply.Reply.{Reply}
 use Rattle.wt_reply.specs.declared.reply.Reply.TheVariants as replies
 use Rattle.wt_error.specs.declared.stream_error.StreamOpeningError.{StreamOpeningError}
 use Rattle.wt_wire.specs.Ids.{is_bidirectional}
+use Rattle.wt_wire.specs.declared.side.Side.{Side}
 
 -- the ids of a stream and of its session
 pub record OpeningStream : Type 0 where
@@ -21,6 +22,10 @@ pub record IsOpening (bidirectional : Bool) (log : Log) (o : OpeningStream) : Ty
   pub opens : is_opening log o.id ≡ true
   pub kind : is_bidirectional o.id ≡ bidirectional
   pub session : IsEstablished log o.session
+
+-- the application has this stream, of this kind, which is being opened
+abbrev pub HasOpening : Bool → OpeningStream → Side → Log → Type 0
+HasOpening bidirectional o side log = IsOpening bidirectional log o
 
 -- the stream whose opening a reply tells of, or why none is opened
 abbrev pub opening_in : Reply → Poll (Result ℕ ConnectionError)

@@ -1,14 +1,22 @@
 -- What a session's types stand for in a log.
 use Rattle.std.specs.Prelude.{◌≡◌, Err, Ok, Result, Some, ℕ}
+use Rattle.wt_driver_state.specs.DriverValue.{DriverValue}
+use Rattle.wt_halves.specs.Answering.{StandsBehind}
 use Rattle.wt_spec.specs.Driver.{established}
 use Rattle.wt_turn.specs.Log.{Log, calls_of}
+use Rattle.wt_turn.specs.declared.call.Call.{Call}
 use Rattle.wt_turn.specs.declared.poll.Poll.{Poll}
 use Rattle.wt_turn.specs.declared.poll.Poll.TheVariants.{Pending, Ready}
+use Rattle.wt_wire.specs.declared.side.Side.{Side}
 
 -- the session of this id is established, and its part of the stream begins at an offset
 pub record IsEstablished (log : Log) (session : ℕ) : Type 0 where
   pub offset : ℕ
   pub is : established (calls_of log) ≡ Some (session, offset)
+
+-- the application has this session
+abbrev pub HasSession : ℕ → Side → Log → Type 0
+HasSession session side log = IsEstablished log session
 
 -- this holds of the item that a poll gives, where it gives one
 abbrev pub IfGiven : {T E : Type 0} → Poll (Result T E) → (T → Type 0) → Type 0
@@ -20,3 +28,11 @@ IfGiven Pending P = Unit {0}
 abbrev pub IfPending : {T : Type 0} → Poll T → Type 0 → Type 0
 IfPending Pending P = P
 IfPending (Ready answer) P = Unit {0}
+
+-- what the answer of this call gives stands for the log behind it
+abbrev pub Gives : {T E : Type 0} → DriverValue → (Side → Log → Type 0) → Call → (T → Side → Log → Type 0) → Poll (Result T E) → Type 0
+Gives d Stands call StandsThen answer = StandsBehind d Stands call (λ side log. IfGiven answer (λ item. StandsThen item side log))
+
+-- while this call waits, what is polled stands for the log behind it
+abbrev pub WaitsOn : {T : Type 0} → DriverValue → (Side → Log → Type 0) → Call → Poll T → Type 0
+WaitsOn d Stands call answer = StandsBehind d Stands call (λ side log. IfPending answer (Stands side log))

@@ -1,14 +1,12 @@
 //! A session that is established (draft-ietf-webtrans-http3, section 4).
 ghost use Rattle.std.specs.Prelude.{◌≡◌, IfOk, Ok, OnOk, false, true, ℕ};
 ghost use Rattle.wt_connection.specs.Datagrams.{session_datagram};
-ghost use Rattle.wt_connection.specs.Openings.{IsOpening, opening_in};
-ghost use Rattle.wt_connection.specs.Standing.{IfGiven, IsEstablished};
-ghost use Rattle.wt_driver_state.specs.Tie.{Follows};
-ghost use Rattle.wt_halves.specs.Replies.{IsOneStream, closed_in, closed_reply, sent_in, sent_reply};
-ghost use Rattle.wt_laws.specs.Reachable.{IsReachable};
+ghost use Rattle.wt_connection.specs.Openings.{HasOpening, opening_in};
+ghost use Rattle.wt_connection.specs.Standing.{Gives, HasSession, IfGiven, IsEstablished};
+ghost use Rattle.wt_halves.specs.Answering.{HasReceiving, HasSending, LeadsOn, RepliesTo};
+ghost use Rattle.wt_halves.specs.Replies.{IsOneStream, closed_in, closed_reply, done_reply, sent_in, sent_reply};
 ghost use Rattle.wt_calls.specs.Given.{poll_reply};
 ghost use Rattle.wt_spec.specs.Answers.{call_effect};
-ghost use Rattle.wt_spec.specs.Halves.{has_receiving_half, has_sending_half};
 ghost use Rattle.wt_turn.specs.Log.{Log};
 ghost use Rattle.wt_turn.specs.declared.call.Call.TheVariants as calls;
 ghost use Rattle.wt_reply.specs.declared.reply.Reply.TheVariants as replies;
@@ -194,12 +192,9 @@ impl Connection {
         alloc: Global,
         d: &mut Driver,
     ) -> Result<Poll<Result<RecvStream, ConnectionError>>, OutOfMemory>
-        ensures reply { (side : Side) (log : Log) (taken : ℕ) → Follows side d.old log taken → IsReachable side log → IsEstablished log self.old
-            → IfOk result (λ a. poll_reply replies.Uni a ≡ (call_effect side log calls.AcceptUni).reply) }
-        ensures log { (side : Side) (log : Log) (taken : ℕ) → Follows side d.old log taken → IsReachable side log → IsEstablished log self.old
-            → OnOk result (Follows side d.new (call_effect side log calls.AcceptUni).log taken) }
-        ensures stands { (side : Side) (log : Log) (taken : ℕ) → Follows side d.old log taken → IsReachable side log → IsEstablished log self.old
-            → IfOk result (λ a. IfGiven a (λ half. has_receiving_half side (call_effect side log calls.AcceptUni).log half ≡ true)) }
+        ensures reply { IfOk result (RepliesTo d.old (HasSession self.old) calls.AcceptUni (poll_reply replies.Uni)) }
+        ensures log { OnOk result (LeadsOn d.old (HasSession self.old) calls.AcceptUni d.new) }
+        ensures stands { IfOk result (Gives d.old (HasSession self.old) calls.AcceptUni HasReceiving) }
         ensures same { self.new ≡ self.old }
     {
         Ok(receiving_half(acting::accept_uni(alloc, d, self.session)?))
@@ -219,14 +214,10 @@ impl Connection {
         alloc: Global,
         d: &mut Driver,
     ) -> Result<Poll<Result<(SendStream, RecvStream), ConnectionError>>, OutOfMemory>
-        ensures reply { (side : Side) (log : Log) (taken : ℕ) → Follows side d.old log taken → IsReachable side log → IsEstablished log self.old
-            → IfOk result (λ a. poll_reply (λ halves. replies.Bi halves.0) a ≡ (call_effect side log calls.AcceptBi).reply) }
-        ensures log { (side : Side) (log : Log) (taken : ℕ) → Follows side d.old log taken → IsReachable side log → IsEstablished log self.old
-            → OnOk result (Follows side d.new (call_effect side log calls.AcceptBi).log taken) }
-        ensures send_stands { (side : Side) (log : Log) (taken : ℕ) → Follows side d.old log taken → IsReachable side log → IsEstablished log self.old
-            → IfOk result (λ a. IfGiven a (λ halves. has_sending_half side (call_effect side log calls.AcceptBi).log halves.0 ≡ true)) }
-        ensures recv_stands { (side : Side) (log : Log) (taken : ℕ) → Follows side d.old log taken → IsReachable side log → IsEstablished log self.old
-            → IfOk result (λ a. IfGiven a (λ halves. has_receiving_half side (call_effect side log calls.AcceptBi).log halves.1 ≡ true)) }
+        ensures reply { IfOk result (RepliesTo d.old (HasSession self.old) calls.AcceptBi (poll_reply (λ halves. replies.Bi halves.0))) }
+        ensures log { OnOk result (LeadsOn d.old (HasSession self.old) calls.AcceptBi d.new) }
+        ensures send_stands { IfOk result (Gives d.old (HasSession self.old) calls.AcceptBi (λ halves. HasSending halves.0)) }
+        ensures recv_stands { IfOk result (Gives d.old (HasSession self.old) calls.AcceptBi (λ halves. HasReceiving halves.1)) }
         ensures halves { IfOk result (λ a. IsOneStream a) }
         ensures same { self.new ≡ self.old }
     {
@@ -247,10 +238,8 @@ impl Connection {
         alloc: Global,
         d: &mut Driver,
     ) -> Result<Poll<Result<Datagram, ConnectionError>>, OutOfMemory>
-        ensures reply { (side : Side) (log : Log) (taken : ℕ) → Follows side d.old log taken → IsReachable side log → IsEstablished log self.old
-            → IfOk result (λ a. poll_reply (λ datagram. replies.Datagram datagram.payload) a ≡ (call_effect side log calls.ReceiveDatagram).reply) }
-        ensures log { (side : Side) (log : Log) (taken : ℕ) → Follows side d.old log taken → IsReachable side log → IsEstablished log self.old
-            → OnOk result (Follows side d.new (call_effect side log calls.ReceiveDatagram).log taken) }
+        ensures reply { IfOk result (RepliesTo d.old (HasSession self.old) calls.ReceiveDatagram (poll_reply (λ datagram. replies.Datagram datagram.payload))) }
+        ensures log { OnOk result (LeadsOn d.old (HasSession self.old) calls.ReceiveDatagram d.new) }
         ensures session { IfOk result (λ a. IfGiven a (λ datagram. datagram.session ≡ self.old)) }
         ensures carried { IfOk result (λ a. IfGiven a (λ datagram. session_datagram datagram.bytes ≡ Ok datagram)) }
         ensures same { self.new ≡ self.old }
@@ -274,12 +263,9 @@ impl Connection {
         alloc: Global,
         d: &mut Driver,
     ) -> Result<Poll<Result<OpeningUniStream, ConnectionError>>, OutOfMemory>
-        ensures reply { (side : Side) (log : Log) (taken : ℕ) → Follows side d.old log taken → IsReachable side log → IsEstablished log self.old
-            → IfOk result (λ a. poll_reply (λ stream. replies.Opening stream.id) a ≡ (call_effect side log calls.OpenUni).reply) }
-        ensures log { (side : Side) (log : Log) (taken : ℕ) → Follows side d.old log taken → IsReachable side log → IsEstablished log self.old
-            → OnOk result (Follows side d.new (call_effect side log calls.OpenUni).log taken) }
-        ensures stands { (side : Side) (log : Log) (taken : ℕ) → Follows side d.old log taken → IsReachable side log → IsEstablished log self.old
-            → IfOk result (λ a. IfGiven a (λ stream. IsOpening false (call_effect side log calls.OpenUni).log stream)) }
+        ensures reply { IfOk result (RepliesTo d.old (HasSession self.old) calls.OpenUni (poll_reply (λ stream. replies.Opening stream.id))) }
+        ensures log { OnOk result (LeadsOn d.old (HasSession self.old) calls.OpenUni d.new) }
+        ensures stands { IfOk result (Gives d.old (HasSession self.old) calls.OpenUni (HasOpening false)) }
         ensures same { self.new ≡ self.old }
     {
         let plan = connection_plans::open_uni(alloc, transport(d), self.session)?;
@@ -300,12 +286,9 @@ impl Connection {
         alloc: Global,
         d: &mut Driver,
     ) -> Result<Poll<Result<OpeningBiStream, ConnectionError>>, OutOfMemory>
-        ensures reply { (side : Side) (log : Log) (taken : ℕ) → Follows side d.old log taken → IsReachable side log → IsEstablished log self.old
-            → IfOk result (λ a. poll_reply (λ stream. replies.Opening stream.id) a ≡ (call_effect side log calls.OpenBi).reply) }
-        ensures log { (side : Side) (log : Log) (taken : ℕ) → Follows side d.old log taken → IsReachable side log → IsEstablished log self.old
-            → OnOk result (Follows side d.new (call_effect side log calls.OpenBi).log taken) }
-        ensures stands { (side : Side) (log : Log) (taken : ℕ) → Follows side d.old log taken → IsReachable side log → IsEstablished log self.old
-            → IfOk result (λ a. IfGiven a (λ stream. IsOpening true (call_effect side log calls.OpenBi).log stream)) }
+        ensures reply { IfOk result (RepliesTo d.old (HasSession self.old) calls.OpenBi (poll_reply (λ stream. replies.Opening stream.id))) }
+        ensures log { OnOk result (LeadsOn d.old (HasSession self.old) calls.OpenBi d.new) }
+        ensures stands { IfOk result (Gives d.old (HasSession self.old) calls.OpenBi (HasOpening true)) }
         ensures same { self.new ≡ self.old }
     {
         let plan = connection_plans::open_bi(alloc, transport(d), self.session)?;
@@ -328,10 +311,8 @@ impl Connection {
         d: &mut Driver,
         payload: &[u8],
     ) -> Result<Result<(), SendDatagramError>, OutOfMemory>
-        ensures reply { (side : Side) (log : Log) (taken : ℕ) → Follows side d.old log taken → IsReachable side log → IsEstablished log self.old
-            → IfOk result (λ a. sent_reply a ≡ (call_effect side log (calls.SendDatagram payload.now)).reply) }
-        ensures log { (side : Side) (log : Log) (taken : ℕ) → Follows side d.old log taken → IsReachable side log → IsEstablished log self.old
-            → OnOk result (Follows side d.new (call_effect side log (calls.SendDatagram payload.now)).log taken) }
+        ensures reply { IfOk result (RepliesTo d.old (HasSession self.old) (calls.SendDatagram payload.now) sent_reply) }
+        ensures log { OnOk result (LeadsOn d.old (HasSession self.old) (calls.SendDatagram payload.now) d.new) }
         ensures same { self.new ≡ self.old }
     {
         let t = transport(d);
@@ -343,10 +324,8 @@ impl Connection {
     ///
     /// It takes no memory.
     pub fn max_datagram_size(&self, d: &mut Driver) -> Option<u64>
-        ensures reply { (side : Side) (log : Log) (taken : ℕ) → Follows side d.old log taken → IsReachable side log → IsEstablished log self.now
-            → replies.Size result ≡ (call_effect side log calls.MaxDatagramSize).reply }
-        ensures log { (side : Side) (log : Log) (taken : ℕ) → Follows side d.old log taken → IsReachable side log → IsEstablished log self.now
-            → Follows side d.new (call_effect side log calls.MaxDatagramSize).log taken }
+        ensures reply { RepliesTo d.old (HasSession self.now) calls.MaxDatagramSize replies.Size result }
+        ensures log { LeadsOn d.old (HasSession self.now) calls.MaxDatagramSize d.new }
     {
         let limit = connection_plans::payload_limit(transport(d), self.session);
         record(d, &Record::Polled);
@@ -367,10 +346,8 @@ impl Connection {
         code: VarInt,
         reason: &[u8],
     ) -> Result<(), OutOfMemory>
-        ensures reply { (side : Side) (log : Log) (taken : ℕ) → Follows side d.old log taken → IsReachable side log → IsEstablished log self.old
-            → OnOk result (replies.Done ≡ (call_effect side log (calls.Close code reason.now)).reply) }
-        ensures log { (side : Side) (log : Log) (taken : ℕ) → Follows side d.old log taken → IsReachable side log → IsEstablished log self.old
-            → OnOk result (Follows side d.new (call_effect side log (calls.Close code reason.now)).log taken) }
+        ensures reply { IfOk result (RepliesTo d.old (HasSession self.old) (calls.Close code reason.now) done_reply) }
+        ensures log { OnOk result (LeadsOn d.old (HasSession self.old) (calls.Close code reason.now) d.new) }
         ensures same { self.new ≡ self.old }
     {
         let reason = Piece::from_slice(alloc, reason)?;
@@ -388,10 +365,8 @@ impl Connection {
         alloc: Global,
         d: &mut Driver,
     ) -> Result<Poll<ConnectionError>, OutOfMemory>
-        ensures reply { (side : Side) (log : Log) (taken : ℕ) → Follows side d.old log taken → IsReachable side log → IsEstablished log self.old
-            → IfOk result (λ a. closed_reply a ≡ (call_effect side log calls.Closed).reply) }
-        ensures log { (side : Side) (log : Log) (taken : ℕ) → Follows side d.old log taken → IsReachable side log → IsEstablished log self.old
-            → OnOk result (Follows side d.new (call_effect side log calls.Closed).log taken) }
+        ensures reply { IfOk result (RepliesTo d.old (HasSession self.old) calls.Closed closed_reply) }
+        ensures log { OnOk result (LeadsOn d.old (HasSession self.old) calls.Closed d.new) }
         ensures same { self.new ≡ self.old }
     {
         let plan = connection_plans::closed(alloc, transport(d))?;

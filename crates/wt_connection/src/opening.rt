@@ -1,16 +1,11 @@
 //! Streams that are being opened (draft-ietf-webtrans-http3, sections 4.2 and 4.3).
-ghost use Rattle.std.specs.Prelude.{◌≡◌, IfOk, OnOk, false, true, ℕ};
-ghost use Rattle.wt_connection.specs.Openings.{IsOpening, ready_in};
-ghost use Rattle.wt_connection.specs.Standing.{IfGiven, IfPending};
-ghost use Rattle.wt_driver_state.specs.Tie.{Follows};
+ghost use Rattle.std.specs.Prelude.{◌≡◌, IfOk, OnOk, false, true};
+ghost use Rattle.wt_connection.specs.Openings.{HasOpening, ready_in};
+ghost use Rattle.wt_connection.specs.Standing.{Gives, WaitsOn};
+ghost use Rattle.wt_halves.specs.Answering.{HasReceiving, HasSending, LeadsOn, RepliesTo};
 ghost use Rattle.wt_halves.specs.Replies.{IsOneStream, ready_reply};
-ghost use Rattle.wt_laws.specs.Reachable.{IsReachable};
-ghost use Rattle.wt_spec.specs.Answers.{call_effect};
-ghost use Rattle.wt_spec.specs.Halves.{has_receiving_half, has_sending_half};
-ghost use Rattle.wt_turn.specs.Log.{Log};
 ghost use Rattle.wt_turn.specs.declared.call.Call.TheVariants as calls;
 ghost use Rattle.wt_reply.specs.declared.reply.Reply.TheVariants as replies;
-ghost use Rattle.wt_wire.specs.declared.side.Side.{Side};
 
 use std::alloc::Global;
 use std::marker::Model;
@@ -116,14 +111,10 @@ impl OpeningUniStream {
         alloc: Global,
         d: &mut Driver,
     ) -> Result<Poll<Result<SendStream, StreamOpeningError>>, OutOfMemory>
-        ensures reply { (side : Side) (log : Log) (taken : ℕ) → Follows side d.old log taken → IsReachable side log → IsOpening false log self.old
-            → IfOk result (λ a. ready_reply replies.SendReady a ≡ (call_effect side log (calls.PollOpening self.old.id)).reply) }
-        ensures log { (side : Side) (log : Log) (taken : ℕ) → Follows side d.old log taken → IsReachable side log → IsOpening false log self.old
-            → OnOk result (Follows side d.new (call_effect side log (calls.PollOpening self.old.id)).log taken) }
-        ensures stands { (side : Side) (log : Log) (taken : ℕ) → Follows side d.old log taken → IsReachable side log → IsOpening false log self.old
-            → IfOk result (λ a. IfGiven a (λ half. has_sending_half side (call_effect side log (calls.PollOpening self.old.id)).log half ≡ true)) }
-        ensures goes_on { (side : Side) (log : Log) (taken : ℕ) → Follows side d.old log taken → IsReachable side log → IsOpening false log self.old
-            → IfOk result (λ a. IfPending a (IsOpening false (call_effect side log (calls.PollOpening self.old.id)).log self.old)) }
+        ensures reply { IfOk result (RepliesTo d.old (HasOpening false self.old) (calls.PollOpening self.old.id) (ready_reply replies.SendReady)) }
+        ensures log { OnOk result (LeadsOn d.old (HasOpening false self.old) (calls.PollOpening self.old.id) d.new) }
+        ensures stands { IfOk result (Gives d.old (HasOpening false self.old) (calls.PollOpening self.old.id) HasSending) }
+        ensures goes_on { IfOk result (WaitsOn d.old (HasOpening false self.old) (calls.PollOpening self.old.id)) }
         ensures same { self.new ≡ self.old }
     {
         let t = transport(d);
@@ -155,16 +146,11 @@ impl OpeningBiStream {
         alloc: Global,
         d: &mut Driver,
     ) -> Result<Poll<Result<(SendStream, RecvStream), StreamOpeningError>>, OutOfMemory>
-        ensures reply { (side : Side) (log : Log) (taken : ℕ) → Follows side d.old log taken → IsReachable side log → IsOpening true log self.old
-            → IfOk result (λ a. ready_reply (λ halves. replies.BiReady halves.0) a ≡ (call_effect side log (calls.PollOpening self.old.id)).reply) }
-        ensures log { (side : Side) (log : Log) (taken : ℕ) → Follows side d.old log taken → IsReachable side log → IsOpening true log self.old
-            → OnOk result (Follows side d.new (call_effect side log (calls.PollOpening self.old.id)).log taken) }
-        ensures send_stands { (side : Side) (log : Log) (taken : ℕ) → Follows side d.old log taken → IsReachable side log → IsOpening true log self.old
-            → IfOk result (λ a. IfGiven a (λ halves. has_sending_half side (call_effect side log (calls.PollOpening self.old.id)).log halves.0 ≡ true)) }
-        ensures recv_stands { (side : Side) (log : Log) (taken : ℕ) → Follows side d.old log taken → IsReachable side log → IsOpening true log self.old
-            → IfOk result (λ a. IfGiven a (λ halves. has_receiving_half side (call_effect side log (calls.PollOpening self.old.id)).log halves.1 ≡ true)) }
-        ensures goes_on { (side : Side) (log : Log) (taken : ℕ) → Follows side d.old log taken → IsReachable side log → IsOpening true log self.old
-            → IfOk result (λ a. IfPending a (IsOpening true (call_effect side log (calls.PollOpening self.old.id)).log self.old)) }
+        ensures reply { IfOk result (RepliesTo d.old (HasOpening true self.old) (calls.PollOpening self.old.id) (ready_reply (λ halves. replies.BiReady halves.0))) }
+        ensures log { OnOk result (LeadsOn d.old (HasOpening true self.old) (calls.PollOpening self.old.id) d.new) }
+        ensures send_stands { IfOk result (Gives d.old (HasOpening true self.old) (calls.PollOpening self.old.id) (λ halves. HasSending halves.0)) }
+        ensures recv_stands { IfOk result (Gives d.old (HasOpening true self.old) (calls.PollOpening self.old.id) (λ halves. HasReceiving halves.1)) }
+        ensures goes_on { IfOk result (WaitsOn d.old (HasOpening true self.old) (calls.PollOpening self.old.id)) }
         ensures same { self.new ≡ self.old }
         ensures halves { IfOk result (λ a. IsOneStream a) }
     {

@@ -1,3 +1,4 @@
+pub mod Answering
 pub mod Halves
 pub mod Lending
 pub mod Replies

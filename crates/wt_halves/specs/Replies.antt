@@ -13,6 +13,10 @@ use Rattle.wt_error.specs.declared.stream_error.StreamReadError.{StreamReadError
 use Rattle.wt_error.specs.declared.stream_error.StreamReadExactError.{StreamReadExactError}
 use Rattle.wt_error.specs.declared.stream_error.StreamReadExactError.TheVariants as exacts
 
+-- the reply of a call that answers nothing
+abbrev pub done_reply : Unit {0} → Reply
+done_reply u = replies.Done
+
 -- ---- halves
 
 -- the reply of a reset

@@ -1,18 +1,12 @@
 //! The receiving half of a stream (RFC 9000, sections 2.4 and 3.2).
-ghost use Rattle.std.specs.Prelude.{◌≡◌, Ok, OnOk, Some, drop, length, true, ℕ};
+ghost use Rattle.std.specs.Prelude.{◌≡◌, IfOk, Ok, OnOk, Some, drop, length, true, ℕ};
 ghost use Rattle.wt_driver_state.specs.Calling.{leaves_at_rest};
-ghost use Rattle.wt_driver_state.specs.Tie.{Follows};
-ghost use Rattle.wt_halves.specs.Replies.{exact_reply, exactly_read, read_into, records_exact};
-ghost use Rattle.wt_laws.specs.Reachable.{IsReachable};
+ghost use Rattle.wt_halves.specs.Answering.{HasReceiving, LeadsOn, RepliesTo};
+ghost use Rattle.wt_halves.specs.Replies.{done_reply, exact_reply, exactly_read, read_into, records_exact};
 ghost use Rattle.wt_session_spec.specs.HalfPlans.{read_record, read_reply};
-ghost use Rattle.wt_spec.specs.Answers.{call_effect};
-ghost use Rattle.wt_spec.specs.Halves.{has_receiving_half};
-ghost use Rattle.wt_turn.specs.Log.{Log};
 ghost use Rattle.wt_turn.specs.Records.{record_of};
 ghost use Rattle.wt_turn.specs.declared.call.Call.TheVariants as calls;
 ghost use Rattle.wt_turn.specs.declared.poll.Poll.TheVariants.{Ready};
-ghost use Rattle.wt_reply.specs.declared.reply.Reply.TheVariants as replies;
-ghost use Rattle.wt_wire.specs.declared.side.Side.{Side};
 
 use crate::calling::{carry_out, record, transport};
 use std::alloc::Global;
@@ -110,10 +104,8 @@ impl RecvStream {
         d: &mut Driver,
         buf: &mut [u8],
     ) -> Poll<Result<Option<usize>, StreamReadError>>
-        ensures reply { (side : Side) (log : Log) (taken : ℕ) → Follows side d.old log taken → IsReachable side log → has_receiving_half side log self.old ≡ true
-            → read_reply buf.new result ≡ (call_effect side log (calls.Read self.old (length buf.old))).reply }
-        ensures log { (side : Side) (log : Log) (taken : ℕ) → Follows side d.old log taken → IsReachable side log → has_receiving_half side log self.old ≡ true
-            → Follows side d.new (call_effect side log (calls.Read self.old (length buf.old))).log taken }
+        ensures reply { RepliesTo d.old (HasReceiving self.old) (calls.Read self.old (length buf.old)) (read_reply buf.new) result }
+        ensures log { LeadsOn d.old (HasReceiving self.old) (calls.Read self.old (length buf.old)) d.new }
         ensures rest { drop (read_into result) buf.new ≡ drop (read_into result) buf.old }
         ensures empty { length buf.old ≡ 0 → result ≡ Ready (Ok (Some 0)) }
         ensures same { self.new ≡ self.old }
@@ -138,10 +130,8 @@ impl RecvStream {
         d: &mut Driver,
         buf: &mut [u8],
     ) -> Poll<Result<(), StreamReadExactError>>
-        ensures reply { (side : Side) (log : Log) (taken : ℕ) → Follows side d.old log taken → IsReachable side log → has_receiving_half side log self.old ≡ true
-            → exact_reply buf.new result ≡ (call_effect side log (calls.ReadExact self.old (length buf.old))).reply }
-        ensures log { (side : Side) (log : Log) (taken : ℕ) → Follows side d.old log taken → IsReachable side log → has_receiving_half side log self.old ≡ true
-            → Follows side d.new (call_effect side log (calls.ReadExact self.old (length buf.old))).log taken }
+        ensures reply { RepliesTo d.old (HasReceiving self.old) (calls.ReadExact self.old (length buf.old)) (exact_reply buf.new) result }
+        ensures log { LeadsOn d.old (HasReceiving self.old) (calls.ReadExact self.old (length buf.old)) d.new }
         ensures rest { drop (exactly_read (length buf.old) result) buf.new ≡ drop (exactly_read (length buf.old) result) buf.old }
         ensures same { self.new ≡ self.old }
     {
@@ -160,10 +150,8 @@ impl RecvStream {
     ///
     /// `OutOfMemory` where what goes out found no memory.
     pub fn stop(self, alloc: Global, d: &mut Driver, code: VarInt) -> Result<(), OutOfMemory>
-        ensures reply { (side : Side) (log : Log) (taken : ℕ) → Follows side d.old log taken → IsReachable side log → has_receiving_half side log self ≡ true
-            → OnOk result (replies.Done ≡ (call_effect side log (calls.StopRecv self code)).reply) }
-        ensures log { (side : Side) (log : Log) (taken : ℕ) → Follows side d.old log taken → IsReachable side log → has_receiving_half side log self ≡ true
-            → OnOk result (Follows side d.new (call_effect side log (calls.StopRecv self code)).log taken) }
+        ensures reply { IfOk result (RepliesTo d.old (HasReceiving self) (calls.StopRecv self code) done_reply) }
+        ensures log { OnOk result (LeadsOn d.old (HasReceiving self) (calls.StopRecv self code) d.new) }
     {
         let plan = half_plans::stop(alloc, transport(d), self.id, code)?;
         carry_out(alloc, d, plan)

@@ -1,17 +1,12 @@
 //! The sending half of a stream (RFC 9000, sections 2.4 and 3.1).
 ghost use Rattle.std.specs.Prelude.{◌≡◌, Err, IfOk, Ok, OnOk, if◌then◌else◌, true, ℕ};
 ghost use Rattle.wt_driver_state.specs.Calling.{leaves_at_rest};
-ghost use Rattle.wt_driver_state.specs.Tie.{Follows};
-ghost use Rattle.wt_halves.specs.Replies.{reset_reply};
-ghost use Rattle.wt_laws.specs.Reachable.{IsReachable};
+ghost use Rattle.wt_halves.specs.Answering.{HasSending, LeadsOn, RepliesTo};
+ghost use Rattle.wt_halves.specs.Replies.{done_reply, reset_reply};
 ghost use Rattle.wt_session_spec.specs.HalfPlans.{finish_reply, priority_reply, stopped_by, write_all_reply, write_reply};
-ghost use Rattle.wt_spec.specs.Answers.{call_effect};
-ghost use Rattle.wt_spec.specs.Halves.{has_sending_half};
-ghost use Rattle.wt_turn.specs.Log.{Log, Polled, PrioritySet};
+ghost use Rattle.wt_turn.specs.Log.{Polled, PrioritySet};
 ghost use Rattle.wt_turn.specs.Records.{record_of};
 ghost use Rattle.wt_turn.specs.declared.call.Call.TheVariants as calls;
-ghost use Rattle.wt_reply.specs.declared.reply.Reply.TheVariants as replies;
-ghost use Rattle.wt_wire.specs.declared.side.Side.{Side};
 
 use crate::calling::{carry_out, record, transport};
 use std::alloc::Global;
@@ -92,10 +87,8 @@ impl SendStream {
         d: &mut Driver,
         buf: &[u8],
     ) -> Result<Poll<Result<usize, StreamWriteError>>, OutOfMemory>
-        ensures reply { (side : Side) (log : Log) (taken : ℕ) → Follows side d.old log taken → IsReachable side log → has_sending_half side log self.old ≡ true
-            → IfOk result (λ a. write_reply a ≡ (call_effect side log (calls.Write self.old buf.now)).reply) }
-        ensures log { (side : Side) (log : Log) (taken : ℕ) → Follows side d.old log taken → IsReachable side log → has_sending_half side log self.old ≡ true
-            → OnOk result (Follows side d.new (call_effect side log (calls.Write self.old buf.now)).log taken) }
+        ensures reply { IfOk result (RepliesTo d.old (HasSending self.old) (calls.Write self.old buf.now) write_reply) }
+        ensures log { OnOk result (LeadsOn d.old (HasSending self.old) (calls.Write self.old buf.now) d.new) }
         ensures same { self.new ≡ self.old }
     {
         let t = transport(d);
@@ -122,10 +115,8 @@ impl SendStream {
         d: &mut Driver,
         buf: &[u8],
     ) -> Result<Result<WriteAll, StreamWriteError>, OutOfMemory>
-        ensures reply { (side : Side) (log : Log) (taken : ℕ) → Follows side d.old log taken → IsReachable side log → has_sending_half side log self.old ≡ true
-            → IfOk result (λ a. write_all_reply a ≡ (call_effect side log (calls.WriteAll self.old buf.now)).reply) }
-        ensures log { (side : Side) (log : Log) (taken : ℕ) → Follows side d.old log taken → IsReachable side log → has_sending_half side log self.old ≡ true
-            → OnOk result (Follows side d.new (call_effect side log (calls.WriteAll self.old buf.now)).log taken) }
+        ensures reply { IfOk result (RepliesTo d.old (HasSending self.old) (calls.WriteAll self.old buf.now) write_all_reply) }
+        ensures log { OnOk result (LeadsOn d.old (HasSending self.old) (calls.WriteAll self.old buf.now) d.new) }
         ensures same { self.new ≡ self.old }
     {
         let t = transport(d);
@@ -154,10 +145,8 @@ impl SendStream {
         alloc: Global,
         d: &mut Driver,
     ) -> Result<Poll<Result<(), StreamWriteError>>, OutOfMemory>
-        ensures reply { (side : Side) (log : Log) (taken : ℕ) → Follows side d.old log taken → IsReachable side log → has_sending_half side log self.old ≡ true
-            → IfOk result (λ a. finish_reply a ≡ (call_effect side log (calls.Finish self.old)).reply) }
-        ensures log { (side : Side) (log : Log) (taken : ℕ) → Follows side d.old log taken → IsReachable side log → has_sending_half side log self.old ≡ true
-            → OnOk result (Follows side d.new (call_effect side log (calls.Finish self.old)).log taken) }
+        ensures reply { IfOk result (RepliesTo d.old (HasSending self.old) (calls.Finish self.old) finish_reply) }
+        ensures log { OnOk result (LeadsOn d.old (HasSending self.old) (calls.Finish self.old) d.new) }
         ensures same { self.new ≡ self.old }
     {
         let t = transport(d);
@@ -176,10 +165,8 @@ impl SendStream {
     ///
     /// It takes no memory.
     pub fn stopped(&mut self, d: &mut Driver) -> Poll<StreamWriteError>
-        ensures reply { (side : Side) (log : Log) (taken : ℕ) → Follows side d.old log taken → IsReachable side log → has_sending_half side log self.old ≡ true
-            → stopped_by result ≡ (call_effect side log (calls.Stopped self.old)).reply }
-        ensures log { (side : Side) (log : Log) (taken : ℕ) → Follows side d.old log taken → IsReachable side log → has_sending_half side log self.old ≡ true
-            → Follows side d.new (call_effect side log (calls.Stopped self.old)).log taken }
+        ensures reply { RepliesTo d.old (HasSending self.old) (calls.Stopped self.old) stopped_by result }
+        ensures log { LeadsOn d.old (HasSending self.old) (calls.Stopped self.old) d.new }
         ensures same { self.new ≡ self.old }
     {
         let t = transport(d);
@@ -205,10 +192,8 @@ impl SendStream {
         d: &mut Driver,
         code: VarInt,
     ) -> Result<Result<(), ClosedStream>, OutOfMemory>
-        ensures reply { (side : Side) (log : Log) (taken : ℕ) → Follows side d.old log taken → IsReachable side log → has_sending_half side log self.old ≡ true
-            → IfOk result (λ a. reset_reply a ≡ (call_effect side log (calls.ResetSend self.old code)).reply) }
-        ensures log { (side : Side) (log : Log) (taken : ℕ) → Follows side d.old log taken → IsReachable side log → has_sending_half side log self.old ≡ true
-            → OnOk result (Follows side d.new (call_effect side log (calls.ResetSend self.old code)).log taken) }
+        ensures reply { IfOk result (RepliesTo d.old (HasSending self.old) (calls.ResetSend self.old code) reset_reply) }
+        ensures log { OnOk result (LeadsOn d.old (HasSending self.old) (calls.ResetSend self.old code) d.new) }
         ensures same { self.new ≡ self.old }
     {
         let t = transport(d);
@@ -229,10 +214,8 @@ impl SendStream {
     ///
     /// It takes no memory.
     pub fn priority(&self, d: &mut Driver) -> Result<i32, ClosedStream>
-        ensures reply { (side : Side) (log : Log) (taken : ℕ) → Follows side d.old log taken → IsReachable side log → has_sending_half side log self.now ≡ true
-            → priority_reply result ≡ (call_effect side log (calls.Priority self.now)).reply }
-        ensures log { (side : Side) (log : Log) (taken : ℕ) → Follows side d.old log taken → IsReachable side log → has_sending_half side log self.now ≡ true
-            → Follows side d.new (call_effect side log (calls.Priority self.now)).log taken }
+        ensures reply { RepliesTo d.old (HasSending self.now) (calls.Priority self.now) priority_reply result }
+        ensures log { LeadsOn d.old (HasSending self.now) (calls.Priority self.now) d.new }
     {
         let t = transport(d);
         if !t.can_send(self.id) {
@@ -248,10 +231,8 @@ impl SendStream {
     ///
     /// It takes no memory.
     pub fn set_priority(&mut self, d: &mut Driver, priority: i32)
-        ensures reply { (side : Side) (log : Log) (taken : ℕ) → Follows side d.old log taken → IsReachable side log → has_sending_half side log self.old ≡ true
-            → replies.Done ≡ (call_effect side log (calls.SetPriority self.old priority)).reply }
-        ensures log { (side : Side) (log : Log) (taken : ℕ) → Follows side d.old log taken → IsReachable side log → has_sending_half side log self.old ≡ true
-            → Follows side d.new (call_effect side log (calls.SetPriority self.old priority)).log taken }
+        ensures reply { RepliesTo d.old (HasSending self.old) (calls.SetPriority self.old priority) done_reply tt }
+        ensures log { LeadsOn d.old (HasSending self.old) (calls.SetPriority self.old priority) d.new }
         ensures same { self.new ≡ self.old }
     {
         let t = transport(d);

@@ -34,6 +34,10 @@ pub record IsResponse (side : Side) (log : Log) (accepts : Bool) (r : Response) 
   pub requested : requested (calls_of log) ≡ r.id
   pub end : KeepsRequestEnd side log r.end
 
+-- this end has this response, which accepts or rejects
+abbrev pub HasResponse : Bool → Response → Side → Log → Type 0
+HasResponse accepts r side log = IsResponse side log accepts r
+
 -- ---- which call a poll is
 
 -- the call accepts, and its response begins with this head

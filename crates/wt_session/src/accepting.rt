@@ -1,9 +1,9 @@
 //! The acceptance of a request for a session (RFC 9220, section 3).
-ghost use Rattle.std.specs.Prelude.{◌≡◌, IfOk, OnOk, true, ℕ};
-ghost use Rattle.wt_session.specs.Responding.{IsAcceptance, IsPollOf, IsResponse, StandsWith, accepting_reply};
-ghost use Rattle.wt_driver_state.specs.Tie.{Follows};
+ghost use Rattle.std.specs.Prelude.{◌≡◌, IfOk, OnOk, true};
+ghost use Rattle.wt_session.specs.Responding.{HasResponse, IsAcceptance, IsPollOf, IsResponse, StandsWith, accepting_reply};
+ghost use Rattle.wt_halves.specs.Answering.{LeadsOn, RepliesTo, StandsBehind};
 ghost use Rattle.wt_laws.specs.Reachable.{IsReachable};
-ghost use Rattle.wt_spec.specs.Answers.{call_effect, may_call};
+ghost use Rattle.wt_spec.specs.Answers.{may_call};
 ghost use Rattle.wt_turn.specs.Log.{Log};
 ghost use Rattle.wt_turn.specs.declared.call.Call.{Call};
 ghost use Rattle.wt_wire.specs.declared.side.Side.{Side};
@@ -64,12 +64,9 @@ impl Accepting {
         alloc: Global,
         d: &mut Driver,
     ) -> Result<Poll<Result<Connection, ConnectionError>>, OutOfMemory>
-        ensures reply { (side : Side) (log : Log) (taken : ℕ) (call : Call) → Follows side d.old log taken → IsReachable side log → IsResponse side log true self.old → IsPollOf true self.old call
-            → IfOk result (λ p. accepting_reply p ≡ (call_effect side log call).reply) }
-        ensures log { (side : Side) (log : Log) (taken : ℕ) (call : Call) → Follows side d.old log taken → IsReachable side log → IsResponse side log true self.old → IsPollOf true self.old call
-            → OnOk result (Follows side d.new (call_effect side log call).log taken) }
-        ensures stands { (side : Side) (log : Log) (taken : ℕ) (call : Call) → Follows side d.old log taken → IsReachable side log → IsResponse side log true self.old → IsPollOf true self.old call
-            → IfOk result (λ p. StandsWith side (call_effect side log call).log true self.new (accepting_reply p)) }
+        ensures reply { (call : Call) → IsPollOf true self.old call → IfOk result (RepliesTo d.old (HasResponse true self.old) call accepting_reply) }
+        ensures log { (call : Call) → IsPollOf true self.old call → OnOk result (LeadsOn d.old (HasResponse true self.old) call d.new) }
+        ensures stands { (call : Call) → IsPollOf true self.old call → IfOk result (λ p. StandsBehind d.old (HasResponse true self.old) call (λ side log. StandsWith side log true self.new (accepting_reply p))) }
         ensures lawful { (side : Side) (log : Log) (call : Call) → IsReachable side log → IsResponse side log true self.old → IsPollOf true self.old call → may_call side log call ≡ true }
     {
         let reply = self.response.poll(alloc, d, true)?;

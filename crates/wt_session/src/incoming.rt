@@ -1,17 +1,17 @@
 //! The request for a session that a server is given (RFC 9220, section 3).
 ghost use Rattle.std.specs.Option.{option_copied};
-ghost use Rattle.std.specs.Prelude.{◌≡◌, [], ◌∷◌, IfOk, OnOk, Err, Ok, Some, codes, false, true, ℕ};
+ghost use Rattle.std.specs.Prelude.{◌≡◌, [], IfOk, OnOk, Err, Ok, Some, codes, false, true, ℕ};
 ghost use Rattle.wt_session.specs.Incoming.{IsUnanswered, StandsWith, incoming_reply, told_of, unbegun};
 ghost use Rattle.wt_session.specs.Responding.{IsPollOf, IsResponse};
 ghost use Rattle.wt_driver_spec.specs.DriverState.{requests_now};
 ghost use Rattle.wt_dispatch.specs.Requests.{first_request};
 ghost use Rattle.wt_driver_state.specs.Tie.{Follows};
 ghost use Rattle.wt_driver_spec.specs.Asking.{MayBeCalled};
-ghost use Rattle.wt_laws.specs.Reachable.{IsReachable};
+ghost use Rattle.wt_halves.specs.Answering.{LeadsOn, MayCall, RepliesTo, StandsBehind};
 ghost use Rattle.wt_message.specs.FixedBytes.{response_bytes};
 ghost use Rattle.wt_message.specs.Requests.{request_of};
 ghost use Rattle.wt_call_plans.specs.MayPlan.{FirstIsRequest};
-ghost use Rattle.wt_spec.specs.Answers.{call_effect, may_call};
+ghost use Rattle.wt_spec.specs.Answers.{may_call};
 ghost use Rattle.wt_spec.specs.Effect.{log_call};
 ghost use Rattle.wt_spec.specs.Handshake as handshake;
 ghost use Rattle.wt_spec.specs.Handshake.{response_head};
@@ -149,12 +149,9 @@ impl IncomingSessionFuture {
     /// `OutOfMemory` where the request, what is recorded or the error found no memory. The
     /// `ConnectionError` is how the connection ended, as the driver tells it.
     pub fn poll(&mut self, alloc: Global, d: &mut Driver) -> Result<Given, OutOfMemory>
-        ensures reply { (side : Side) (log : Log) (taken : ℕ) → Follows side d.old log taken → IsReachable side log → may_call side log calls.Incoming ≡ true
-            → IfOk result (λ p. incoming_reply p ≡ (call_effect side log calls.Incoming).reply) }
-        ensures log { (side : Side) (log : Log) (taken : ℕ) → Follows side d.old log taken → IsReachable side log → may_call side log calls.Incoming ≡ true
-            → OnOk result (Follows side d.new (call_effect side log calls.Incoming).log taken) }
-        ensures stands { (side : Side) (log : Log) (taken : ℕ) → Follows side d.old log taken → IsReachable side log → may_call side log calls.Incoming ≡ true
-            → IfOk result (λ p. StandsWith side (call_effect side log calls.Incoming).log p) }
+        ensures reply { IfOk result (RepliesTo d.old (MayCall calls.Incoming) calls.Incoming incoming_reply) }
+        ensures log { OnOk result (LeadsOn d.old (MayCall calls.Incoming) calls.Incoming d.new) }
+        ensures stands { IfOk result (λ p. StandsBehind d.old (MayCall calls.Incoming) calls.Incoming (λ side log. StandsWith side log p)) }
     {
         let request = queued_request(d)?;
         match request {

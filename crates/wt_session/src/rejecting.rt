@@ -1,9 +1,9 @@
 //! The rejection of a request for a session (RFC 9220, section 3).
-ghost use Rattle.std.specs.Prelude.{◌≡◌, IfOk, OnOk, false, true, ℕ};
-ghost use Rattle.wt_session.specs.Responding.{IsPollOf, IsRejection, IsResponse, StandsWith, rejecting_reply};
-ghost use Rattle.wt_driver_state.specs.Tie.{Follows};
+ghost use Rattle.std.specs.Prelude.{◌≡◌, IfOk, OnOk, false, true};
+ghost use Rattle.wt_session.specs.Responding.{HasResponse, IsPollOf, IsRejection, IsResponse, StandsWith, rejecting_reply};
+ghost use Rattle.wt_halves.specs.Answering.{LeadsOn, RepliesTo, StandsBehind};
 ghost use Rattle.wt_laws.specs.Reachable.{IsReachable};
-ghost use Rattle.wt_spec.specs.Answers.{call_effect, may_call};
+ghost use Rattle.wt_spec.specs.Answers.{may_call};
 ghost use Rattle.wt_turn.specs.Log.{Log};
 ghost use Rattle.wt_turn.specs.declared.call.Call.{Call};
 ghost use Rattle.wt_wire.specs.declared.side.Side.{Side};
@@ -57,12 +57,9 @@ impl Rejecting {
     ///
     /// `OutOfMemory` where what goes out or what is recorded found no memory.
     pub fn poll(&mut self, alloc: Global, d: &mut Driver) -> Result<Poll<()>, OutOfMemory>
-        ensures reply { (side : Side) (log : Log) (taken : ℕ) (call : Call) → Follows side d.old log taken → IsReachable side log → IsResponse side log false self.old → IsPollOf false self.old call
-            → IfOk result (λ p. rejecting_reply p ≡ (call_effect side log call).reply) }
-        ensures log { (side : Side) (log : Log) (taken : ℕ) (call : Call) → Follows side d.old log taken → IsReachable side log → IsResponse side log false self.old → IsPollOf false self.old call
-            → OnOk result (Follows side d.new (call_effect side log call).log taken) }
-        ensures stands { (side : Side) (log : Log) (taken : ℕ) (call : Call) → Follows side d.old log taken → IsReachable side log → IsResponse side log false self.old → IsPollOf false self.old call
-            → IfOk result (λ p. StandsWith side (call_effect side log call).log false self.new (rejecting_reply p)) }
+        ensures reply { (call : Call) → IsPollOf false self.old call → IfOk result (RepliesTo d.old (HasResponse false self.old) call rejecting_reply) }
+        ensures log { (call : Call) → IsPollOf false self.old call → OnOk result (LeadsOn d.old (HasResponse false self.old) call d.new) }
+        ensures stands { (call : Call) → IsPollOf false self.old call → IfOk result (λ p. StandsBehind d.old (HasResponse false self.old) call (λ side log. StandsWith side log false self.new (rejecting_reply p))) }
         ensures lawful { (side : Side) (log : Log) (call : Call) → IsReachable side log → IsResponse side log false self.old → IsPollOf false self.old call → may_call side log call ≡ true }
     {
         let reply = self.response.poll(alloc, d, false)?;

@@ -1,14 +1,14 @@
 //! The response to a request, as it goes on.
 ghost use Rattle.std.specs.Prelude.{◌≡◌, Bool, IfOk, OnOk, true, ℕ};
-ghost use Rattle.wt_session.specs.Responding.{IsPollOf, IsResponse, IsResponseReply, StandsWith, waiting_record};
+ghost use Rattle.wt_session.specs.Responding.{HasResponse, IsPollOf, IsResponse, IsResponseReply, StandsWith, waiting_record};
 ghost use Rattle.wt_driver_state.specs.Tie.{Follows};
+ghost use Rattle.wt_halves.specs.Answering.{LeadsOn, OfEachLog, RepliesTo, StandsBehind};
 ghost use Rattle.wt_laws.specs.Reachable.{IsReachable};
 ghost use Rattle.wt_plan.specs.Planned.{planned};
 ghost use Rattle.wt_session_spec.specs.CallFacts.{facts_of};
 ghost use Rattle.wt_session_spec.specs.HandshakePlans.{response_plan};
 ghost use Rattle.wt_session_spec.specs.Plans.{plan_of};
 ghost use Rattle.wt_session_spec.specs.SessionState.{session_state};
-ghost use Rattle.wt_spec.specs.Answers.{call_effect};
 ghost use Rattle.wt_turn.specs.Log.{Log};
 ghost use Rattle.wt_turn.specs.Records.{record_of};
 ghost use Rattle.wt_turn.specs.declared.call.Call.{Call};
@@ -98,14 +98,10 @@ impl Response {
         d: &mut Driver,
         accepts: bool,
     ) -> Result<Reply, OutOfMemory>
-        ensures reply { (side : Side) (log : Log) (taken : ℕ) (call : Call) → Follows side d.old log taken → IsReachable side log → IsResponse side log accepts self.old → IsPollOf accepts self.old call
-            → IfOk result (λ r. r ≡ (call_effect side log call).reply) }
-        ensures log { (side : Side) (log : Log) (taken : ℕ) (call : Call) → Follows side d.old log taken → IsReachable side log → IsResponse side log accepts self.old → IsPollOf accepts self.old call
-            → OnOk result (Follows side d.new (call_effect side log call).log taken) }
-        ensures kind { (side : Side) (log : Log) (taken : ℕ) (call : Call) → Follows side d.old log taken → IsReachable side log → IsResponse side log accepts self.old → IsPollOf accepts self.old call
-            → IfOk result (λ r. IsResponseReply accepts r) }
-        ensures stands { (side : Side) (log : Log) (taken : ℕ) (call : Call) → Follows side d.old log taken → IsReachable side log → IsResponse side log accepts self.old → IsPollOf accepts self.old call
-            → IfOk result (λ r. StandsWith side (call_effect side log call).log accepts self.new r) }
+        ensures reply { (call : Call) → IsPollOf accepts self.old call → IfOk result (RepliesTo d.old (HasResponse accepts self.old) call (λ r. r)) }
+        ensures log { (call : Call) → IsPollOf accepts self.old call → OnOk result (LeadsOn d.old (HasResponse accepts self.old) call d.new) }
+        ensures kind { (call : Call) → IsPollOf accepts self.old call → IfOk result (λ r. OfEachLog d.old (HasResponse accepts self.old) (λ side log taken. IsResponseReply accepts r)) }
+        ensures stands { (call : Call) → IsPollOf accepts self.old call → IfOk result (λ r. StandsBehind d.old (HasResponse accepts self.old) call (λ side log. StandsWith side log accepts self.new r)) }
     {
         let plan = self.plan(alloc, d, accepts)?;
         let reply = perform(alloc, d, plan)?;

@@ -1,24 +1,23 @@
 use Rattle.std.proofs.Common.{◌∙◌, ◌≡◌, IfOk, ap, subst}
 use Rattle.wt_connection.proofs.Sessions.{receive_is}
+use Rattle.wt_connection.specs.Standing.{HasSession}
+use Rattle.wt_halves.proofs.Answering.{if_of_each}
 use Rattle.wt_halves.proofs.Told.{always}
 use Rattle.wt_driver_state.specs.Tie.{Follows}
 use Rattle.wt_calls.specs.Given.{poll_reply}
-use Rattle.wt_spec.specs.Answers.{call_effect}
 use Rattle.wt_spec.specs.Effect.{Effect}
-use Rattle.wt_turn.specs.declared.call.Call.TheVariants as calls
 use Rattle.wt_reply.specs.declared.reply.Reply.{Reply}
 use Rattle.wt_reply.specs.declared.reply.Reply.TheVariants as replies
 use Rattle.wt_connection.proofs.connection.Connection.receive_datagram.Goals as goal
 
 pub returns-clause-reply : goal.returns-clause-reply
-returns-clause-reply c = rw (← c.self.view_is) (λ side log taken f r s.
+returns-clause-reply c = rw (← c.self.view_is) (if_of_each c.args.d.now (HasSession c.self.inside.session) c.datagram_of.result _ (λ side log taken f r s.
     subst (λ (x : Reply). IfOk c.datagram_of.result (λ a. poll_reply (λ datagram. replies.Datagram datagram.payload) a ≡ x))
-    (c.in_ok-answer.ensures.reply side log taken f ∙ ap (λ (x : Effect). x.reply) (receive_is side log c.self.inside.session s)) c.datagram_of.ensures.reply)
+    (c.in_ok-answer.ensures.reply side log taken f ∙ ap (λ (x : Effect). x.reply) (receive_is side log c.self.inside.session s)) c.datagram_of.ensures.reply))
 
 pub returns-clause-log : goal.returns-clause-log
-returns-clause-log c = rw (← c.self.view_is) (λ side log taken f r s.
-    always c.datagram_of.result (Follows side c.receive.new.d (call_effect side log calls.ReceiveDatagram).log taken)
-    (subst (λ (x : Effect). Follows side c.receive.new.d x.log taken) (receive_is side log c.self.inside.session s) (c.in_ok-answer.ensures.log side log taken f)))
+returns-clause-log c = rw (← c.self.view_is) (always c.datagram_of.result _ (λ side log taken f r s.
+    subst (λ (x : Effect). Follows side c.receive.new.d x.log taken) (receive_is side log c.self.inside.session s) (c.in_ok-answer.ensures.log side log taken f)))
 
 pub returns-clause-session : goal.returns-clause-session
 returns-clause-session c = rw (← c.self.view_is) c.datagram_of.ensures.session
