@@ -258,33 +258,20 @@ scanned-agrees t s kept k =
 
 -- ---- a moment
 
-entry-came : (t : TransportView) (m : Entry) (s : DriverState) → (after_entry t m s).progress.settings ≡ s.progress.settings
-entry-came t (Reported PeerUni) s = refl
-entry-came t (Reported PeerBi) s = refl
-entry-came t (Reported _) s = refl
-entry-came t (Called (StreamAccepted id)) s = refl
-entry-came t (Called (StreamPassed id)) s = refl
-entry-came t (Called DatagramReceived) s = refl
-entry-came t (Called DatagramPassed) s = refl
-entry-came t (Called (RequestDelivered id)) s = refl
-entry-came t (Called (SessionEstablished id at)) s = refl
-entry-came t (Called _) s = refl
-entry-came t (Sent a) s = refl
-entry-came t _ s = refl
-
-entry-control : (t : TransportView) (m : Entry) (s : DriverState) → (after_entry t m s).dispatched.control ≡ s.dispatched.control
-entry-control t (Reported PeerUni) s = refl
-entry-control t (Reported PeerBi) s = refl
-entry-control t (Reported _) s = refl
-entry-control t (Called (StreamAccepted id)) s = refl
-entry-control t (Called (StreamPassed id)) s = refl
-entry-control t (Called DatagramReceived) s = refl
-entry-control t (Called DatagramPassed) s = refl
-entry-control t (Called (RequestDelivered id)) s = refl
-entry-control t (Called (SessionEstablished id at)) s = refl
-entry-control t (Called _) s = refl
-entry-control t (Sent a) s = refl
-entry-control t _ s = refl
+-- an entry changes neither whether SETTINGS came nor which stream is the control stream
+entry-keeps : (t : TransportView) (m : Entry) (s : DriverState) → ((after_entry t m s).progress.settings ≡ s.progress.settings) × ((after_entry t m s).dispatched.control ≡ s.dispatched.control)
+entry-keeps t (Reported PeerUni) s = (refl, refl)
+entry-keeps t (Reported PeerBi) s = (refl, refl)
+entry-keeps t (Reported _) s = (refl, refl)
+entry-keeps t (Called (StreamAccepted id)) s = (refl, refl)
+entry-keeps t (Called (StreamPassed id)) s = (refl, refl)
+entry-keeps t (Called DatagramReceived) s = (refl, refl)
+entry-keeps t (Called DatagramPassed) s = (refl, refl)
+entry-keeps t (Called (RequestDelivered id)) s = (refl, refl)
+entry-keeps t (Called (SessionEstablished id at)) s = (refl, refl)
+entry-keeps t (Called _) s = (refl, refl)
+entry-keeps t (Sent a) s = (refl, refl)
+entry-keeps t _ s = (refl, refl)
 
 came-says : (side : Side) (log : Log) → (state_of side log).progress.settings ≡ settings_came side log
 unfolding state_of
@@ -300,9 +287,9 @@ pub scanned-keeps : (side : Side) (log : Log) (m : Entry) (s : DriverState) (kep
 scanned-keeps side log m s kept here there k =
     let u : TransportView = transport_view side (m ∷ log) in
     let came : s.progress.settings ≡ settings_came side log =
-    ap (λ (x : DriverState). x.progress.settings) here ∙ entry-came (transport_view side log) m (state_of side log) ∙ came-says side log in
+    ap (λ (x : DriverState). x.progress.settings) here ∙ (entry-keeps (transport_view side log) m (state_of side log)).0 ∙ came-says side log in
     let control : s.dispatched.control ≡ peer_control side log =
-    ap (λ (x : DriverState). x.dispatched.control) here ∙ entry-control (transport_view side log) m (state_of side log) ∙ control-says side log in
+    ap (λ (x : DriverState). x.dispatched.control) here ∙ (entry-keeps (transport_view side log) m (state_of side log)).1 ∙ control-says side log in
     let first : Agrees u s kept = record {
       came = k.came ∙ sym came;
       read = λ x is. ap (λ (o : Option (ℕ × ℕ)). settings_read u o) control ∙ read-stays side log m (peer_control side log) x (k.read x is);

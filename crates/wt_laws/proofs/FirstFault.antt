@@ -377,38 +377,21 @@ module _ (side : Side) (log : Log) (before after : StreamTable) where
 
 -- ---- the law
 
--- the last of two equal lists
-snoc-last : (xs ys : List Classified) (x y : Classified) → xs ++ x ∷ [] ≡ ys ++ y ∷ [] → x ≡ y
-snoc-last [] [] x y e = cc
-snoc-last [] (z ∷ ys) x y e = absurd (none-there ys (let f : [] ≡ ys ++ y ∷ [] = cc in f))
-  where
-    none-there : (zs : List Classified) → [] ≡ zs ++ y ∷ [] → ⊥
-    none-there [] f = absurd (cc)
-    none-there (w ∷ zs) f = absurd (cc)
-snoc-last (w ∷ xs) [] x y e = absurd (none-there xs (let f : xs ++ x ∷ [] ≡ [] = cc in f))
-  where
-    none-there : (zs : List Classified) → zs ++ x ∷ [] ≡ [] → ⊥
-    none-there [] f = absurd (cc)
-    none-there (v ∷ zs) f = absurd (cc)
-snoc-last (w ∷ xs) (z ∷ ys) x y e = let f : xs ++ x ∷ [] ≡ ys ++ y ∷ [] = cc in snoc-last xs ys x y f
+-- a list that ends with an item isn't empty
+ends-with : (xs : List Classified) (x : Classified) → [] ≡ xs ++ x ∷ [] → ⊥
+ends-with [] x e = absurd (cc)
+ends-with (w ∷ xs) x e = absurd (cc)
 
--- and what stands before it
-snoc-front : (xs ys : List Classified) (x y : Classified) → xs ++ x ∷ [] ≡ ys ++ y ∷ [] → xs ≡ ys
-snoc-front [] [] x y e = refl
-snoc-front [] (z ∷ ys) x y e = absurd (none-there ys (let f : [] ≡ ys ++ y ∷ [] = cc in f))
-  where
-    none-there : (zs : List Classified) → [] ≡ zs ++ y ∷ [] → ⊥
-    none-there [] f = absurd (cc)
-    none-there (w ∷ zs) f = absurd (cc)
-snoc-front (w ∷ xs) [] x y e = absurd (none-there xs (let f : xs ++ x ∷ [] ≡ [] = cc in f))
-  where
-    none-there : (zs : List Classified) → zs ++ x ∷ [] ≡ [] → ⊥
-    none-there [] f = absurd (cc)
-    none-there (v ∷ zs) f = absurd (cc)
-snoc-front (w ∷ xs) (z ∷ ys) x y e =
+-- two equal lists have the same last item, and the same before it
+last-same : (xs ys : List Classified) (x y : Classified) → xs ++ x ∷ [] ≡ ys ++ y ∷ [] → (xs ≡ ys) × (x ≡ y)
+last-same [] [] x y e = (refl, cc)
+last-same [] (z ∷ ys) x y e = absurd (ends-with ys y (let f : [] ≡ ys ++ y ∷ [] = cc in f))
+last-same (w ∷ xs) [] x y e = absurd (ends-with xs x (let f : [] ≡ xs ++ x ∷ [] = cc in f))
+last-same (w ∷ xs) (z ∷ ys) x y e =
     let f : xs ++ x ∷ [] ≡ ys ++ y ∷ [] = cc in
     let i : w ≡ z = cc in
-    ap (λ c. c ∷ xs) i ∙ ap (λ zs. z ∷ zs) (snoc-front xs ys x y f)
+    let rest = last-same xs ys x y f in
+    (ap (λ c. c ∷ xs) i ∙ ap (λ zs. z ∷ zs) rest.0, rest.1)
 
 -- a second of a kind that comes once
 uni-second : (offset : Verdict → Option ℕ) → ComesOnce offset → (calls : CallView) (cs : List Classified) (first : ℕ × ℕ) (k : ℕ) (v : Verdict) → is_some (offset v) ≡ true → first_at offset cs ≡ Some first → (uni_consequence (dispatched calls cs) k v).fault ≡ Some h3.StreamCreation
@@ -453,7 +436,7 @@ module _ (side : Side) (log : Log) (before : StreamTable) (n : before.progress.e
           let v = bi_verdict_of (contents log r.stream) (end_of (events_of log) r.stream) in
           let x : Classified = record { id = r.stream; verdict = v; surplus = (bi_consequence (dispatched (call_view log) r.table.classified) r.stream v).surplus } in
           let l = last-stays side log before n y e in
-          let same = snoc-last r.table.classified earlier x c (sym (ap (λ (t : StreamTable). t.classified) (l ∙ r.is)) ∙ q) in
+          let same = (last-same r.table.classified earlier x c (sym (ap (λ (t : StreamTable). t.classified) (l ∙ r.is)) ∙ q)).1 in
           ap (λ (t : StreamTable). t.progress.ending) l ∙ e ∙ sym r.fault ∙ ap (λ (z : Verdict). fault_ending (bi_consequence (dispatched (call_view log) r.table.classified) r.stream z).fault) (ap (λ (z : Classified). z.verdict) same ∙ f)
 
       at-unis : (o : Option Ending) → (scanned side log before n).progress.ending ≡ o → last.progress.ending ≡ Some (ByFault code)
@@ -464,7 +447,7 @@ module _ (side : Side) (log : Log) (before : StreamTable) (n : before.progress.e
           let x : Classified = record { id = r.stream; verdict = v; surplus = (uni_consequence (dispatched (call_view log) r.table.classified) r.stream v).surplus } in
           let b = bis-stay side log before n y e in
           let l = last-stays side log before n y (ap (λ (t : StreamTable). t.progress.ending) b ∙ e) ∙ b in
-          let same = snoc-last r.table.classified earlier x c (sym (ap (λ (t : StreamTable). t.classified) (l ∙ r.is)) ∙ q) in
+          let same = (last-same r.table.classified earlier x c (sym (ap (λ (t : StreamTable). t.classified) (l ∙ r.is)) ∙ q)).1 in
           ap (λ (t : StreamTable). t.progress.ending) l ∙ e ∙ sym r.fault ∙ ap (λ (z : Verdict). fault_ending (uni_consequence (dispatched (call_view log) r.table.classified) r.stream z).fault) (ap (λ (z : Classified). z.verdict) same ∙ f)
 
   -- and so did a second stream of a kind that comes once
@@ -479,7 +462,7 @@ module _ (side : Side) (log : Log) (before : StreamTable) (n : before.progress.e
           let r = bis-end side log before n u y e in
           let v = bi_verdict_of (contents log r.stream) (end_of (events_of log) r.stream) in
           let x : Classified = record { id = r.stream; verdict = v; surplus = (bi_consequence (dispatched (call_view log) r.table.classified) r.stream v).surplus } in
-          let same = snoc-last r.table.classified earlier x c (sym (ap (λ (t : StreamTable). t.classified) (last-stays side log before n y e ∙ r.is)) ∙ q) in
+          let same = (last-same r.table.classified earlier x c (sym (ap (λ (t : StreamTable). t.classified) (last-stays side log before n y e ∙ r.is)) ∙ q)).1 in
           absurd (let i = ap (λ (z : Classified). is_some (offset z.verdict)) same ∙ s in let k = ap is_some (no-offset offset m v (bi-not-once (contents log r.stream) (end_of (events_of log) r.stream))) in cc)
 
       at-unis : (e : Option Ending) → (scanned side log before n).progress.ending ≡ e → last.progress.ending ≡ Some (ByFault h3.StreamCreation)
@@ -491,8 +474,8 @@ module _ (side : Side) (log : Log) (before : StreamTable) (n : before.progress.e
           let b = bis-stay side log before n y e in
           let l = last-stays side log before n y (ap (λ (t : StreamTable). t.progress.ending) b ∙ e) ∙ b in
           let w = sym (ap (λ (t : StreamTable). t.classified) (l ∙ r.is)) ∙ q in
-          let i = ap (λ (z : Classified). is_some (offset z.verdict)) (snoc-last r.table.classified earlier x c w) ∙ s in
-          let j = ap (first_at offset) (snoc-front r.table.classified earlier x c w) ∙ f in
+          let i = ap (λ (z : Classified). is_some (offset z.verdict)) (last-same r.table.classified earlier x c w).1 ∙ s in
+          let j = ap (first_at offset) (last-same r.table.classified earlier x c w).0 ∙ f in
           ap (λ (t : StreamTable). t.progress.ending) l ∙ e ∙ sym r.fault ∙ ap fault_ending (uni-second offset m (call_view log) r.table.classified first r.stream v i j)
 
   tells-first : TellsFirst side log before last
