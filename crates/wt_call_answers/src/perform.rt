@@ -1,5 +1,6 @@
 //! What a plan leads to.
-ghost use Rattle.std.specs.Prelude.{◌≡◌, ◌∷◌, IfOk, List, OnOk, ℕ};
+ghost use Rattle.std.specs.Prelude.{◌≡◌, ◌∷◌, IfOk, List, OnOk};
+ghost use Rattle.wt_driver_state.specs.OfLog.{FollowsIfOk, OfEachLog, Tells};
 ghost use Rattle.wt_driver_state.specs.Tie.{Follows};
 ghost use Rattle.wt_driver_spec.specs.Asking.{MayBeCalled};
 ghost use Rattle.wt_plan.specs.Planned.{planned};
@@ -36,7 +37,7 @@ fn step(
     own: Vec<Action>,
     call: Record,
 ) -> Result<(), OutOfMemory>
-    ensures log { (side : Side) (log : Log) (taken : ℕ) → Follows side d.old log taken → MaySendAll side log own.items → MayBeCalled side (with_actions own.items log) (record_of call) → OnOk result (Follows side d.new (log_call side log own.items (record_of call)) taken) }
+    ensures log { OfEachLog d.old (λ side log taken. MaySendAll side log own.items → MayBeCalled side (with_actions own.items log) (record_of call) → OnOk result (Follows side d.new (log_call side log own.items (record_of call)) taken)) }
     ensures session { (calls : List CallRecord) → KeepsCalls s.old calls → OnOk result (KeepsCalls s.new (record_of call ∷ calls)) }
 {
     acting::step(d, own, &call)?;
@@ -70,9 +71,9 @@ fn accept_uni(
     s: &mut SessionTable,
     session: SessionId,
 ) -> Result<Reply, OutOfMemory>
-    ensures reply { (side : Side) (log : Log) (taken : ℕ) → Follows side d.old log taken → IfOk result (λ r. r ≡ (accept_stream side replies.Uni (peer_uni side) log session).reply) }
-    ensures log { (side : Side) (log : Log) (taken : ℕ) → Follows side d.old log taken → OnOk result (Follows side d.new (accept_stream side replies.Uni (peer_uni side) log session).log taken) }
-    ensures session { (side : Side) (log : Log) (taken : ℕ) → Follows side d.old log taken → KeepsCalls s.old (calls_of log) → OnOk result (KeepsCalls s.new (calls_of (accept_stream side replies.Uni (peer_uni side) log session).log)) }
+    ensures reply { Tells d.old (λ side log. IfOk result (λ r. r ≡ (accept_stream side replies.Uni (peer_uni side) log session).reply)) }
+    ensures log { FollowsIfOk result d.old d.new (λ side log. (accept_stream side replies.Uni (peer_uni side) log session).log) }
+    ensures session { Tells d.old (λ side log. KeepsCalls s.old (calls_of log) → OnOk result (KeepsCalls s.new (calls_of (accept_stream side replies.Uni (peer_uni side) log session).log))) }
 {
     let answer = acting::accept_uni(alloc, d, session)?;
     settle(s, given_in(&answer))?;
@@ -86,9 +87,9 @@ fn accept_bi(
     s: &mut SessionTable,
     session: SessionId,
 ) -> Result<Reply, OutOfMemory>
-    ensures reply { (side : Side) (log : Log) (taken : ℕ) → Follows side d.old log taken → IfOk result (λ r. r ≡ (accept_stream side replies.Bi (peer_bi side) log session).reply) }
-    ensures log { (side : Side) (log : Log) (taken : ℕ) → Follows side d.old log taken → OnOk result (Follows side d.new (accept_stream side replies.Bi (peer_bi side) log session).log taken) }
-    ensures session { (side : Side) (log : Log) (taken : ℕ) → Follows side d.old log taken → KeepsCalls s.old (calls_of log) → OnOk result (KeepsCalls s.new (calls_of (accept_stream side replies.Bi (peer_bi side) log session).log)) }
+    ensures reply { Tells d.old (λ side log. IfOk result (λ r. r ≡ (accept_stream side replies.Bi (peer_bi side) log session).reply)) }
+    ensures log { FollowsIfOk result d.old d.new (λ side log. (accept_stream side replies.Bi (peer_bi side) log session).log) }
+    ensures session { Tells d.old (λ side log. KeepsCalls s.old (calls_of log) → OnOk result (KeepsCalls s.new (calls_of (accept_stream side replies.Bi (peer_bi side) log session).log))) }
 {
     let answer = acting::accept_bi(alloc, d, session)?;
     settle(s, given_in(&answer))?;
@@ -102,9 +103,9 @@ fn receive(
     s: &mut SessionTable,
     session: SessionId,
 ) -> Result<Reply, OutOfMemory>
-    ensures reply { (side : Side) (log : Log) (taken : ℕ) → Follows side d.old log taken → IfOk result (λ r. r ≡ (receive_datagram side log session).reply) }
-    ensures log { (side : Side) (log : Log) (taken : ℕ) → Follows side d.old log taken → OnOk result (Follows side d.new (receive_datagram side log session).log taken) }
-    ensures session { (side : Side) (log : Log) (taken : ℕ) → Follows side d.old log taken → KeepsCalls s.old (calls_of log) → OnOk result (KeepsCalls s.new (calls_of (receive_datagram side log session).log)) }
+    ensures reply { Tells d.old (λ side log. IfOk result (λ r. r ≡ (receive_datagram side log session).reply)) }
+    ensures log { FollowsIfOk result d.old d.new (λ side log. (receive_datagram side log session).log) }
+    ensures session { Tells d.old (λ side log. KeepsCalls s.old (calls_of log) → OnOk result (KeepsCalls s.new (calls_of (receive_datagram side log session).log))) }
 {
     let answer = acting::receive(alloc, d, session)?;
     settle(s, None)?;
@@ -120,7 +121,7 @@ fn establish(
     at: usize,
 ) -> Result<Reply, OutOfMemory>
     ensures reply { (side : Side) (log : Log) → IfOk result (λ r. r ≡ (perform side log (session.Establish own.items id at)).reply) }
-    ensures log { (side : Side) (log : Log) (taken : ℕ) → Follows side d.old log taken → MayPerform side log (session.Establish own.items id at) → OnOk result (Follows side d.new (perform side log (session.Establish own.items id at)).log taken) }
+    ensures log { OfEachLog d.old (λ side log taken. MayPerform side log (session.Establish own.items id at) → OnOk result (Follows side d.new (perform side log (session.Establish own.items id at)).log taken)) }
     ensures session { (side : Side) (log : Log) → KeepsCalls s.old (calls_of log) → OnOk result (KeepsCalls s.new (calls_of (perform side log (session.Establish own.items id at)).log)) }
 {
     acting::establish(d, own, id, at)?;
@@ -136,9 +137,9 @@ pub fn perform(
     s: &mut SessionTable,
     plan: Plan,
 ) -> Result<Reply, OutOfMemory>
-    ensures reply { (side : Side) (log : Log) (taken : ℕ) → Follows side d.old log taken → MayPerform side log (planned plan) → IfOk result (λ r. r ≡ (perform side log (planned plan)).reply) }
-    ensures log { (side : Side) (log : Log) (taken : ℕ) → Follows side d.old log taken → MayPerform side log (planned plan) → OnOk result (Follows side d.new (perform side log (planned plan)).log taken) }
-    ensures session { (side : Side) (log : Log) (taken : ℕ) → Follows side d.old log taken → KeepsCalls s.old (calls_of log) → OnOk result (KeepsCalls s.new (calls_of (perform side log (planned plan)).log)) }
+    ensures reply { Tells d.old (λ side log. MayPerform side log (planned plan) → IfOk result (λ r. r ≡ (perform side log (planned plan)).reply)) }
+    ensures log { OfEachLog d.old (λ side log taken. MayPerform side log (planned plan) → OnOk result (Follows side d.new (perform side log (planned plan)).log taken)) }
+    ensures session { Tells d.old (λ side log. KeepsCalls s.old (calls_of log) → OnOk result (KeepsCalls s.new (calls_of (perform side log (planned plan)).log))) }
 {
     match plan {
         Plan::Step { own, call, reply } => {

@@ -1,5 +1,6 @@
 //! What a call leads to over a driver alone: its actions, its record, and what an accept or a receive gives.
 ghost use Rattle.std.specs.Prelude.{◌≡◌, IfOk, OnOk, ℕ};
+ghost use Rattle.wt_driver_state.specs.OfLog.{FollowsIfOk, OfEachLog, Tells};
 ghost use Rattle.wt_driver_state.specs.Given.{given_by, payload_by};
 ghost use Rattle.wt_driver_state.specs.Tie.{Follows};
 ghost use Rattle.wt_driver_spec.specs.Asking.{MayBeCalled};
@@ -41,7 +42,7 @@ use wt_wire::ids::{SessionId, StreamId};
 ///
 /// `OutOfMemory` where one of them found no memory.
 pub fn act_all(d: &mut Driver, own: Vec<Action>) -> Result<(), OutOfMemory>
-    ensures log { (side : Side) (log : Log) (taken : ℕ) → Follows side d.old log taken → MaySendAll side log own.items → OnOk result (Follows side d.new (with_actions own.items log) taken) }
+    ensures log { OfEachLog d.old (λ side log taken. MaySendAll side log own.items → OnOk result (Follows side d.new (with_actions own.items log) taken)) }
 {
     for action in own {
         d.act(action)?;
@@ -55,7 +56,7 @@ pub fn act_all(d: &mut Driver, own: Vec<Action>) -> Result<(), OutOfMemory>
 ///
 /// `OutOfMemory` where an action or the record found no memory.
 pub fn step(d: &mut Driver, own: Vec<Action>, call: &Record) -> Result<(), OutOfMemory>
-    ensures log { (side : Side) (log : Log) (taken : ℕ) → Follows side d.old log taken → MaySendAll side log own.items → MayBeCalled side (with_actions own.items log) (record_of call.now) → OnOk result (Follows side d.new (log_call side log own.items (record_of call.now)) taken) }
+    ensures log { OfEachLog d.old (λ side log taken. MaySendAll side log own.items → MayBeCalled side (with_actions own.items log) (record_of call.now) → OnOk result (Follows side d.new (log_call side log own.items (record_of call.now)) taken)) }
 {
     act_all(d, own)?;
     d.called(call)
@@ -64,7 +65,7 @@ pub fn step(d: &mut Driver, own: Vec<Action>, call: &Record) -> Result<(), OutOf
 /// A poll is recorded.
 #[tactic(auto, using(crate::proofs::Gives::polled_may))]
 fn poll(d: &mut Driver) -> Result<(), OutOfMemory>
-    ensures log { (side : Side) (log : Log) (taken : ℕ) → Follows side d.old log taken → OnOk result (Follows side d.new (log_and_flush side log (Called Polled)) taken) }
+    ensures log { FollowsIfOk result d.old d.new (λ side log. log_and_flush side log (Called Polled)) }
 {
     d.called(&Record::Polled)
 }
@@ -80,7 +81,7 @@ pub fn establish(
     id: SessionId,
     at: usize,
 ) -> Result<(), OutOfMemory>
-    ensures log { (side : Side) (log : Log) (taken : ℕ) → Follows side d.old log taken → MayPerform side log (session.Establish own.items id at) → OnOk result (Follows side d.new (perform side log (session.Establish own.items id at)).log taken) }
+    ensures log { OfEachLog d.old (λ side log taken. MayPerform side log (session.Establish own.items id at) → OnOk result (Follows side d.new (perform side log (session.Establish own.items id at)).log taken)) }
 {
     step(d, own, &Record::SessionEstablished(id.session_stream(), at))?;
     poll(d)
@@ -91,7 +92,7 @@ pub fn establish(
 /// How the connection ended, for a call with nothing left to give; None while it is open.
 #[tactic(auto, using(crate::proofs::Gives::pending_now))]
 fn failure(alloc: Global, d: &Driver) -> Result<Option<ConnectionError>, OutOfMemory>
-    ensures { (side : Side) (log : Log) (taken : ℕ) → Follows side d.now log taken → IfOk result (λ e. wait_reply e ≡ pending_or_failed side log) }
+    ensures { Tells d.now (λ side log. IfOk result (λ e. wait_reply e ≡ pending_or_failed side log)) }
 {
     let t = d.inbox().transport();
     if t.is_open() {
@@ -138,9 +139,9 @@ pub fn accept_uni(
     d: &mut Driver,
     session: SessionId,
 ) -> Result<Poll<Result<StreamId, ConnectionError>>, OutOfMemory>
-    ensures reply { (side : Side) (log : Log) (taken : ℕ) → Follows side d.old log taken → IfOk result (λ p. poll_reply replies.Uni p ≡ (accept_stream side replies.Uni (peer_uni side) log session).reply) }
-    ensures log { (side : Side) (log : Log) (taken : ℕ) → Follows side d.old log taken → OnOk result (Follows side d.new (accept_stream side replies.Uni (peer_uni side) log session).log taken) }
-    ensures given { (side : Side) (log : Log) (taken : ℕ) → Follows side d.old log taken → IfOk result (λ p. given_in p ≡ (accepted side (peer_uni side) log session).given) }
+    ensures reply { Tells d.old (λ side log. IfOk result (λ p. poll_reply replies.Uni p ≡ (accept_stream side replies.Uni (peer_uni side) log session).reply)) }
+    ensures log { FollowsIfOk result d.old d.new (λ side log. (accept_stream side replies.Uni (peer_uni side) log session).log) }
+    ensures given { Tells d.old (λ side log. IfOk result (λ p. given_in p ≡ (accepted side (peer_uni side) log session).given)) }
 {
     let given = given_by(d.accept_uni_id(session)?);
     let answer = accept_answer(alloc, d, given)?;
@@ -158,9 +159,9 @@ pub fn accept_bi(
     d: &mut Driver,
     session: SessionId,
 ) -> Result<Poll<Result<StreamId, ConnectionError>>, OutOfMemory>
-    ensures reply { (side : Side) (log : Log) (taken : ℕ) → Follows side d.old log taken → IfOk result (λ p. poll_reply replies.Bi p ≡ (accept_stream side replies.Bi (peer_bi side) log session).reply) }
-    ensures log { (side : Side) (log : Log) (taken : ℕ) → Follows side d.old log taken → OnOk result (Follows side d.new (accept_stream side replies.Bi (peer_bi side) log session).log taken) }
-    ensures given { (side : Side) (log : Log) (taken : ℕ) → Follows side d.old log taken → IfOk result (λ p. given_in p ≡ (accepted side (peer_bi side) log session).given) }
+    ensures reply { Tells d.old (λ side log. IfOk result (λ p. poll_reply replies.Bi p ≡ (accept_stream side replies.Bi (peer_bi side) log session).reply)) }
+    ensures log { FollowsIfOk result d.old d.new (λ side log. (accept_stream side replies.Bi (peer_bi side) log session).log) }
+    ensures given { Tells d.old (λ side log. IfOk result (λ p. given_in p ≡ (accepted side (peer_bi side) log session).given)) }
 {
     let given = given_by(d.accept_bi_id(session)?);
     let answer = accept_answer(alloc, d, given)?;
@@ -190,7 +191,7 @@ fn receive_answer(
     d: &Driver,
     payload: Option<Piece>,
 ) -> Result<Poll<Result<Piece, ConnectionError>>, OutOfMemory>
-    ensures { (side : Side) (log : Log) (taken : ℕ) → Follows side d.now log taken → IfOk result (λ p. poll_reply replies.Datagram p ≡ reply_or replies.Datagram (pending_or_failed side log) payload) }
+    ensures { Tells d.now (λ side log. IfOk result (λ p. poll_reply replies.Datagram p ≡ reply_or replies.Datagram (pending_or_failed side log) payload)) }
 {
     match payload {
         Some(payload) => Ok(Poll::Ready(Ok(payload))),
@@ -211,8 +212,8 @@ pub fn receive(
     d: &mut Driver,
     session: SessionId,
 ) -> Result<Poll<Result<Piece, ConnectionError>>, OutOfMemory>
-    ensures reply { (side : Side) (log : Log) (taken : ℕ) → Follows side d.old log taken → IfOk result (λ p. poll_reply replies.Datagram p ≡ (receive_datagram side log session).reply) }
-    ensures log { (side : Side) (log : Log) (taken : ℕ) → Follows side d.old log taken → OnOk result (Follows side d.new (receive_datagram side log session).log taken) }
+    ensures reply { Tells d.old (λ side log. IfOk result (λ p. poll_reply replies.Datagram p ≡ (receive_datagram side log session).reply)) }
+    ensures log { FollowsIfOk result d.old d.new (λ side log. (receive_datagram side log session).log) }
 {
     let payload = payload_by(alloc, d.receive_datagram_piece(session)?)?;
     let answer = receive_answer(alloc, d, payload)?;
@@ -261,8 +262,8 @@ pub fn datagram_reply(answer: Poll<Result<Piece, ConnectionError>>) -> Reply
 ///
 /// `OutOfMemory` where a part of it found no memory.
 pub fn perform(alloc: Global, d: &mut Driver, plan: Plan) -> Result<Reply, OutOfMemory>
-    ensures reply { (side : Side) (log : Log) (taken : ℕ) → Follows side d.old log taken → IfOk result (λ r. r ≡ (perform side log (planned plan)).reply) }
-    ensures log { (side : Side) (log : Log) (taken : ℕ) → Follows side d.old log taken → MayPerform side log (planned plan) → OnOk result (Follows side d.new (perform side log (planned plan)).log taken) }
+    ensures reply { Tells d.old (λ side log. IfOk result (λ r. r ≡ (perform side log (planned plan)).reply)) }
+    ensures log { OfEachLog d.old (λ side log taken. MayPerform side log (planned plan) → OnOk result (Follows side d.new (perform side log (planned plan)).log taken)) }
 {
     match plan {
         Plan::Step { own, call, reply } => {

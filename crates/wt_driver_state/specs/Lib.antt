@@ -8,3 +8,4 @@ pub mod Tie
 pub mod Arriving
 pub mod Calling
 pub mod Sessions
+pub mod OfLog

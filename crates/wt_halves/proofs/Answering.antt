@@ -1,7 +1,7 @@
 -- What is shown of each log of an answer that a call hands on.
 use Rattle.std.proofs.Common.{Err, IfOk, Ok, OnOk, Result, ℕ}
 use Rattle.wt_driver_state.specs.DriverValue.{DriverValue}
-use Rattle.wt_halves.specs.Answering.{OfEachLog}
+use Rattle.wt_halves.specs.Answering.{WhereStands}
 use Rattle.wt_turn.specs.Log.{Log}
 use Rattle.wt_wire.specs.declared.side.Side.{Side}
 
@@ -13,11 +13,11 @@ whichever (Err e) P p = tt
 module _ (d : DriverValue) (Stands : Side → Log → Type 0) where
   -- what each log says where there is an answer, it says of the answer that is there
   pub if_of_each : {T E : Type 0} (result : Result T E) (Law : T → Side → Log → ℕ → Type 0)
-      → OfEachLog d Stands (λ side log taken. IfOk result (λ x. Law x side log taken)) → IfOk result (λ x. OfEachLog d Stands (Law x))
+      → WhereStands d Stands (λ side log taken. IfOk result (λ x. Law x side log taken)) → IfOk result (λ x. WhereStands d Stands (Law x))
   if_of_each (Ok x) Law l = l
   if_of_each (Err e) Law l = tt
 
   pub on_of_each : {T E : Type 0} (result : Result T E) (Law : Side → Log → ℕ → Type 0)
-      → OfEachLog d Stands (λ side log taken. OnOk result (Law side log taken)) → OnOk result (OfEachLog d Stands Law)
+      → WhereStands d Stands (λ side log taken. OnOk result (Law side log taken)) → OnOk result (WhereStands d Stands Law)
   on_of_each (Ok x) Law l = l
   on_of_each (Err e) Law l = tt

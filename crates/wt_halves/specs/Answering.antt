@@ -2,6 +2,7 @@
 -- each log of lawful turns that the driver follows, and for which the value that is called stands.
 use Rattle.std.specs.Prelude.{◌≡◌, true, ℕ}
 use Rattle.wt_driver_state.specs.DriverValue.{DriverValue}
+use Rattle.wt_driver_state.specs.OfLog.{OfEachLog}
 use Rattle.wt_driver_state.specs.Tie.{Follows}
 use Rattle.wt_laws.specs.Reachable.{IsReachable}
 use Rattle.wt_spec.specs.Answers.{call_effect, may_call}
@@ -28,17 +29,17 @@ MayCall call side log = may_call side log call ≡ true
 -- ---- what a call does
 
 -- the law holds of each log of lawful turns that the driver follows, where the value stands for something of it
-abbrev pub OfEachLog : DriverValue → (Side → Log → Type 0) → (Side → Log → ℕ → Type 0) → Type 0
-OfEachLog d Stands Law = (side : Side) (log : Log) (taken : ℕ) → Follows side d log taken → IsReachable side log → Stands side log → Law side log taken
+abbrev pub WhereStands : DriverValue → (Side → Log → Type 0) → (Side → Log → ℕ → Type 0) → Type 0
+WhereStands d Stands Law = OfEachLog d (λ side log taken. IsReachable side log → Stands side log → Law side log taken)
 
 -- the answer tells the reply that the definitions give to this call
 abbrev pub RepliesTo : {T : Type 0} → DriverValue → (Side → Log → Type 0) → Call → (T → Reply) → T → Type 0
-RepliesTo d Stands call reply answer = OfEachLog d Stands (λ side log taken. reply answer ≡ (call_effect side log call).reply)
+RepliesTo d Stands call reply answer = WhereStands d Stands (λ side log taken. reply answer ≡ (call_effect side log call).reply)
 
 -- the driver then follows the log behind this call
 abbrev pub LeadsOn : DriverValue → (Side → Log → Type 0) → Call → DriverValue → Type 0
-LeadsOn d Stands call later = OfEachLog d Stands (λ side log taken. Follows side later (call_effect side log call).log taken)
+LeadsOn d Stands call later = WhereStands d Stands (λ side log taken. Follows side later (call_effect side log call).log taken)
 
 -- this stands for the log behind this call
 abbrev pub StandsBehind : DriverValue → (Side → Log → Type 0) → Call → (Side → Log → Type 0) → Type 0
-StandsBehind d Stands call StandsThen = OfEachLog d Stands (λ side log taken. StandsThen side (call_effect side log call).log)
+StandsBehind d Stands call StandsThen = WhereStands d Stands (λ side log taken. StandsThen side (call_effect side log call).log)

@@ -3,3 +3,4 @@ pub mod Kept
 pub mod State
 pub mod Stage
 pub mod Moves
+pub mod OfLog

@@ -11,3 +11,4 @@ pub use Rattle.wt_streams.specs.StreamState
 pub mod State
 pub mod Step
 pub mod Rules
+pub mod OfLog

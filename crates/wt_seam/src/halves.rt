@@ -1,12 +1,11 @@
 //! One half of a stream, with the transport that keeps it.
-ghost use Rattle.std.specs.Prelude.{◌≡◌, ◌++◌, List, ℕ, length, take, drop, IfOk, IsTrue, OnErr, OnOk};
-ghost use Rattle.wt_wire.specs.declared.side.Side.{Side};
-ghost use Rattle.wt_turn.specs.declared.action.Action.{Action};
+ghost use Rattle.std.specs.Prelude.{◌≡◌, ◌++◌, length, take, drop, IfOk, IsTrue, OnErr, OnOk};
 ghost use Rattle.wt_turn.specs.declared.action.Action.TheVariants as actions;
-ghost use Rattle.wt_turn.specs.Log.{Log, is_open, with_actions};
+ghost use Rattle.wt_turn.specs.Log.{is_open, with_actions};
 ghost use Rattle.wt_seam_spec.specs.Joined.{newest_first};
 ghost use Rattle.wt_seam_spec.specs.Outgoing.{if_open};
-ghost use Rattle.wt_seam_spec.specs.Unread.{ReadPosition, consumed, given_up, unread};
+ghost use Rattle.wt_seam_spec.specs.Unread.{consumed, given_up, unread};
+ghost use Rattle.wt_seam.specs.OfLog.{OfEachLog, SendsIfOk, Tells, TellsUnread};
 ghost use Rattle.wt_seam.specs.State.{Refines};
 ghost use Rattle.wt_seam.specs.Step.{after_consume, after_give_up, after_stop, can_receive_now, can_send_now, unread_now};
 ghost use Rattle.wt_streams.specs.HalfRules.{finish_answer, priority_answer, read_answer, read_count, read_exact_answer, read_exact_count, reset_answer, stopped_answer, write_all_answer, write_answer};
@@ -56,8 +55,8 @@ impl QuicSendStream {
         ensures answer { IfOk result (λ a. a ≡ write_answer t.old.is_open (sending_half_now t.old self.old.id) bytes.now) }
         ensures state { OnOk result (t.new ≡ after_write t.old self.old.id bytes.now) }
         ensures err { OnErr result (t.new ≡ t.old) }
-        ensures log_answer { (side : Side) (log : Log) (position : ℕ → ReadPosition) (untaken : List Action) → Refines side t.old log position untaken → IfOk result (λ a. a ≡ write_answer (is_open log) (sending_half log self.old.id) bytes.now) }
-        ensures log { (side : Side) (log : Log) (position : ℕ → ReadPosition) (untaken : List Action) → Refines side t.old log position untaken → OnOk result (Refines side t.new (with_actions (writing side log self.old.id bytes.now) log) position (newest_first (writing side log self.old.id bytes.now) untaken)) }
+        ensures log_answer { Tells t.old (λ side log. IfOk result (λ a. a ≡ write_answer (is_open log) (sending_half log self.old.id) bytes.now)) }
+        ensures log { SendsIfOk result t.old t.new (λ side log. writing side log self.old.id bytes.now) }
         ensures same { self.new ≡ self.old }
     {
         t.write(self.id, bytes)
@@ -74,8 +73,8 @@ impl QuicSendStream {
         ensures answer { IfOk result (λ a. a ≡ write_all_answer t.old.is_open (sending_half_now t.old self.old.id) bytes.now) }
         ensures state { OnOk result (t.new ≡ after_write t.old self.old.id bytes.now) }
         ensures err { OnErr result (t.new ≡ t.old) }
-        ensures log_answer { (side : Side) (log : Log) (position : ℕ → ReadPosition) (untaken : List Action) → Refines side t.old log position untaken → IfOk result (λ a. a ≡ write_all_answer (is_open log) (sending_half log self.old.id) bytes.now) }
-        ensures log { (side : Side) (log : Log) (position : ℕ → ReadPosition) (untaken : List Action) → Refines side t.old log position untaken → OnOk result (Refines side t.new (with_actions (writing side log self.old.id bytes.now) log) position (newest_first (writing side log self.old.id bytes.now) untaken)) }
+        ensures log_answer { Tells t.old (λ side log. IfOk result (λ a. a ≡ write_all_answer (is_open log) (sending_half log self.old.id) bytes.now)) }
+        ensures log { SendsIfOk result t.old t.new (λ side log. writing side log self.old.id bytes.now) }
         ensures same { self.new ≡ self.old }
     {
         t.write_all(self.id, bytes)
@@ -86,7 +85,7 @@ impl QuicSendStream {
     pub fn may_write(&self, t: &Transport) -> bool
         requires { IsTrue (can_send_now t.now self.now.id) }
         ensures now { result ≡ may_write_now t.now self.now.id }
-        ensures log { (side : Side) (log : Log) (position : ℕ → ReadPosition) (untaken : List Action) → Refines side t.now log position untaken → result ≡ may_write log self.now.id }
+        ensures log { Tells t.now (λ side log. result ≡ may_write log self.now.id) }
     {
         t.may_write(self.id)
     }
@@ -102,8 +101,8 @@ impl QuicSendStream {
         ensures answer { IfOk result (λ a. a ≡ finish_answer t.old.is_open (sending_half_now t.old self.old.id)) }
         ensures state { OnOk result (t.new ≡ after_finishing t.old self.old.id) }
         ensures err { OnErr result (t.new ≡ t.old) }
-        ensures log_answer { (side : Side) (log : Log) (position : ℕ → ReadPosition) (untaken : List Action) → Refines side t.old log position untaken → IfOk result (λ a. a ≡ finish_answer (is_open log) (sending_half log self.old.id)) }
-        ensures log { (side : Side) (log : Log) (position : ℕ → ReadPosition) (untaken : List Action) → Refines side t.old log position untaken → OnOk result (Refines side t.new (with_actions (finishing side log self.old.id) log) position (newest_first (finishing side log self.old.id) untaken)) }
+        ensures log_answer { Tells t.old (λ side log. IfOk result (λ a. a ≡ finish_answer (is_open log) (sending_half log self.old.id))) }
+        ensures log { SendsIfOk result t.old t.new (λ side log. finishing side log self.old.id) }
         ensures same { self.new ≡ self.old }
     {
         t.finish_half(self.id)
@@ -119,8 +118,8 @@ impl QuicSendStream {
         ensures answer { IfOk result (λ a. a ≡ reset_answer (sending_half_now t.old self.old.id)) }
         ensures state { OnOk result (t.new ≡ after_reset_unless_closed t.old self.old.id code) }
         ensures err { OnErr result (t.new ≡ t.old) }
-        ensures log_answer { (side : Side) (log : Log) (position : ℕ → ReadPosition) (untaken : List Action) → Refines side t.old log position untaken → IfOk result (λ a. a ≡ reset_answer (sending_half log self.old.id)) }
-        ensures log { (side : Side) (log : Log) (position : ℕ → ReadPosition) (untaken : List Action) → Refines side t.old log position untaken → OnOk result (Refines side t.new (log_reset log self.old.id code) position (newest_first (resetting log self.old.id code) untaken)) }
+        ensures log_answer { Tells t.old (λ side log. IfOk result (λ a. a ≡ reset_answer (sending_half log self.old.id))) }
+        ensures log { OfEachLog t.old (λ side log position untaken. OnOk result (Refines side t.new (log_reset log self.old.id code) position (newest_first (resetting log self.old.id code) untaken))) }
         ensures same { self.new ≡ self.old }
     {
         t.reset_half(self.id, code)
@@ -130,7 +129,7 @@ impl QuicSendStream {
     pub fn stopped(&mut self, t: &mut Transport) -> Poll<StreamWriteError>
         requires { IsTrue (can_send_now t.old self.old.id) }
         ensures answer { result ≡ stopped_answer t.old.is_open (sending_half_now t.old self.old.id) }
-        ensures log_answer { (side : Side) (log : Log) (position : ℕ → ReadPosition) (untaken : List Action) → Refines side t.old log position untaken → result ≡ stopped_answer (is_open log) (sending_half log self.old.id) }
+        ensures log_answer { Tells t.old (λ side log. result ≡ stopped_answer (is_open log) (sending_half log self.old.id)) }
         ensures unchanged { t.new ≡ t.old }
         ensures same { self.new ≡ self.old }
     {
@@ -141,7 +140,7 @@ impl QuicSendStream {
     pub fn priority(&self, t: &mut Transport) -> Result<i32, ClosedStream>
         requires { IsTrue (can_send_now t.old self.now.id) }
         ensures answer { result ≡ priority_answer (sending_half_now t.old self.now.id) }
-        ensures log_answer { (side : Side) (log : Log) (position : ℕ → ReadPosition) (untaken : List Action) → Refines side t.old log position untaken → result ≡ priority_answer (sending_half log self.now.id) }
+        ensures log_answer { Tells t.old (λ side log. result ≡ priority_answer (sending_half log self.now.id)) }
         ensures unchanged { t.new ≡ t.old }
     {
         t.priority(self.id)
@@ -151,7 +150,7 @@ impl QuicSendStream {
     pub fn set_priority(&mut self, t: &mut Transport, priority: i32)
         requires { IsTrue (can_send_now t.old self.old.id) }
         ensures state { t.new ≡ after_priority_unless_closed t.old self.old.id priority }
-        ensures log { (side : Side) (log : Log) (position : ℕ → ReadPosition) (untaken : List Action) → Refines side t.old log position untaken → Refines side t.new (log_priority log self.old.id priority) position untaken }
+        ensures log { OfEachLog t.old (λ side log position untaken. Refines side t.new (log_priority log self.old.id priority) position untaken) }
         ensures same { self.new ≡ self.old }
     {
         t.set_priority_of_half(self.id, priority);
@@ -193,9 +192,9 @@ impl QuicRecvStream {
         ensures answer { result ≡ read_answer t.old.is_open (receiving_half_now t.old self.old.id) (length buffer.old) }
         ensures bytes { buffer.new ≡ take (read_count (receiving_half_now t.old self.old.id) (length buffer.old)) (unread_now t.old self.old.id) ++ drop (read_count (receiving_half_now t.old self.old.id) (length buffer.old)) buffer.old }
         ensures state { t.new ≡ after_consume t.old self.old.id (read_count (receiving_half_now t.old self.old.id) (length buffer.old)) }
-        ensures log_answer { (side : Side) (log : Log) (position : ℕ → ReadPosition) (untaken : List Action) → Refines side t.old log position untaken → result ≡ read_answer (is_open log) (receiving_half log position self.old.id) (length buffer.old) }
-        ensures log_bytes { (side : Side) (log : Log) (position : ℕ → ReadPosition) (untaken : List Action) → Refines side t.old log position untaken → buffer.new ≡ take (read_count (receiving_half log position self.old.id) (length buffer.old)) (unread log position self.old.id) ++ drop (read_count (receiving_half log position self.old.id) (length buffer.old)) buffer.old }
-        ensures log { (side : Side) (log : Log) (position : ℕ → ReadPosition) (untaken : List Action) → Refines side t.old log position untaken → Refines side t.new log (consumed position self.old.id (read_count (receiving_half log position self.old.id) (length buffer.old))) untaken }
+        ensures log_answer { TellsUnread t.old (λ side log position. result ≡ read_answer (is_open log) (receiving_half log position self.old.id) (length buffer.old)) }
+        ensures log_bytes { TellsUnread t.old (λ side log position. buffer.new ≡ take (read_count (receiving_half log position self.old.id) (length buffer.old)) (unread log position self.old.id) ++ drop (read_count (receiving_half log position self.old.id) (length buffer.old)) buffer.old) }
+        ensures log { OfEachLog t.old (λ side log position untaken. Refines side t.new log (consumed position self.old.id (read_count (receiving_half log position self.old.id) (length buffer.old))) untaken) }
         ensures same { self.new ≡ self.old }
     {
         t.read(self.id, buffer)
@@ -213,9 +212,9 @@ impl QuicRecvStream {
         ensures answer { result ≡ read_exact_answer t.old.is_open (receiving_half_now t.old self.old.id) (length buffer.old) }
         ensures bytes { buffer.new ≡ take (read_exact_count (receiving_half_now t.old self.old.id) (length buffer.old)) (unread_now t.old self.old.id) ++ drop (read_exact_count (receiving_half_now t.old self.old.id) (length buffer.old)) buffer.old }
         ensures state { t.new ≡ after_consume t.old self.old.id (read_exact_count (receiving_half_now t.old self.old.id) (length buffer.old)) }
-        ensures log_answer { (side : Side) (log : Log) (position : ℕ → ReadPosition) (untaken : List Action) → Refines side t.old log position untaken → result ≡ read_exact_answer (is_open log) (receiving_half log position self.old.id) (length buffer.old) }
-        ensures log_bytes { (side : Side) (log : Log) (position : ℕ → ReadPosition) (untaken : List Action) → Refines side t.old log position untaken → buffer.new ≡ take (read_exact_count (receiving_half log position self.old.id) (length buffer.old)) (unread log position self.old.id) ++ drop (read_exact_count (receiving_half log position self.old.id) (length buffer.old)) buffer.old }
-        ensures log { (side : Side) (log : Log) (position : ℕ → ReadPosition) (untaken : List Action) → Refines side t.old log position untaken → Refines side t.new log (consumed position self.old.id (read_exact_count (receiving_half log position self.old.id) (length buffer.old))) untaken }
+        ensures log_answer { TellsUnread t.old (λ side log position. result ≡ read_exact_answer (is_open log) (receiving_half log position self.old.id) (length buffer.old)) }
+        ensures log_bytes { TellsUnread t.old (λ side log position. buffer.new ≡ take (read_exact_count (receiving_half log position self.old.id) (length buffer.old)) (unread log position self.old.id) ++ drop (read_exact_count (receiving_half log position self.old.id) (length buffer.old)) buffer.old) }
+        ensures log { OfEachLog t.old (λ side log position untaken. Refines side t.new log (consumed position self.old.id (read_exact_count (receiving_half log position self.old.id) (length buffer.old))) untaken) }
         ensures same { self.new ≡ self.old }
     {
         t.read_exact(self.id, buffer)
@@ -226,7 +225,7 @@ impl QuicRecvStream {
         requires { IsTrue (can_receive_now t.old self.id) }
         ensures state { OnOk result (t.new ≡ after_give_up (after_stop t.old self.id code) self.id) }
         ensures err { OnErr result (t.new ≡ t.old) }
-        ensures log { (side : Side) (log : Log) (position : ℕ → ReadPosition) (untaken : List Action) → Refines side t.old log position untaken → OnOk result (Refines side t.new (with_actions (if_open log (actions.StopOut self.id code)) log) (given_up position self.id) (newest_first (if_open log (actions.StopOut self.id code)) untaken)) }
+        ensures log { OfEachLog t.old (λ side log position untaken. OnOk result (Refines side t.new (with_actions (if_open log (actions.StopOut self.id code)) log) (given_up position self.id) (newest_first (if_open log (actions.StopOut self.id code)) untaken))) }
     {
         t.stop_half(self.id, code)
     }

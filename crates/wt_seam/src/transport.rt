@@ -1,13 +1,13 @@
 //! What is kept of the transport: the streams, what may go out on them, and how the connection stands.
-ghost use Rattle.std.specs.Prelude.{◌≡◌, ◌<◌, ◌≤◌, ◌^◌, ◌+◌, ◌*◌, ◌-◌, ◌/◌, ◌%◌, ◌++◌, ◌∷◌, [], Some, None, IfOk, IsTrue, OnErr, OnOk, length, min, ◌==◌, ◌&&◌, not, is_some, nat_lt, List, ℕ, false, if◌then◌else◌, option_copied};
-ghost use Rattle.std.specs.List.{concat};
-ghost use Rattle.wt_turn.specs.Log.{Log, Sent, events_of, is_open, with_actions};
+ghost use Rattle.std.specs.Prelude.{◌≡◌, ◌<◌, ◌≤◌, ◌^◌, ◌+◌, ◌-◌, ◌/◌, ◌%◌, ◌++◌, ◌∷◌, [], None, IsTrue, OnErr, OnOk, ◌==◌, ◌&&◌, not, List, false, if◌then◌else◌, option_copied};
+ghost use Rattle.wt_turn.specs.Log.{events_of, is_open};
 ghost use Rattle.wt_seam_spec.specs.Streams.{local_bi, local_uni, peer_bi, peer_uni};
 ghost use Rattle.wt_seam_spec.specs.Reports.{datagram_fact, loss_of};
-ghost use Rattle.wt_seam_spec.specs.Joined.{joined, newest_first};
+ghost use Rattle.wt_seam_spec.specs.Joined.{joined};
 ghost use Rattle.wt_seam_spec.specs.Outgoing.{if_open};
-ghost use Rattle.wt_seam_spec.specs.Unread.{ReadPosition, at_start};
-ghost use Rattle.wt_streams.specs.StreamState.{has_stream, row_at, stream_at};
+ghost use Rattle.wt_seam_spec.specs.Unread.{at_start};
+ghost use Rattle.wt_streams.specs.StreamState.{has_stream, stream_at};
+ghost use Rattle.wt_seam.specs.OfLog.{OfEachLog, SendsIfOk, Tells, TellsUnread};
 ghost use Rattle.wt_seam.specs.State.{Refines, TransportState};
 ghost use Rattle.wt_seam.specs.Step.{after_close, after_dial, can_receive_now, can_send_now, count_now, nothing_connected, with_action};
 
@@ -201,7 +201,7 @@ impl Transport {
     #[tactic(auto, using(crate::proofs::Refining::refined_side))]
     pub fn side(&self) -> Side
         ensures now { result ≡ self.now.side }
-        ensures log { (side : Side) (log : Log) (position : ℕ → ReadPosition) (untaken : List Action) → Refines side self.now log position untaken → result ≡ side }
+        ensures log { Tells self.now (λ side log. result ≡ side) }
     {
         self.side
     }
@@ -210,7 +210,7 @@ impl Transport {
     #[tactic(auto, using(crate::proofs::Refining::refined_open))]
     pub fn is_open(&self) -> bool
         ensures now { result ≡ self.now.is_open }
-        ensures log { (side : Side) (log : Log) (position : ℕ → ReadPosition) (untaken : List Action) → Refines side self.now log position untaken → result ≡ is_open log }
+        ensures log { Tells self.now (λ side log. result ≡ is_open log) }
     {
         self.is_open
     }
@@ -219,7 +219,7 @@ impl Transport {
     #[tactic(auto, using(crate::proofs::Refining::refined_datagram_fact))]
     pub fn datagram_fact(&self) -> Option<DatagramFact>
         ensures now { result ≡ self.now.datagram_fact }
-        ensures log { (side : Side) (log : Log) (position : ℕ → ReadPosition) (untaken : List Action) → Refines side self.now log position untaken → result ≡ datagram_fact (events_of log) }
+        ensures log { Tells self.now (λ side log. result ≡ datagram_fact (events_of log)) }
     {
         self.datagram_fact
     }
@@ -228,7 +228,7 @@ impl Transport {
     #[tactic(auto, using(crate::proofs::Refining::refined_loss))]
     pub fn loss(&self) -> Option<&LossReason>
         ensures now { option_copied result ≡ self.now.loss }
-        ensures log { (side : Side) (log : Log) (position : ℕ → ReadPosition) (untaken : List Action) → Refines side self.now log position untaken → option_copied result ≡ loss_of (events_of log) }
+        ensures log { Tells self.now (λ side log. option_copied result ≡ loss_of (events_of log)) }
     {
         self.loss.as_ref()
     }
@@ -239,7 +239,7 @@ impl Transport {
         requires { IsTrue self.old.is_open }
         ensures now { OnOk result (self.new ≡ after_dial self.old address name) }
         ensures err { OnErr result (self.new ≡ self.old) }
-        ensures log { (side : Side) (log : Log) (position : ℕ → ReadPosition) (untaken : List Action) → Refines side self.old log position untaken → OnOk result (Refines side self.new (Sent (Action.Dial address name) ∷ log) position (Action.Dial address name ∷ untaken)) }
+        ensures log { SendsIfOk result self.old self.new (λ side log. Action.Dial address name ∷ []) }
     {
         self.dial_now(address, name)
     }
@@ -259,7 +259,7 @@ impl Transport {
         requires { IsTrue self.old.is_open }
         ensures now { OnOk result (self.new ≡ with_action self.old (Action.DatagramOut piece)) }
         ensures err { OnErr result (self.new ≡ self.old) }
-        ensures log { (side : Side) (log : Log) (position : ℕ → ReadPosition) (untaken : List Action) → Refines side self.old log position untaken → OnOk result (Refines side self.new (Sent (Action.DatagramOut piece) ∷ log) position (Action.DatagramOut piece ∷ untaken)) }
+        ensures log { SendsIfOk result self.old self.new (λ side log. Action.DatagramOut piece ∷ []) }
     {
         self.put_out(Action::DatagramOut { piece })
     }
@@ -284,7 +284,7 @@ impl Transport {
         ensures now { OnOk result (self.new ≡ after_close self.old code reason) }
         ensures err { OnErr result (self.new ≡ self.old) }
         ensures ended { self.old.is_open ≡ false → OnOk result (self.new.actions ≡ self.old.actions) }
-        ensures log { (side : Side) (log : Log) (position : ℕ → ReadPosition) (untaken : List Action) → Refines side self.old log position untaken → OnOk result (Refines side self.new (with_actions (if_open log (Action.Close code reason)) log) position (newest_first (if_open log (Action.Close code reason)) untaken)) }
+        ensures log { SendsIfOk result self.old self.new (λ side log. if_open log (Action.Close code reason)) }
     {
         self.close_now(code, reason)
     }
@@ -306,8 +306,8 @@ impl Transport {
     pub fn take_actions(&mut self) -> Actions
         ensures actions { result ≡ self.old.actions }
         ensures state { self.new ≡ record self.old { actions = [] } }
-        ensures log_actions { (side : Side) (log : Log) (position : ℕ → ReadPosition) (untaken : List Action) → Refines side self.old log position untaken → result ≡ joined untaken }
-        ensures log { (side : Side) (log : Log) (position : ℕ → ReadPosition) (untaken : List Action) → Refines side self.old log position untaken → Refines side self.new log position [] }
+        ensures log_actions { OfEachLog self.old (λ side log position untaken. result ≡ joined untaken) }
+        ensures log { TellsUnread self.old (λ side log position. Refines side self.new log position []) }
     {
         self.take_actions_now()
     }

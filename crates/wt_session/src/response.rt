@@ -2,7 +2,7 @@
 ghost use Rattle.std.specs.Prelude.{◌≡◌, Bool, IfOk, OnOk, true, ℕ};
 ghost use Rattle.wt_session.specs.Responding.{HasResponse, IsPollOf, IsResponse, IsResponseReply, StandsWith, waiting_record};
 ghost use Rattle.wt_driver_state.specs.Tie.{Follows};
-ghost use Rattle.wt_halves.specs.Answering.{LeadsOn, OfEachLog, RepliesTo, StandsBehind};
+ghost use Rattle.wt_halves.specs.Answering.{LeadsOn, RepliesTo, StandsBehind, WhereStands};
 ghost use Rattle.wt_laws.specs.Reachable.{IsReachable};
 ghost use Rattle.wt_plan.specs.Planned.{planned};
 ghost use Rattle.wt_session_spec.specs.CallFacts.{facts_of};
@@ -100,7 +100,7 @@ impl Response {
     ) -> Result<Reply, OutOfMemory>
         ensures reply { (call : Call) → IsPollOf accepts self.old call → IfOk result (RepliesTo d.old (HasResponse accepts self.old) call (λ r. r)) }
         ensures log { (call : Call) → IsPollOf accepts self.old call → OnOk result (LeadsOn d.old (HasResponse accepts self.old) call d.new) }
-        ensures kind { (call : Call) → IsPollOf accepts self.old call → IfOk result (λ r. OfEachLog d.old (HasResponse accepts self.old) (λ side log taken. IsResponseReply accepts r)) }
+        ensures kind { (call : Call) → IsPollOf accepts self.old call → IfOk result (λ r. WhereStands d.old (HasResponse accepts self.old) (λ side log taken. IsResponseReply accepts r)) }
         ensures stands { (call : Call) → IsPollOf accepts self.old call → IfOk result (λ r. StandsBehind d.old (HasResponse accepts self.old) call (λ side log. StandsWith side log accepts self.new r)) }
     {
         let plan = self.plan(alloc, d, accepts)?;

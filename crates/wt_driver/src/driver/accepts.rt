@@ -1,5 +1,6 @@
 //! Calls that give the session's next stream or datagram, and pass those of others.
 ghost use Rattle.std.specs.Prelude.{◌≡◌, ◌∷◌, IfOk, List, None, OnOk, Some, suc, true, ℕ};
+ghost use Rattle.wt_driver_state.specs.OfLog.{FollowsIfOk, OfEachLog, Tells};
 ghost use Rattle.wt_driver_state.specs.DriverValue.{IsAmong, with_state, without_first};
 ghost use Rattle.wt_dispatch.specs.Found.{due_as};
 ghost use Rattle.wt_driver_state.specs.Given.{ended_or_pending, given_by, is_own, next_datagram_now, payload_by, payload_in};
@@ -100,8 +101,7 @@ impl Driver {
 
     /// A stream of another session is stopped and passed, and the work of that moment is done.
     fn pass_stream(&mut self, id: StreamId) -> Result<(), OutOfMemory>
-        ensures log { (side : Side) (log : Log) (taken : ℕ) → Follows side self.old log taken → MayAct side log (passing id) → MayBeCalled side (Sent (passing id) ∷ log) (StreamPassed id)
-            → OnOk result (Follows side self.new (pass_stream side log id) taken) }
+        ensures log { OfEachLog self.old (λ side log taken. MayAct side log (passing id) → MayBeCalled side (Sent (passing id) ∷ log) (StreamPassed id) → OnOk result (Follows side self.new (pass_stream side log id) taken)) }
         ensures has_given { OnOk result (self.new.has_given_settings ≡ self.old.has_given_settings) }
     {
         let code = ErrorCode::BufferedStreamRejected.to_code();
@@ -111,8 +111,7 @@ impl Driver {
 
     /// A stream of the session is given, and the work of that moment is done.
     fn give_stream(&mut self, id: StreamId) -> Result<(), OutOfMemory>
-        ensures log { (side : Side) (log : Log) (taken : ℕ) → Follows side self.old log taken → MayBeCalled side log (StreamAccepted id)
-            → OnOk result (Follows side self.new (log_and_flush side log (Called (StreamAccepted id))) taken) }
+        ensures log { OfEachLog self.old (λ side log taken. MayBeCalled side log (StreamAccepted id) → OnOk result (Follows side self.new (log_and_flush side log (Called (StreamAccepted id))) taken)) }
         ensures has_given { OnOk result (self.new.has_given_settings ≡ self.old.has_given_settings) }
     {
         self.release(id);
@@ -134,8 +133,8 @@ impl Driver {
         session: SessionId,
         looks: u64,
     ) -> Result<Option<StreamId>, OutOfMemory>
-        ensures log { (side : Side) (log : Log) (taken : ℕ) → Follows side self.old log taken → OnOk result (Follows side self.new (take_due (log_streams side kind session) (suc looks) log).state taken) }
-        ensures given { (side : Side) (log : Log) (taken : ℕ) → Follows side self.old log taken → IfOk result (λ given. given ≡ (take_due (log_streams side kind session) (suc looks) log).given) }
+        ensures log { FollowsIfOk result self.old self.new (λ side log. (take_due (log_streams side kind session) (suc looks) log).state) }
+        ensures given { Tells self.old (λ side log. IfOk result (λ given. given ≡ (take_due (log_streams side kind session) (suc looks) log).given)) }
         ensures has_given { OnOk result (self.new.has_given_settings ≡ self.old.has_given_settings) }
     {
         let mut left = looks;
@@ -174,8 +173,8 @@ impl Driver {
         session: SessionId,
         looks: u64,
     ) -> Result<Poll<Result<StreamId, DriverError>>, OutOfMemory>
-        ensures log { (side : Side) (log : Log) (taken : ℕ) → Follows side self.old log taken → OnOk result (Follows side self.new (take_due (log_streams side kind session) (suc looks) log).state taken) }
-        ensures given { (side : Side) (log : Log) (taken : ℕ) → Follows side self.old log taken → IfOk result (λ p. given_by p ≡ (take_due (log_streams side kind session) (suc looks) log).given) }
+        ensures log { FollowsIfOk result self.old self.new (λ side log. (take_due (log_streams side kind session) (suc looks) log).state) }
+        ensures given { Tells self.old (λ side log. IfOk result (λ p. given_by p ≡ (take_due (log_streams side kind session) (suc looks) log).given)) }
         ensures nothing { IfOk result (λ p. given_by p ≡ None → p ≡ ended_or_pending (result_of self.new.state.is_open self.new.state.progress.ending)) }
         ensures has_given { OnOk result (self.new.has_given_settings ≡ self.old.has_given_settings) }
     {
@@ -190,8 +189,8 @@ impl Driver {
         &mut self,
         session: SessionId,
     ) -> Result<Poll<Result<StreamId, DriverError>>, OutOfMemory>
-        ensures log { (side : Side) (log : Log) (taken : ℕ) → Follows side self.old log taken → OnOk result (Follows side self.new (accepted side (peer_uni side) log session).state taken) }
-        ensures given { (side : Side) (log : Log) (taken : ℕ) → Follows side self.old log taken → IfOk result (λ p. given_by p ≡ (accepted side (peer_uni side) log session).given) }
+        ensures log { FollowsIfOk result self.old self.new (λ side log. (accepted side (peer_uni side) log session).state) }
+        ensures given { Tells self.old (λ side log. IfOk result (λ p. given_by p ≡ (accepted side (peer_uni side) log session).given)) }
         ensures nothing { IfOk result (λ p. given_by p ≡ None → p ≡ ended_or_pending (result_of self.new.state.is_open self.new.state.progress.ending)) }
         ensures has_given { OnOk result (self.new.has_given_settings ≡ self.old.has_given_settings) }
     {
@@ -205,8 +204,8 @@ impl Driver {
         &mut self,
         session: SessionId,
     ) -> Result<Poll<Result<StreamId, DriverError>>, OutOfMemory>
-        ensures log { (side : Side) (log : Log) (taken : ℕ) → Follows side self.old log taken → OnOk result (Follows side self.new (accepted side (peer_bi side) log session).state taken) }
-        ensures given { (side : Side) (log : Log) (taken : ℕ) → Follows side self.old log taken → IfOk result (λ p. given_by p ≡ (accepted side (peer_bi side) log session).given) }
+        ensures log { FollowsIfOk result self.old self.new (λ side log. (accepted side (peer_bi side) log session).state) }
+        ensures given { Tells self.old (λ side log. IfOk result (λ p. given_by p ≡ (accepted side (peer_bi side) log session).given)) }
         ensures nothing { IfOk result (λ p. given_by p ≡ None → p ≡ ended_or_pending (result_of self.new.state.is_open self.new.state.progress.ending)) }
         ensures has_given { OnOk result (self.new.has_given_settings ≡ self.old.has_given_settings) }
     {
@@ -265,8 +264,8 @@ impl Driver {
 
     /// The session's next datagram, whole: those of other sessions in front of it are passed.
     fn receive(&mut self, session: SessionId) -> Result<Option<Piece>, OutOfMemory>
-        ensures log { (side : Side) (log : Log) (taken : ℕ) → Follows side self.old log taken → OnOk result (Follows side self.new (received side log session).state taken) }
-        ensures given { (side : Side) (log : Log) (taken : ℕ) → Follows side self.old log taken → IfOk result (λ piece. payload_in (read_datagram piece) ≡ (received side log session).given) }
+        ensures log { FollowsIfOk result self.old self.new (λ side log. (received side log session).state) }
+        ensures given { Tells self.old (λ side log. IfOk result (λ piece. payload_in (read_datagram piece) ≡ (received side log session).given)) }
         ensures nothing { IfOk result (λ piece. payload_in (read_datagram piece) ≡ None → piece ≡ None) }
         ensures own { IfOk result (λ given. (piece : List ℕ) → given ≡ Some piece → is_own session (read_datagram given) ≡ Some true) }
         ensures has_given { OnOk result (self.new.has_given_settings ≡ self.old.has_given_settings) }
@@ -292,8 +291,8 @@ impl Driver {
         &mut self,
         session: SessionId,
     ) -> Result<Poll<Result<Piece, DriverError>>, OutOfMemory>
-        ensures log { (side : Side) (log : Log) (taken : ℕ) → Follows side self.old log taken → OnOk result (Follows side self.new (received side log session).state taken) }
-        ensures given { (side : Side) (log : Log) (taken : ℕ) → Follows side self.old log taken → IfOk result (λ p. payload_by p ≡ (received side log session).given) }
+        ensures log { FollowsIfOk result self.old self.new (λ side log. (received side log session).state) }
+        ensures given { Tells self.old (λ side log. IfOk result (λ p. payload_by p ≡ (received side log session).given)) }
         ensures nothing { IfOk result (λ p. payload_by p ≡ None → p ≡ ended_or_pending (result_of self.new.state.is_open self.new.state.progress.ending)) }
         ensures own { IfOk result (λ p. (piece : List ℕ) → given_by p ≡ Some piece → is_own session (read_datagram (given_by p)) ≡ Some true) }
         ensures has_given { OnOk result (self.new.has_given_settings ≡ self.old.has_given_settings) }

@@ -1,5 +1,6 @@
 //! Turns of the transport.
 ghost use Rattle.std.specs.Prelude.{◌≡◌, ◌*◌, ◌+◌, ◌++◌, ◌∷◌, [], IfOk, IsTrue, List, OnOk, Some, false, true, ℕ};
+ghost use Rattle.wt_driver_state.specs.OfLog.{OfEachLog, Tells};
 ghost use Rattle.wt_driver_state.specs.Arriving.{EventTaken, arrived};
 ghost use Rattle.wt_spec.specs.Turns.{event_of, is_call};
 ghost use Rattle.wt_driver_state.specs.Tie.{Follows};
@@ -42,7 +43,7 @@ impl Driver {
     /// Whether a turn of the transport is lawful now.
     pub fn fits(&self, turn: &Turn) -> bool
         ensures now { result ≡ fits_now self.now.inbox.transport turn.now }
-        ensures log { (side : Side) (log : Log) (taken : ℕ) → Follows side self.now log taken → result ≡ fits side log turn.now }
+        ensures log { Tells self.now (λ side log. result ≡ fits side log turn.now) }
     {
         self.inbox.fits(turn)
     }
@@ -164,8 +165,7 @@ impl Driver {
 
     /// One byte of a stream, with the work of its moment.
     fn take_byte(&mut self, id: StreamId, byte: u8) -> Result<(), OutOfMemory>
-        ensures log { (side : Side) (log : Log) (taken : ℕ) → Follows side self.old log taken → fits side log (turns.Bytes id (byte ∷ [])) ≡ true
-            → OnOk result (Follows side self.new (receive side log id (byte ∷ [])) taken) }
+        ensures log { OfEachLog self.old (λ side log taken. fits side log (turns.Bytes id (byte ∷ [])) ≡ true → OnOk result (Follows side self.new (receive side log id (byte ∷ [])) taken)) }
         ensures has_given { OnOk result (self.new.has_given_settings ≡ self.old.has_given_settings) }
     {
         self.note_byte(id, byte)?;
@@ -174,8 +174,7 @@ impl Driver {
 
     /// Bytes of a stream, one after another.
     fn take_bytes(&mut self, id: StreamId, bytes: &[u8]) -> Result<(), OutOfMemory>
-        ensures log { (side : Side) (log : Log) (taken : ℕ) → Follows side self.old log taken → fits side log (turns.Bytes id bytes.now) ≡ true
-            → OnOk result (Follows side self.new (receive side log id bytes.now) taken) }
+        ensures log { OfEachLog self.old (λ side log taken. fits side log (turns.Bytes id bytes.now) ≡ true → OnOk result (Follows side self.new (receive side log id bytes.now) taken)) }
         ensures has_given { OnOk result (self.new.has_given_settings ≡ self.old.has_given_settings) }
     {
         let mut at = 0;
@@ -189,7 +188,7 @@ impl Driver {
     /// Takes a turn of the transport, and does the work of its moments: bytes come one after another.
     pub fn turn(&mut self, turn: &Turn) -> Result<(), OutOfMemory>
         requires { IsTrue (fits_now self.old.inbox.transport turn.now) }
-        ensures log { (side : Side) (log : Log) (taken : ℕ) → Follows side self.old log taken → is_call turn.now ≡ false → OnOk result (Follows side self.new (log_after side log turn.now) taken) }
+        ensures log { OfEachLog self.old (λ side log taken. is_call turn.now ≡ false → OnOk result (Follows side self.new (log_after side log turn.now) taken)) }
         ensures has_given { OnOk result (self.new.has_given_settings ≡ self.old.has_given_settings) }
     {
         match turn {

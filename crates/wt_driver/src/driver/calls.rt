@@ -4,6 +4,7 @@ ghost use Rattle.wt_driver_spec.specs.Step.{remove_request};
 ghost use Rattle.wt_driver_spec.specs.Asking.{AwaitsResponse, MayBeCalled, SparesControl};
 ghost use Rattle.wt_seam_spec.specs.Acting.{MayAct};
 ghost use Rattle.wt_turn.specs.Records.{record_of};
+ghost use Rattle.wt_driver_state.specs.OfLog.{FollowsIfOk, OfEachLog, Tells};
 ghost use Rattle.wt_driver_state.specs.Calling.{leaves_at_rest};
 ghost use Rattle.wt_driver_state.specs.Tie.{Follows, TakenIn, untaken_since};
 ghost use Rattle.wt_inbox.specs.Stage.{Body, Refines, ResponseHead, Stage, awaits_response, body_offset, with_stage};
@@ -83,7 +84,7 @@ impl Driver {
     /// The application or the endpoint closes the connection where it is open, and the work of that
     /// moment is done.
     pub fn close(&mut self, code: VarInt, reason: Piece) -> Result<(), OutOfMemory>
-        ensures log { (side : Side) (log : Log) (taken : ℕ) → Follows side self.old log taken → OnOk result (Follows side self.new (close_connection side log code reason).log taken) }
+        ensures log { FollowsIfOk result self.old self.new (λ side log. (close_connection side log code reason).log) }
         ensures has_given { OnOk result (self.new.has_given_settings ≡ self.old.has_given_settings) }
     {
         self.close_if_open(code, reason)?;
@@ -92,7 +93,7 @@ impl Driver {
 
     /// A close goes out where the connection is open; the moment of the call comes after it.
     fn close_if_open(&mut self, code: VarInt, reason: Piece) -> Result<(), OutOfMemory>
-        ensures log { (side : Side) (log : Log) (taken : ℕ) → Follows side self.old log taken → OnOk result (Follows side self.new (with_actions (if_open log (actions.Close code reason)) log) taken) }
+        ensures log { FollowsIfOk result self.old self.new (λ side log. with_actions (if_open log (actions.Close code reason)) log) }
         ensures has_given { OnOk result (self.new.has_given_settings ≡ self.old.has_given_settings) }
     {
         self.put_close(code, reason)
@@ -111,8 +112,8 @@ impl Driver {
 
     /// The actions since the last such call.
     pub fn take_actions(&mut self) -> Actions
-        ensures actions { (side : Side) (log : Log) (taken : ℕ) → Follows side self.old log taken → result ≡ joined (untaken_since taken log) }
-        ensures log { (side : Side) (log : Log) (taken : ℕ) → Follows side self.old log taken → Follows side self.new log (length (actions_of log)) }
+        ensures actions { OfEachLog self.old (λ side log taken. result ≡ joined (untaken_since taken log)) }
+        ensures log { Tells self.old (λ side log. Follows side self.new log (length (actions_of log))) }
         ensures has_given { self.new.has_given_settings ≡ self.old.has_given_settings }
     {
         self.inbox.take_actions()
@@ -122,7 +123,7 @@ impl Driver {
 
     /// Takes in what a call did.
     fn note_call(&mut self, call: &Record) -> Result<(), OutOfMemory>
-        ensures log { (side : Side) (log : Log) (taken : ℕ) → Follows side self.old log taken → MayBeCalled side log (record_of call.now) → OnOk result (TakenIn side log (Called (record_of call.now)) self.new taken) }
+        ensures log { OfEachLog self.old (λ side log taken. MayBeCalled side log (record_of call.now) → OnOk result (TakenIn side log (Called (record_of call.now)) self.new taken)) }
         ensures has_given { OnOk result (self.new.has_given_settings ≡ self.old.has_given_settings) }
     {
         match call {
@@ -142,8 +143,7 @@ impl Driver {
     /// Takes in what a call did of which no work comes: bytes that were read, a priority, or what isn't
     /// kept here.
     fn note_reading(&mut self, call: &Record)
-        ensures log { (side : Side) (log : Log) (taken : ℕ) → Follows side self.old log taken → MayBeCalled side log (record_of call.now) → leaves_at_rest (record_of call.now) ≡ true
-            → TakenIn side log (Called (record_of call.now)) self.new taken }
+        ensures log { OfEachLog self.old (λ side log taken. MayBeCalled side log (record_of call.now) → leaves_at_rest (record_of call.now) ≡ true → TakenIn side log (Called (record_of call.now)) self.new taken) }
         ensures has_given { self.new.has_given_settings ≡ self.old.has_given_settings }
     {
         match call {
@@ -238,8 +238,7 @@ impl Driver {
     /// Takes in what a call did, and does the work of its moment. What the call sent of its own is put
     /// out before.
     pub fn called(&mut self, call: &Record) -> Result<(), OutOfMemory>
-        ensures log { (side : Side) (log : Log) (taken : ℕ) → Follows side self.old log taken → MayBeCalled side log (record_of call.now)
-            → OnOk result (Follows side self.new (log_and_flush side log (Called (record_of call.now))) taken) }
+        ensures log { OfEachLog self.old (λ side log taken. MayBeCalled side log (record_of call.now) → OnOk result (Follows side self.new (log_and_flush side log (Called (record_of call.now))) taken)) }
         ensures has_given { OnOk result (self.new.has_given_settings ≡ self.old.has_given_settings) }
     {
         self.note_call(call)?;
@@ -249,8 +248,7 @@ impl Driver {
     /// Takes in what a call did of which no work comes: a driver at rest stays so. It takes no memory.
     pub fn note_at_rest(&mut self, call: &Record)
         requires { leaves_at_rest (record_of call.now) ≡ true }
-        ensures log { (side : Side) (log : Log) (taken : ℕ) → Follows side self.old log taken → MayBeCalled side log (record_of call.now)
-            → Follows side self.new (log_and_flush side log (Called (record_of call.now))) taken }
+        ensures log { OfEachLog self.old (λ side log taken. MayBeCalled side log (record_of call.now) → Follows side self.new (log_and_flush side log (Called (record_of call.now))) taken) }
         ensures has_given { self.new.has_given_settings ≡ self.old.has_given_settings }
     {
         self.note_reading(call);
@@ -272,7 +270,7 @@ impl Driver {
 
     /// An action of a call goes out.
     pub fn act(&mut self, action: Action) -> Result<(), OutOfMemory>
-        ensures log { (side : Side) (log : Log) (taken : ℕ) → Follows side self.old log taken → MayAct side log action → SparesControl side log action → OnOk result (Follows side self.new (Sent action ∷ log) taken) }
+        ensures log { OfEachLog self.old (λ side log taken. MayAct side log action → SparesControl side log action → OnOk result (Follows side self.new (Sent action ∷ log) taken)) }
         ensures has_given { OnOk result (self.new.has_given_settings ≡ self.old.has_given_settings) }
     {
         self.put_out(action)
@@ -295,8 +293,8 @@ impl Driver {
 
     /// The response on a client's request stream, as far as it came. Nothing of it is let go.
     pub fn response(&mut self, id: StreamId) -> Result<ResponseWalk, OutOfMemory>
-        ensures log { (side : Side) (log : Log) (taken : ℕ) → Follows side self.old log taken → AwaitsResponse side log id → OnOk result (Follows side self.new log taken) }
-        ensures answer { (side : Side) (log : Log) (taken : ℕ) → Follows side self.old log taken → AwaitsResponse side log id → IfOk result (λ walk. walk ≡ response_walk_of (contents log id) (end_of (events_of log) id)) }
+        ensures log { OfEachLog self.old (λ side log taken. AwaitsResponse side log id → OnOk result (Follows side self.new log taken)) }
+        ensures answer { Tells self.old (λ side log. AwaitsResponse side log id → IfOk result (λ walk. walk ≡ response_walk_of (contents log id) (end_of (events_of log) id))) }
         ensures state { OnOk result (self.new.state ≡ self.old.state) }
         ensures queue { OnOk result (self.new.queue ≡ self.old.queue) }
         ensures settings { OnOk result (self.new.settings ≡ self.old.settings) }
@@ -347,7 +345,7 @@ impl Driver {
     fn give_settings(&mut self) -> Result<Poll<Result<Settings, DriverError>>, OutOfMemory>
         ensures answer { IfOk result (λ p. p ≡ settings_or (due_settings self.old) (result_of self.old.state.is_open self.old.state.progress.ending)) }
         ensures value { OnOk result (self.new ≡ record self.old { has_given_settings = is_some (due_settings self.old) || self.old.has_given_settings }) }
-        ensures log { (side : Side) (log : Log) (taken : ℕ) → Follows side self.old log taken → OnOk result (Follows side self.new log taken) }
+        ensures log { FollowsIfOk result self.old self.new (λ side log. log) }
     {
         let due = self.due_settings();
         self.note_settings_given(due.is_some());
@@ -360,7 +358,7 @@ impl Driver {
         ensures given { (side : Side) (log : Log) (taken : ℕ) → Follows side self.old log taken
             → IfOk result (λ p. p ≡ settings_or (unless_given self.old.has_given_settings (peer_settings side log)) (result_of self.old.state.is_open self.old.state.progress.ending)) }
         ensures value { OnOk result (self.new ≡ record self.old { has_given_settings = is_some (due_settings self.old) || self.old.has_given_settings }) }
-        ensures log { (side : Side) (log : Log) (taken : ℕ) → Follows side self.old log taken → OnOk result (Follows side self.new log taken) }
+        ensures log { FollowsIfOk result self.old self.new (λ side log. log) }
     {
         self.give_settings()
     }
@@ -377,7 +375,7 @@ impl Driver {
     /// The request that is queued, once SETTINGS came: its stream, the request, and the offset behind it.
     pub fn next_request(&self) -> Option<(StreamId, &SessionRequest, usize)>
         ensures now { request_as result ≡ first_request (requests_now self.now.state) }
-        ensures none { (side : Side) (log : Log) (taken : ℕ) → Follows side self.now log taken → result ≡ None → requests_now self.now.state ≡ [] }
+        ensures none { Tells self.now (λ side log. result ≡ None → requests_now self.now.state ≡ []) }
     {
         self.queued_request()
     }

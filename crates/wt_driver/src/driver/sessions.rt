@@ -2,6 +2,7 @@
 //! that is registered.
 ghost use Rattle.std.specs.Prelude.{◌≡◌, IfOk, List, None, OnOk, false, is_some, true, ℕ};
 ghost use Rattle.wt_dispatch.specs.Requests.{first_request};
+ghost use Rattle.wt_driver_state.specs.OfLog.{FollowsIfOk, OfEachLog, Tells};
 ghost use Rattle.wt_driver_state.specs.Given.{ended_or_pending, given_by};
 ghost use Rattle.wt_driver_state.specs.Results.{result_of};
 ghost use Rattle.wt_driver_state.specs.Sessions.{first_given, may_register, opened_answer, queued, registered, registered_answer};
@@ -46,7 +47,7 @@ impl Driver {
     ) -> Result<Poll<Result<(StreamId, HeaderList, usize), DriverError>>, OutOfMemory>
         ensures given { IfOk result (λ p. given_by p ≡ first_request self.old.state.dispatched.requests) }
         ensures nothing { IfOk result (λ p. given_by p ≡ None → p ≡ ended_or_pending (result_of self.old.state.is_open self.old.state.progress.ending)) }
-        ensures log { (side : Side) (log : Log) (taken : ℕ) → Follows side self.old log taken → OnOk result (Follows side self.new (first_given side log (queued side log)) taken) }
+        ensures log { FollowsIfOk result self.old self.new (λ side log. first_given side log (queued side log)) }
         ensures has_given { OnOk result (self.new.has_given_settings ≡ self.old.has_given_settings) }
     {
         match self.copied_request()? {
@@ -75,8 +76,8 @@ impl Driver {
     /// Opens the stream for a session's request: its id; None exactly where the connection is open and no more
     /// bidirectional streams may be opened; an error exactly where it isn't open. The moment of the call comes after it.
     pub fn open_session(&mut self) -> Result<Result<Option<StreamId>, DriverError>, OutOfMemory>
-        ensures answer { (side : Side) (log : Log) (taken : ℕ) → Follows side self.old log taken → IfOk result (λ r. r ≡ opened_answer (is_open log) (opened_id side log (local_bi side))) }
-        ensures log { (side : Side) (log : Log) (taken : ℕ) → Follows side self.old log taken → OnOk result (Follows side self.new (with_actions (opening side log (local_bi side)) log) taken) }
+        ensures answer { Tells self.old (λ side log. IfOk result (λ r. r ≡ opened_answer (is_open log) (opened_id side log (local_bi side)))) }
+        ensures log { FollowsIfOk result self.old self.new (λ side log. with_actions (opening side log (local_bi side)) log) }
         ensures has_given { OnOk result (self.new.has_given_settings ≡ self.old.has_given_settings) }
     {
         let is_open = self.is_open();
@@ -92,8 +93,7 @@ impl Driver {
 
     /// Registers a session where none was registered.
     fn register(&mut self, id: StreamId, at: usize) -> Result<(), OutOfMemory>
-        ensures log { (side : Side) (log : Log) (taken : ℕ) → Follows side self.old log taken → is_open log ≡ true → (may_register log ≡ true → MayBeCalled side log (SessionEstablished id at))
-            → OnOk result (Follows side self.new (registered side log id at) taken) }
+        ensures log { OfEachLog self.old (λ side log taken. is_open log ≡ true → (may_register log ≡ true → MayBeCalled side log (SessionEstablished id at)) → OnOk result (Follows side self.new (registered side log id at) taken)) }
         ensures further { OnOk result (is_some self.old.state.session ≡ true → self.new ≡ self.old) }
         ensures has_given { OnOk result (self.new.has_given_settings ≡ self.old.has_given_settings) }
     {
@@ -111,8 +111,7 @@ impl Driver {
         at: usize,
     ) -> Result<Result<(), DriverError>, OutOfMemory>
         ensures answer { IfOk result (λ r. r ≡ registered_answer (result_of self.old.state.is_open self.old.state.progress.ending)) }
-        ensures log { (side : Side) (log : Log) (taken : ℕ) → Follows side self.old log taken → (may_register log ≡ true → MayBeCalled side log (SessionEstablished id at))
-            → OnOk result (Follows side self.new (registered side log id at) taken) }
+        ensures log { OfEachLog self.old (λ side log taken. (may_register log ≡ true → MayBeCalled side log (SessionEstablished id at)) → OnOk result (Follows side self.new (registered side log id at) taken)) }
         ensures further { OnOk result (is_some self.old.state.session ≡ true → self.new ≡ self.old) }
         ensures late { OnOk result (self.old.state.is_open ≡ false → self.new ≡ self.old) }
         ensures has_given { OnOk result (self.new.has_given_settings ≡ self.old.has_given_settings) }

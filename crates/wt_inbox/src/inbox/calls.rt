@@ -1,13 +1,13 @@
 //! Turns of the transport, and what goes out.
-ghost use Rattle.std.specs.Prelude.{◌≡◌, ◌==◌, ◌≤◌, ◌+◌, ◌∷◌, ◌&&◌, ℕ, List, Bool, [], Some, IfOk, IsTrue, OnErr, OnOk, length, min, not, false, true};
-ghost use Rattle.wt_turn.specs.Log.{Called, Log, PrioritySet, Sent, with_actions};
+ghost use Rattle.std.specs.Prelude.{◌≡◌, ◌==◌, ◌≤◌, ◌+◌, ◌∷◌, ◌&&◌, ℕ, [], Some, IfOk, IsTrue, OnErr, OnOk, length, min, not, false};
+ghost use Rattle.wt_turn.specs.Log.{Called, PrioritySet};
 ghost use Rattle.wt_turn.specs.declared.action.Action.{Action};
-ghost use Rattle.wt_wire.specs.declared.side.Side.{Side};
 ghost use Rattle.wt_seam_spec.specs.Arrivals.{log_turn};
 ghost use Rattle.wt_seam_spec.specs.Joined.{joined, newest_first};
 ghost use Rattle.wt_seam_spec.specs.Outgoing.{credit_left, if_open, opened_id, opening, reset_entry, sending};
 ghost use Rattle.wt_seam_spec.specs.Streams.{local_bi, local_uni};
 ghost use Rattle.wt_seam.specs.Step.{after_bytes, after_close, after_consume, after_dial, after_finish, after_give_up, after_opening, after_priority, after_reset, after_send, after_stop, after_turn, can_receive_now, can_send_now, covered_now, fits_now, may_receive_now, may_send_now, opened_id_now, unread_now, with_action};
+ghost use Rattle.wt_inbox.specs.OfLog.{OfEachLog, SendsIfOk, Tells, TellsAt};
 ghost use Rattle.wt_inbox.specs.Quiet.{quiet};
 ghost use Rattle.wt_inbox.specs.State.{SameAt, with_transport};
 ghost use Rattle.wt_inbox.specs.Stage.{Refines, Stage, body_offset, with_stage};
@@ -29,7 +29,7 @@ impl Inbox {
         requires { IsTrue (fits_now self.old.transport turn.now) }
         ensures now { OnOk result (self.new ≡ with_transport self.old (after_turn self.old.transport turn.now)) }
         ensures err { OnErr result (self.new ≡ self.old) }
-        ensures log { (side : Side) (log : Log) (stage : ℕ → Stage) (untaken : List Action) → Refines side self.old log stage untaken → OnOk result (Refines side self.new (log_turn log turn.now) stage (untaken)) }
+        ensures log { OfEachLog self.old (λ side log stage untaken. OnOk result (Refines side self.new (log_turn log turn.now) stage untaken)) }
     {
         self.transport.take(turn)
     }
@@ -39,7 +39,7 @@ impl Inbox {
         requires { IsTrue (may_receive_now self.old.transport id && not self.old.transport.is_lost) }
         ensures now { OnOk result (self.new ≡ with_transport self.old (after_bytes self.old.transport id bytes.now)) }
         ensures err { OnErr result (self.new ≡ self.old) }
-        ensures log { (side : Side) (log : Log) (stage : ℕ → Stage) (untaken : List Action) → Refines side self.old log stage untaken → OnOk result (Refines side self.new (log_turn log (Turn.Bytes id bytes.now)) stage (untaken)) }
+        ensures log { OfEachLog self.old (λ side log stage untaken. OnOk result (Refines side self.new (log_turn log (Turn.Bytes id bytes.now)) stage untaken)) }
     {
         self.transport.take_bytes(id, bytes)
     }
@@ -49,7 +49,7 @@ impl Inbox {
         requires { IsTrue self.old.transport.is_open }
         ensures now { OnOk result (self.new ≡ with_transport self.old (after_dial self.old.transport address name)) }
         ensures err { OnErr result (self.new ≡ self.old) }
-        ensures log { (side : Side) (log : Log) (stage : ℕ → Stage) (untaken : List Action) → Refines side self.old log stage untaken → OnOk result (Refines side self.new (Sent (Action.Dial address name) ∷ log) stage (Action.Dial address name ∷ untaken)) }
+        ensures log { SendsIfOk result self.old self.new (λ side log. Action.Dial address name ∷ []) }
     {
         self.transport.dial(address, name)
     }
@@ -59,7 +59,7 @@ impl Inbox {
         requires { IsTrue self.old.transport.is_open }
         ensures now { OnOk result (self.new ≡ with_transport self.old (with_action self.old.transport (Action.DatagramOut piece))) }
         ensures err { OnErr result (self.new ≡ self.old) }
-        ensures log { (side : Side) (log : Log) (stage : ℕ → Stage) (untaken : List Action) → Refines side self.old log stage untaken → OnOk result (Refines side self.new (Sent (Action.DatagramOut piece) ∷ log) stage (Action.DatagramOut piece ∷ untaken)) }
+        ensures log { SendsIfOk result self.old self.new (λ side log. Action.DatagramOut piece ∷ []) }
     {
         self.transport.datagram_out(piece)
     }
@@ -68,7 +68,7 @@ impl Inbox {
     pub fn close(&mut self, code: VarInt, reason: Piece) -> Result<(), OutOfMemory>
         ensures now { OnOk result (self.new ≡ with_transport self.old (after_close self.old.transport code reason)) }
         ensures err { OnErr result (self.new ≡ self.old) }
-        ensures log { (side : Side) (log : Log) (stage : ℕ → Stage) (untaken : List Action) → Refines side self.old log stage untaken → OnOk result (Refines side self.new (with_actions (if_open log (Action.Close code reason)) log) stage (newest_first (if_open log (Action.Close code reason)) untaken)) }
+        ensures log { SendsIfOk result self.old self.new (λ side log. if_open log (Action.Close code reason)) }
     {
         self.transport.close(code, reason)
     }
@@ -77,10 +77,10 @@ impl Inbox {
     /// no more may be opened (RFC 9000, sections 2.1 and 4.6).
     pub fn open_uni(&mut self) -> Result<Option<StreamId>, OutOfMemory>
         ensures id { IfOk result (λ id. id ≡ opened_id_now self.old.transport (local_uni self.old.transport.side)) }
-        ensures log_id { (side : Side) (log : Log) (stage : ℕ → Stage) (untaken : List Action) → Refines side self.old log stage untaken → IfOk result (λ id. id ≡ opened_id side log (local_uni side)) }
+        ensures log_id { Tells self.old (λ side log. IfOk result (λ id. id ≡ opened_id side log (local_uni side))) }
         ensures now { OnOk result (self.new ≡ with_transport self.old (after_opening self.old.transport (local_uni self.old.transport.side))) }
         ensures err { OnErr result (self.new ≡ self.old) }
-        ensures log { (side : Side) (log : Log) (stage : ℕ → Stage) (untaken : List Action) → Refines side self.old log stage untaken → OnOk result (Refines side self.new (with_actions (opening side log (local_uni side)) log) stage (newest_first (opening side log (local_uni side)) untaken)) }
+        ensures log { SendsIfOk result self.old self.new (λ side log. opening side log (local_uni side)) }
     {
         self.transport.open_uni()
     }
@@ -89,10 +89,10 @@ impl Inbox {
     /// no more may be opened (RFC 9000, sections 2.1 and 4.6).
     pub fn open_bi(&mut self) -> Result<Option<StreamId>, OutOfMemory>
         ensures id { IfOk result (λ id. id ≡ opened_id_now self.old.transport (local_bi self.old.transport.side)) }
-        ensures log_id { (side : Side) (log : Log) (stage : ℕ → Stage) (untaken : List Action) → Refines side self.old log stage untaken → IfOk result (λ id. id ≡ opened_id side log (local_bi side)) }
+        ensures log_id { Tells self.old (λ side log. IfOk result (λ id. id ≡ opened_id side log (local_bi side))) }
         ensures now { OnOk result (self.new ≡ with_transport self.old (after_opening self.old.transport (local_bi self.old.transport.side))) }
         ensures err { OnErr result (self.new ≡ self.old) }
-        ensures log { (side : Side) (log : Log) (stage : ℕ → Stage) (untaken : List Action) → Refines side self.old log stage untaken → OnOk result (Refines side self.new (with_actions (opening side log (local_bi side)) log) stage (newest_first (opening side log (local_bi side)) untaken)) }
+        ensures log { SendsIfOk result self.old self.new (λ side log. opening side log (local_bi side)) }
     {
         self.transport.open_bi()
     }
@@ -101,10 +101,10 @@ impl Inbox {
     pub fn send(&mut self, id: StreamId, bytes: &[u8]) -> Result<usize, OutOfMemory>
         requires { IsTrue (may_send_now self.old.transport id) }
         ensures count { IfOk result (λ n. n ≡ length (covered_now self.old.transport id bytes.now)) }
-        ensures log_count { (side : Side) (log : Log) (stage : ℕ → Stage) (untaken : List Action) → Refines side self.old log stage untaken → IfOk result (λ n. n ≡ min (length bytes.now) (credit_left log id)) }
+        ensures log_count { Tells self.old (λ side log. IfOk result (λ n. n ≡ min (length bytes.now) (credit_left log id))) }
         ensures now { OnOk result (self.new ≡ with_transport self.old (after_send self.old.transport id bytes.now)) }
         ensures err { OnErr result (self.new ≡ self.old) }
-        ensures log { (side : Side) (log : Log) (stage : ℕ → Stage) (untaken : List Action) → Refines side self.old log stage untaken → OnOk result (Refines side self.new (with_actions (sending log id bytes.now) log) stage (newest_first (sending log id bytes.now) untaken)) }
+        ensures log { SendsIfOk result self.old self.new (λ side log. sending log id bytes.now) }
     {
         self.transport.send(id, bytes)
     }
@@ -114,7 +114,7 @@ impl Inbox {
         requires { IsTrue (may_send_now self.old.transport id) }
         ensures now { OnOk result (self.new ≡ with_transport self.old (after_finish self.old.transport id)) }
         ensures err { OnErr result (self.new ≡ self.old) }
-        ensures log { (side : Side) (log : Log) (stage : ℕ → Stage) (untaken : List Action) → Refines side self.old log stage untaken → OnOk result (Refines side self.new (Sent (Action.Finish id) ∷ log) stage (Action.Finish id ∷ untaken)) }
+        ensures log { SendsIfOk result self.old self.new (λ side log. Action.Finish id ∷ []) }
     {
         self.transport.finish(id)
     }
@@ -125,7 +125,7 @@ impl Inbox {
         requires { IsTrue (can_send_now self.old.transport id) }
         ensures now { OnOk result (self.new ≡ with_transport self.old (after_reset self.old.transport id code)) }
         ensures err { OnErr result (self.new ≡ self.old) }
-        ensures log { (side : Side) (log : Log) (stage : ℕ → Stage) (untaken : List Action) → Refines side self.old log stage untaken → OnOk result (Refines side self.new (reset_entry log id code ∷ log) stage (newest_first (if_open log (Action.ResetOut id code)) untaken)) }
+        ensures log { OfEachLog self.old (λ side log stage untaken. OnOk result (Refines side self.new (reset_entry log id code ∷ log) stage (newest_first (if_open log (Action.ResetOut id code)) untaken))) }
     {
         self.transport.reset(id, code)
     }
@@ -136,7 +136,7 @@ impl Inbox {
         requires { IsTrue (can_receive_now self.old.transport id) }
         ensures now { OnOk result (self.new ≡ with_transport self.old (after_stop self.old.transport id code)) }
         ensures err { OnErr result (self.new ≡ self.old) }
-        ensures log { (side : Side) (log : Log) (stage : ℕ → Stage) (untaken : List Action) → Refines side self.old log stage untaken → OnOk result (Refines side self.new (with_actions (if_open log (Action.StopOut id code)) log) stage (newest_first (if_open log (Action.StopOut id code)) untaken)) }
+        ensures log { SendsIfOk result self.old self.new (λ side log. if_open log (Action.StopOut id code)) }
     {
         self.transport.stop(id, code)
     }
@@ -145,7 +145,7 @@ impl Inbox {
     pub fn set_priority(&mut self, id: StreamId, priority: i32)
         requires { IsTrue (can_send_now self.old.transport id) }
         ensures now { self.new ≡ with_transport self.old (after_priority self.old.transport id priority) }
-        ensures log { (side : Side) (log : Log) (stage : ℕ → Stage) (untaken : List Action) → Refines side self.old log stage untaken → Refines side self.new (Called (PrioritySet id priority) ∷ log) stage (untaken) }
+        ensures log { OfEachLog self.old (λ side log stage untaken. Refines side self.new (Called (PrioritySet id priority) ∷ log) stage untaken) }
     {
         self.transport.set_priority(id, priority);
     }
@@ -154,8 +154,8 @@ impl Inbox {
     pub fn take_actions(&mut self) -> Actions
         ensures actions { result ≡ self.old.transport.actions }
         ensures now { self.new ≡ with_transport self.old (record self.old.transport { actions = [] }) }
-        ensures log_actions { (side : Side) (log : Log) (stage : ℕ → Stage) (untaken : List Action) → Refines side self.old log stage untaken → result ≡ joined untaken }
-        ensures log { (side : Side) (log : Log) (stage : ℕ → Stage) (untaken : List Action) → Refines side self.old log stage untaken → Refines side self.new log stage [] }
+        ensures log_actions { OfEachLog self.old (λ side log stage untaken. result ≡ joined untaken) }
+        ensures log { TellsAt self.old (λ side log stage. Refines side self.new log stage []) }
     {
         self.transport.take_actions()
     }
@@ -166,7 +166,7 @@ impl Inbox {
         ensures now { self.new ≡ with_transport self.old (after_give_up self.old.transport id) }
         ensures others { (k : ℕ) → (id == k) ≡ false → SameAt self.old self.new k }
         ensures quiet { quiet self.new.transport ≡ quiet self.old.transport }
-        ensures log { (side : Side) (log : Log) (stage : ℕ → Stage) (untaken : List Action) → Refines side self.old log stage untaken → Refines side self.new log (with_stage stage id Stage.GivenUp) untaken }
+        ensures log { OfEachLog self.old (λ side log stage untaken. Refines side self.new log (with_stage stage id Stage.GivenUp) untaken) }
     {
         self.transport.give_up(id);
     }
@@ -177,7 +177,7 @@ impl Inbox {
         ensures now { self.new ≡ with_transport self.old (after_consume self.old.transport id count) }
         ensures others { (k : ℕ) → (id == k) ≡ false → SameAt self.old self.new k }
         ensures quiet { quiet self.new.transport ≡ quiet self.old.transport }
-        ensures log { (side : Side) (log : Log) (stage : ℕ → Stage) (untaken : List Action) → Refines side self.old log stage untaken → (offset : ℕ) → body_offset (stage id) ≡ Some offset → Refines side self.new log (with_stage stage id (Stage.Body (offset + count))) untaken }
+        ensures log { OfEachLog self.old (λ side log stage untaken. (offset : ℕ) → body_offset (stage id) ≡ Some offset → Refines side self.new log (with_stage stage id (Stage.Body (offset + count))) untaken) }
     {
         self.transport.consume(id, count);
     }

@@ -1,7 +1,6 @@
 //! What the transport tells.
-ghost use Rattle.std.specs.Prelude.{◌≡◌, ◌%◌, ◌==◌, ◌&&◌, ◌<◌, ℕ, List, Bool, Some, IfSome, is_some, length, drop, nat_lt, not, option_copied, true};
-ghost use Rattle.wt_turn.specs.Log.{Log, actions_of, events_of, is_open};
-ghost use Rattle.wt_turn.specs.declared.action.Action.{Action};
+ghost use Rattle.std.specs.Prelude.{◌≡◌, ◌&&◌, ◌<◌, ℕ, List, Some, is_some, length, drop, nat_lt, not, option_copied, true};
+ghost use Rattle.wt_turn.specs.Log.{actions_of, events_of, is_open};
 ghost use Rattle.wt_wire.specs.declared.side.Side.{Side};
 ghost use Rattle.wt_message.specs.FixedBytes.{local_control_bytes};
 ghost use Rattle.wt_seam_spec.specs.Streams.{can_receive, can_send, contents, local_uni, peer_bi, peer_count, peer_uni};
@@ -10,8 +9,9 @@ ghost use Rattle.wt_seam_spec.specs.Sent.{sent_on};
 ghost use Rattle.wt_seam_spec.specs.Arrivals.{fits};
 ghost use Rattle.wt_seam_spec.specs.Outgoing.{may_send};
 ghost use Rattle.wt_seam.specs.Step.{can_receive_now, can_send_now, credit_now, end_now, fits_now, may_receive_now, may_send_now, sent_now, stop_now, unread_now};
+ghost use Rattle.wt_inbox.specs.OfLog.{Tells, TellsAt};
 ghost use Rattle.wt_inbox.specs.State.{control_credit_now, control_stopped_now, may_open_uni_now, peer_bis_now, peer_unis_now, ready_now};
-ghost use Rattle.wt_inbox.specs.Stage.{Refines, Stage, body_offset};
+ghost use Rattle.wt_inbox.specs.Stage.{body_offset};
 
 use super::Inbox;
 use wt_turn::datagram_fact::DatagramFact;
@@ -28,7 +28,7 @@ impl Inbox {
     /// This end.
     pub fn side(&self) -> Side
         ensures now { result ≡ self.now.transport.side }
-        ensures log { (side : Side) (log : Log) (stage : ℕ → Stage) (untaken : List Action) → Refines side self.now log stage untaken → result ≡ side }
+        ensures log { Tells self.now (λ side log. result ≡ side) }
     {
         self.transport.side()
     }
@@ -36,7 +36,7 @@ impl Inbox {
     /// Whether the connection is open: no loss came, and no close went out.
     pub fn is_open(&self) -> bool
         ensures now { result ≡ self.now.transport.is_open }
-        ensures log { (side : Side) (log : Log) (stage : ℕ → Stage) (untaken : List Action) → Refines side self.now log stage untaken → result ≡ is_open log }
+        ensures log { Tells self.now (λ side log. result ≡ is_open log) }
     {
         self.transport.is_open()
     }
@@ -44,7 +44,7 @@ impl Inbox {
     /// Whether the connection was established.
     pub fn is_connected(&self) -> bool
         ensures now { result ≡ self.now.transport.is_connected }
-        ensures log { (side : Side) (log : Log) (stage : ℕ → Stage) (untaken : List Action) → Refines side self.now log stage untaken → is_open log ≡ true → result ≡ is_connected (events_of log) }
+        ensures log { Tells self.now (λ side log. is_open log ≡ true → result ≡ is_connected (events_of log)) }
     {
         self.transport.is_connected()
     }
@@ -52,7 +52,7 @@ impl Inbox {
     /// What was told last of datagrams while the connection was open.
     pub fn datagram_fact(&self) -> Option<DatagramFact>
         ensures now { result ≡ self.now.transport.datagram_fact }
-        ensures log { (side : Side) (log : Log) (stage : ℕ → Stage) (untaken : List Action) → Refines side self.now log stage untaken → result ≡ datagram_fact (events_of log) }
+        ensures log { Tells self.now (λ side log. result ≡ datagram_fact (events_of log)) }
     {
         self.transport.datagram_fact()
     }
@@ -60,7 +60,7 @@ impl Inbox {
     /// The loss that ended the connection.
     pub fn loss(&self) -> Option<&LossReason>
         ensures now { option_copied result ≡ self.now.transport.loss }
-        ensures log { (side : Side) (log : Log) (stage : ℕ → Stage) (untaken : List Action) → Refines side self.now log stage untaken → option_copied result ≡ loss_of (events_of log) }
+        ensures log { Tells self.now (λ side log. option_copied result ≡ loss_of (events_of log)) }
     {
         self.transport.loss()
     }
@@ -68,7 +68,7 @@ impl Inbox {
     /// Whether a turn of the transport is lawful now.
     pub fn fits(&self, turn: &Turn) -> bool
         ensures now { result ≡ fits_now self.now.transport turn.now }
-        ensures log { (side : Side) (log : Log) (stage : ℕ → Stage) (untaken : List Action) → Refines side self.now log stage untaken → result ≡ fits side log turn.now }
+        ensures log { Tells self.now (λ side log. result ≡ fits side log turn.now) }
     {
         self.transport.fits(turn)
     }
@@ -76,7 +76,7 @@ impl Inbox {
     /// Whether bytes, the end or a reset of this stream may come now.
     pub fn bytes_fit(&self, id: StreamId) -> bool
         ensures now { result ≡ (may_receive_now self.now.transport id && not self.now.transport.is_lost) }
-        ensures log { (side : Side) (log : Log) (stage : ℕ → Stage) (untaken : List Action) → Refines side self.now log stage untaken → (bytes : List ℕ) → result ≡ fits side log (Turn.Bytes id bytes) }
+        ensures log { Tells self.now (λ side log. (bytes : List ℕ) → result ≡ fits side log (Turn.Bytes id bytes)) }
     {
         self.transport.bytes_fit(id)
     }
@@ -84,7 +84,7 @@ impl Inbox {
     /// Whether the stream exists and has a receiving half.
     pub fn can_receive(&self, id: StreamId) -> bool
         ensures now { result ≡ can_receive_now self.now.transport id }
-        ensures log { (side : Side) (log : Log) (stage : ℕ → Stage) (untaken : List Action) → Refines side self.now log stage untaken → result ≡ can_receive side log id }
+        ensures log { Tells self.now (λ side log. result ≡ can_receive side log id) }
     {
         self.transport.can_receive(id)
     }
@@ -92,7 +92,7 @@ impl Inbox {
     /// Whether the stream exists and has a sending half.
     pub fn can_send(&self, id: StreamId) -> bool
         ensures now { result ≡ can_send_now self.now.transport id }
-        ensures log { (side : Side) (log : Log) (stage : ℕ → Stage) (untaken : List Action) → Refines side self.now log stage untaken → result ≡ can_send side log id }
+        ensures log { Tells self.now (λ side log. result ≡ can_send side log id) }
     {
         self.transport.can_send(id)
     }
@@ -101,7 +101,7 @@ impl Inbox {
     /// stopped, and the connection is open.
     pub fn may_send(&self, id: StreamId) -> bool
         ensures now { result ≡ may_send_now self.now.transport id }
-        ensures log { (side : Side) (log : Log) (stage : ℕ → Stage) (untaken : List Action) → Refines side self.now log stage untaken → result ≡ may_send side log id }
+        ensures log { Tells self.now (λ side log. result ≡ may_send side log id) }
     {
         self.transport.may_send(id)
     }
@@ -109,7 +109,7 @@ impl Inbox {
     /// How a receiving half ended; Running where there is none (RFC 9000, section 3.2).
     pub fn end(&self, id: StreamId) -> StreamEnd
         ensures now { result ≡ end_now self.now.transport id }
-        ensures log { (side : Side) (log : Log) (stage : ℕ → Stage) (untaken : List Action) → Refines side self.now log stage untaken → result ≡ end_of (events_of log) id }
+        ensures log { Tells self.now (λ side log. result ≡ end_of (events_of log) id) }
     {
         self.transport.end(id)
     }
@@ -117,7 +117,7 @@ impl Inbox {
     /// How many bytes of a stream are unread.
     pub fn unread(&self, id: StreamId) -> u64
         ensures now { result ≡ length (unread_now self.now.transport id) }
-        ensures log { (side : Side) (log : Log) (stage : ℕ → Stage) (untaken : List Action) → Refines side self.now log stage untaken → (offset : ℕ) → body_offset (stage id) ≡ Some offset → result ≡ length (drop offset (contents log id)) }
+        ensures log { TellsAt self.now (λ side log stage. (offset : ℕ) → body_offset (stage id) ≡ Some offset → result ≡ length (drop offset (contents log id))) }
     {
         self.transport.unread(id)
     }
@@ -126,7 +126,7 @@ impl Inbox {
     /// is the credit of a new stream.
     pub fn credit(&self, id: StreamId) -> u64
         ensures now { result ≡ credit_now self.now.transport id }
-        ensures log { (side : Side) (log : Log) (stage : ℕ → Stage) (untaken : List Action) → Refines side self.now log stage untaken → is_open log ≡ true → result ≡ credit (events_of log) id }
+        ensures log { Tells self.now (λ side log. is_open log ≡ true → result ≡ credit (events_of log) id) }
     {
         self.transport.credit(id)
     }
@@ -134,7 +134,7 @@ impl Inbox {
     /// How many bytes went out on a stream.
     pub fn sent(&self, id: StreamId) -> u64
         ensures now { result ≡ sent_now self.now.transport id }
-        ensures log { (side : Side) (log : Log) (stage : ℕ → Stage) (untaken : List Action) → Refines side self.now log stage untaken → result ≡ length (sent_on (actions_of log) id) }
+        ensures log { Tells self.now (λ side log. result ≡ length (sent_on (actions_of log) id)) }
     {
         self.transport.sent(id)
     }
@@ -142,7 +142,7 @@ impl Inbox {
     /// The code with which the peer stopped the sending half (RFC 9000, section 3.5).
     pub fn stop_code(&self, id: StreamId) -> Option<VarInt>
         ensures now { result ≡ stop_now self.now.transport id }
-        ensures log { (side : Side) (log : Log) (stage : ℕ → Stage) (untaken : List Action) → Refines side self.now log stage untaken → result ≡ stop_of (events_of log) id }
+        ensures log { Tells self.now (λ side log. result ≡ stop_of (events_of log) id) }
     {
         self.transport.stop_code(id)
     }
@@ -150,7 +150,7 @@ impl Inbox {
     /// How many unidirectional streams the peer opened.
     pub fn peer_unis(&self) -> u64
         ensures now { result ≡ peer_unis_now self.now.transport }
-        ensures log { (side : Side) (log : Log) (stage : ℕ → Stage) (untaken : List Action) → Refines side self.now log stage untaken → is_open log ≡ true → result ≡ peer_count side (events_of log) (peer_uni side) }
+        ensures log { Tells self.now (λ side log. is_open log ≡ true → result ≡ peer_count side (events_of log) (peer_uni side)) }
     {
         self.transport.peer_unis()
     }
@@ -158,7 +158,7 @@ impl Inbox {
     /// How many bidirectional streams the peer opened.
     pub fn peer_bis(&self) -> u64
         ensures now { result ≡ peer_bis_now self.now.transport }
-        ensures log { (side : Side) (log : Log) (stage : ℕ → Stage) (untaken : List Action) → Refines side self.now log stage untaken → is_open log ≡ true → result ≡ peer_count side (events_of log) (peer_bi side) }
+        ensures log { Tells self.now (λ side log. is_open log ≡ true → result ≡ peer_count side (events_of log) (peer_bi side)) }
     {
         self.transport.peer_bis()
     }
@@ -166,7 +166,7 @@ impl Inbox {
     /// Whether this end may open a unidirectional stream at all.
     pub fn may_open_uni(&self) -> bool
         ensures now { result ≡ may_open_uni_now self.now.transport }
-        ensures log { (side : Side) (log : Log) (stage : ℕ → Stage) (untaken : List Action) → Refines side self.now log stage untaken → is_open log ≡ true → result ≡ nat_lt 0 (unis_allowed (events_of log)) }
+        ensures log { Tells self.now (λ side log. is_open log ≡ true → result ≡ nat_lt 0 (unis_allowed (events_of log))) }
     {
         self.transport.unis_allowed() > 0
     }
@@ -174,7 +174,7 @@ impl Inbox {
     /// How many bytes this end's control stream, its first unidirectional one, may send in all.
     pub fn control_credit(&self) -> u64
         ensures now { result ≡ control_credit_now self.now.transport }
-        ensures log { (side : Side) (log : Log) (stage : ℕ → Stage) (untaken : List Action) → Refines side self.now log stage untaken → is_open log ≡ true → result ≡ credit (events_of log) (local_uni side) }
+        ensures log { Tells self.now (λ side log. is_open log ≡ true → result ≡ credit (events_of log) (local_uni side)) }
     {
         self.credit(self.control_id())
     }
@@ -182,7 +182,7 @@ impl Inbox {
     /// Whether the peer stopped this end's control stream.
     pub fn control_stopped(&self) -> bool
         ensures now { result ≡ control_stopped_now self.now.transport }
-        ensures log { (side : Side) (log : Log) (stage : ℕ → Stage) (untaken : List Action) → Refines side self.now log stage untaken → result ≡ is_some (stop_of (events_of log) (local_uni side)) }
+        ensures log { Tells self.now (λ side log. result ≡ is_some (stop_of (events_of log) (local_uni side))) }
     {
         self.stop_code(self.control_id()).is_some()
     }
@@ -191,7 +191,7 @@ impl Inbox {
     /// the type and the SETTINGS of this end's control stream.
     pub fn is_ready(&self) -> bool
         ensures now { result ≡ ready_now self.now.transport }
-        ensures log { (side : Side) (log : Log) (stage : ℕ → Stage) (untaken : List Action) → Refines side self.now log stage untaken → is_open log ≡ true → result ≡ (is_connected (events_of log) && nat_lt 0 (unis_allowed (events_of log)) && not (nat_lt (credit (events_of log) (local_uni side)) (length local_control_bytes))) }
+        ensures log { Tells self.now (λ side log. is_open log ≡ true → result ≡ (is_connected (events_of log) && nat_lt 0 (unis_allowed (events_of log)) && not (nat_lt (credit (events_of log) (local_uni side)) (length local_control_bytes)))) }
     {
         is_ready_by(
             self.is_connected(),

@@ -1,8 +1,6 @@
 //! What streams say: verdicts of headers, responses, the control stream, the end of a session.
-ghost use Rattle.std.specs.Prelude.{◌≡◌, ◌==◌, ◌+◌, ◌-◌, ℕ, List, Bool, [], Some, None, IfOk, OnOk, drop, false, is_some, if◌then◌else◌, true};
-ghost use Rattle.wt_turn.specs.Log.{Log, events_of};
-ghost use Rattle.wt_turn.specs.declared.action.Action.{Action};
-ghost use Rattle.wt_wire.specs.declared.side.Side.{Side};
+ghost use Rattle.std.specs.Prelude.{◌≡◌, ◌==◌, ◌+◌, ◌-◌, ℕ, [], Some, None, IfOk, OnOk, drop, false, is_some, if◌then◌else◌, true};
+ghost use Rattle.wt_turn.specs.Log.{events_of};
 ghost use Rattle.wt_wire.specs.declared.side.StreamEnd.TheVariants.{Running};
 ghost use Rattle.wt_proto.specs.Reading.{outcome_in};
 ghost use Rattle.wt_proto.specs.Uni.{is_final, uni_unfinished, uni_verdict_of};
@@ -13,6 +11,7 @@ ghost use Rattle.wt_proto.specs.ResponseWalk.{is_answered, response_unfinished, 
 ghost use Rattle.wt_seam_spec.specs.Streams.{contents};
 ghost use Rattle.wt_seam_spec.specs.Reports.{end_of};
 ghost use Rattle.wt_seam.specs.Step.{unread_now};
+ghost use Rattle.wt_inbox.specs.OfLog.{OfEachLog, TellsAt};
 ghost use Rattle.wt_inbox.specs.Kept.{is_kept, reading_of};
 ghost use Rattle.wt_inbox.specs.Moves.{BiPulled, BiTaken, ControlPulled, ResponsePulled, ResponseTaken, SessionPulled, SessionTaken, UniPulled, UniTaken};
 ghost use Rattle.wt_inbox.specs.Quiet.{quiet};
@@ -44,8 +43,8 @@ impl Inbox {
         ensures read { IfOk result (λ so. so ≡ false → unread_now self.new.transport id ≡ []) }
         ensures kept { OnOk result (is_kept self.new.unis id ≡ true) }
         ensures readers { OnOk result (readers_now self.new ≡ (if is_kept self.old.unis id then readers_now self.old else readers_now self.old + 1)) }
-        ensures log_answer { (side : Side) (log : Log) (stage : ℕ → Stage) (untaken : List Action) → Refines side self.old log stage untaken → awaits_uni (stage id) ≡ true → IfOk result (λ so. so ≡ is_final (uni_verdict_of (contents log id) (end_of (events_of log) id))) }
-        ensures log { (side : Side) (log : Log) (stage : ℕ → Stage) (untaken : List Action) → Refines side self.old log stage untaken → awaits_uni (stage id) ≡ true → OnOk result (Refines side self.new log (with_stage stage id Stage.UniHeader) untaken) }
+        ensures log_answer { TellsAt self.old (λ side log stage. awaits_uni (stage id) ≡ true → IfOk result (λ so. so ≡ is_final (uni_verdict_of (contents log id) (end_of (events_of log) id)))) }
+        ensures log { OfEachLog self.old (λ side log stage untaken. awaits_uni (stage id) ≡ true → OnOk result (Refines side self.new log (with_stage stage id Stage.UniHeader) untaken)) }
     {
         self.pull_uni(id)?;
         Ok(self.is_uni_final(id))
@@ -59,8 +58,8 @@ impl Inbox {
         ensures quiet { OnOk result (quiet self.new.transport ≡ quiet self.old.transport) }
         ensures gone { OnOk result (is_kept self.new.unis id ≡ false) }
         ensures readers { OnOk result (readers_now self.new ≡ (if is_kept self.old.unis id then readers_now self.old - 1 else readers_now self.old)) }
-        ensures log_answer { (side : Side) (log : Log) (stage : ℕ → Stage) (untaken : List Action) → Refines side self.old log stage untaken → awaits_uni (stage id) ≡ true → IfOk result (λ outcome. outcome ≡ uni_verdict_of (contents log id) (end_of (events_of log) id)) }
-        ensures log { (side : Side) (log : Log) (stage : ℕ → Stage) (untaken : List Action) → Refines side self.old log stage untaken → awaits_uni (stage id) ≡ true → OnOk result (Refines side self.new log (with_stage stage id (stage_from (verdict_offset (uni_verdict_of (contents log id) (end_of (events_of log) id))))) untaken) }
+        ensures log_answer { TellsAt self.old (λ side log stage. awaits_uni (stage id) ≡ true → IfOk result (λ outcome. outcome ≡ uni_verdict_of (contents log id) (end_of (events_of log) id))) }
+        ensures log { OfEachLog self.old (λ side log stage untaken. awaits_uni (stage id) ≡ true → OnOk result (Refines side self.new log (with_stage stage id (stage_from (verdict_offset (uni_verdict_of (contents log id) (end_of (events_of log) id))))) untaken)) }
     {
         self.pull_uni(id)?;
         Ok(self.take_uni(id))
@@ -77,8 +76,8 @@ impl Inbox {
         ensures read { IfOk result (λ so. so ≡ false → unread_now self.new.transport id ≡ []) }
         ensures kept { OnOk result (is_kept self.new.bis id ≡ true) }
         ensures readers { OnOk result (readers_now self.new ≡ (if is_kept self.old.bis id then readers_now self.old else readers_now self.old + 1)) }
-        ensures log_answer { (side : Side) (log : Log) (stage : ℕ → Stage) (untaken : List Action) → Refines side self.old log stage untaken → awaits_bi (stage id) ≡ true → IfOk result (λ so. so ≡ is_final (bi_verdict_of (contents log id) (end_of (events_of log) id))) }
-        ensures log { (side : Side) (log : Log) (stage : ℕ → Stage) (untaken : List Action) → Refines side self.old log stage untaken → awaits_bi (stage id) ≡ true → OnOk result (Refines side self.new log (with_stage stage id Stage.BiHeader) untaken) }
+        ensures log_answer { TellsAt self.old (λ side log stage. awaits_bi (stage id) ≡ true → IfOk result (λ so. so ≡ is_final (bi_verdict_of (contents log id) (end_of (events_of log) id)))) }
+        ensures log { OfEachLog self.old (λ side log stage untaken. awaits_bi (stage id) ≡ true → OnOk result (Refines side self.new log (with_stage stage id Stage.BiHeader) untaken)) }
     {
         self.pull_bi(id)?;
         Ok(self.is_bi_final(id))
@@ -92,8 +91,8 @@ impl Inbox {
         ensures quiet { OnOk result (quiet self.new.transport ≡ quiet self.old.transport) }
         ensures gone { OnOk result (is_kept self.new.bis id ≡ false) }
         ensures readers { OnOk result (readers_now self.new ≡ (if is_kept self.old.bis id then readers_now self.old - 1 else readers_now self.old)) }
-        ensures log_answer { (side : Side) (log : Log) (stage : ℕ → Stage) (untaken : List Action) → Refines side self.old log stage untaken → awaits_bi (stage id) ≡ true → IfOk result (λ outcome. outcome ≡ bi_verdict_of (contents log id) (end_of (events_of log) id)) }
-        ensures log { (side : Side) (log : Log) (stage : ℕ → Stage) (untaken : List Action) → Refines side self.old log stage untaken → awaits_bi (stage id) ≡ true → OnOk result (Refines side self.new log (with_stage stage id (stage_from (verdict_offset (bi_verdict_of (contents log id) (end_of (events_of log) id))))) untaken) }
+        ensures log_answer { TellsAt self.old (λ side log stage. awaits_bi (stage id) ≡ true → IfOk result (λ outcome. outcome ≡ bi_verdict_of (contents log id) (end_of (events_of log) id))) }
+        ensures log { OfEachLog self.old (λ side log stage untaken. awaits_bi (stage id) ≡ true → OnOk result (Refines side self.new log (with_stage stage id (stage_from (verdict_offset (bi_verdict_of (contents log id) (end_of (events_of log) id))))) untaken)) }
     {
         self.pull_bi(id)?;
         Ok(self.take_bi(id))
@@ -110,8 +109,8 @@ impl Inbox {
         ensures read { IfOk result (λ so. so ≡ false → unread_now self.new.transport id ≡ []) }
         ensures kept { OnOk result (is_kept self.new.responses id ≡ true) }
         ensures readers { OnOk result (readers_now self.new ≡ (if is_kept self.old.responses id then readers_now self.old else readers_now self.old + 1)) }
-        ensures log_answer { (side : Side) (log : Log) (stage : ℕ → Stage) (untaken : List Action) → Refines side self.old log stage untaken → awaits_response (stage id) ≡ true → IfOk result (λ so. so ≡ is_answered (response_walk_of (contents log id) (end_of (events_of log) id))) }
-        ensures log { (side : Side) (log : Log) (stage : ℕ → Stage) (untaken : List Action) → Refines side self.old log stage untaken → awaits_response (stage id) ≡ true → OnOk result (Refines side self.new log (with_stage stage id Stage.ResponseHead) untaken) }
+        ensures log_answer { TellsAt self.old (λ side log stage. awaits_response (stage id) ≡ true → IfOk result (λ so. so ≡ is_answered (response_walk_of (contents log id) (end_of (events_of log) id)))) }
+        ensures log { OfEachLog self.old (λ side log stage untaken. awaits_response (stage id) ≡ true → OnOk result (Refines side self.new log (with_stage stage id Stage.ResponseHead) untaken)) }
     {
         self.pull_response(id)?;
         Ok(self.is_response_there(id))
@@ -127,8 +126,8 @@ impl Inbox {
         ensures read { IfOk result (λ outcome. is_answered outcome ≡ false → unread_now self.new.transport id ≡ []) }
         ensures kept { OnOk result (is_kept self.new.responses id ≡ true) }
         ensures readers { OnOk result (readers_now self.new ≡ (if is_kept self.old.responses id then readers_now self.old else readers_now self.old + 1)) }
-        ensures log_answer { (side : Side) (log : Log) (stage : ℕ → Stage) (untaken : List Action) → Refines side self.old log stage untaken → awaits_response (stage id) ≡ true → IfOk result (λ outcome. outcome ≡ response_walk_of (contents log id) (end_of (events_of log) id)) }
-        ensures log { (side : Side) (log : Log) (stage : ℕ → Stage) (untaken : List Action) → Refines side self.old log stage untaken → awaits_response (stage id) ≡ true → OnOk result (Refines side self.new log (with_stage stage id Stage.ResponseHead) untaken) }
+        ensures log_answer { TellsAt self.old (λ side log stage. awaits_response (stage id) ≡ true → IfOk result (λ outcome. outcome ≡ response_walk_of (contents log id) (end_of (events_of log) id))) }
+        ensures log { OfEachLog self.old (λ side log stage untaken. awaits_response (stage id) ≡ true → OnOk result (Refines side self.new log (with_stage stage id Stage.ResponseHead) untaken)) }
     {
         self.pull_response(id)?;
         self.response_outcome(id)
@@ -142,8 +141,8 @@ impl Inbox {
         ensures quiet { OnOk result (quiet self.new.transport ≡ quiet self.old.transport) }
         ensures gone { OnOk result (is_kept self.new.responses id ≡ false) }
         ensures readers { OnOk result (readers_now self.new ≡ (if is_kept self.old.responses id then readers_now self.old - 1 else readers_now self.old)) }
-        ensures log_answer { (side : Side) (log : Log) (stage : ℕ → Stage) (untaken : List Action) → Refines side self.old log stage untaken → awaits_response (stage id) ≡ true → IfOk result (λ outcome. outcome ≡ response_walk_of (contents log id) (end_of (events_of log) id)) }
-        ensures log { (side : Side) (log : Log) (stage : ℕ → Stage) (untaken : List Action) → Refines side self.old log stage untaken → awaits_response (stage id) ≡ true → OnOk result (Refines side self.new log (with_stage stage id (stage_from (response_offset (response_walk_of (contents log id) (end_of (events_of log) id))))) untaken) }
+        ensures log_answer { TellsAt self.old (λ side log stage. awaits_response (stage id) ≡ true → IfOk result (λ outcome. outcome ≡ response_walk_of (contents log id) (end_of (events_of log) id))) }
+        ensures log { OfEachLog self.old (λ side log stage untaken. awaits_response (stage id) ≡ true → OnOk result (Refines side self.new log (with_stage stage id (stage_from (response_offset (response_walk_of (contents log id) (end_of (events_of log) id))))) untaken)) }
     {
         self.pull_response(id)?;
         Ok(self.take_response(id))
@@ -160,8 +159,8 @@ impl Inbox {
         ensures read { IfOk result (λ walk. is_some walk.fault ≡ false → unread_now self.new.transport id ≡ []) }
         ensures kept { OnOk result (is_kept self.new.controls id ≡ true) }
         ensures readers { OnOk result (readers_now self.new ≡ (if is_kept self.old.controls id then readers_now self.old else readers_now self.old + 1)) }
-        ensures log_answer { (side : Side) (log : Log) (stage : ℕ → Stage) (untaken : List Action) → Refines side self.old log stage untaken → (at : ℕ) → control_offset (stage id) ≡ Some at → IfOk result (λ walk. walk ≡ control_walk_of (drop at (contents log id)) (end_of (events_of log) id)) }
-        ensures log { (side : Side) (log : Log) (stage : ℕ → Stage) (untaken : List Action) → Refines side self.old log stage untaken → (at : ℕ) → control_offset (stage id) ≡ Some at → OnOk result (Refines side self.new log (with_stage stage id (Stage.ControlBody at)) untaken) }
+        ensures log_answer { TellsAt self.old (λ side log stage. (at : ℕ) → control_offset (stage id) ≡ Some at → IfOk result (λ walk. walk ≡ control_walk_of (drop at (contents log id)) (end_of (events_of log) id))) }
+        ensures log { OfEachLog self.old (λ side log stage untaken. (at : ℕ) → control_offset (stage id) ≡ Some at → OnOk result (Refines side self.new log (with_stage stage id (Stage.ControlBody at)) untaken)) }
     {
         self.pull_control(id)?;
         Ok(self.control_outcome(id))
@@ -179,8 +178,8 @@ impl Inbox {
         ensures read { OnOk result (is_over_by_bytes self.old id ≡ false → unread_now self.new.transport id ≡ []) }
         ensures kept { OnOk result (is_kept self.new.sessions id ≡ true) }
         ensures readers { OnOk result (readers_now self.new ≡ (if is_kept self.old.sessions id then readers_now self.old else readers_now self.old + 1)) }
-        ensures log_answer { (side : Side) (log : Log) (stage : ℕ → Stage) (untaken : List Action) → Refines side self.old log stage untaken → (at : ℕ) → session_offset (stage id) ≡ Some at → IfOk result (λ so. so ≡ is_over (session_walk_of (drop at (contents log id)) (end_of (events_of log) id))) }
-        ensures log { (side : Side) (log : Log) (stage : ℕ → Stage) (untaken : List Action) → Refines side self.old log stage untaken → (at : ℕ) → session_offset (stage id) ≡ Some at → OnOk result (Refines side self.new log (with_stage stage id (Stage.SessionBody at)) untaken) }
+        ensures log_answer { TellsAt self.old (λ side log stage. (at : ℕ) → session_offset (stage id) ≡ Some at → IfOk result (λ so. so ≡ is_over (session_walk_of (drop at (contents log id)) (end_of (events_of log) id)))) }
+        ensures log { OfEachLog self.old (λ side log stage untaken. (at : ℕ) → session_offset (stage id) ≡ Some at → OnOk result (Refines side self.new log (with_stage stage id (Stage.SessionBody at)) untaken)) }
     {
         self.pull_session(id)?;
         Ok(self.is_session_final(id))
@@ -193,8 +192,8 @@ impl Inbox {
         ensures quiet { OnOk result (quiet self.new.transport ≡ quiet self.old.transport) }
         ensures gone { OnOk result (is_kept self.new.sessions id ≡ false) }
         ensures readers { OnOk result (readers_now self.new ≡ (if is_kept self.old.sessions id then readers_now self.old - 1 else readers_now self.old)) }
-        ensures log_answer { (side : Side) (log : Log) (stage : ℕ → Stage) (untaken : List Action) → Refines side self.old log stage untaken → (at : ℕ) → session_offset (stage id) ≡ Some at → IfOk result (λ end. (end.0 ≡ session_walk_of (drop at (contents log id)) (end_of (events_of log) id)) × (end.1 ≡ is_over (session_walk_of (drop at (contents log id)) Running))) }
-        ensures log { (side : Side) (log : Log) (stage : ℕ → Stage) (untaken : List Action) → Refines side self.old log stage untaken → (at : ℕ) → session_offset (stage id) ≡ Some at → OnOk result (Refines side self.new log (with_stage stage id Stage.Anywhere) untaken) }
+        ensures log_answer { TellsAt self.old (λ side log stage. (at : ℕ) → session_offset (stage id) ≡ Some at → IfOk result (λ end. (end.0 ≡ session_walk_of (drop at (contents log id)) (end_of (events_of log) id)) × (end.1 ≡ is_over (session_walk_of (drop at (contents log id)) Running)))) }
+        ensures log { OfEachLog self.old (λ side log stage untaken. (at : ℕ) → session_offset (stage id) ≡ Some at → OnOk result (Refines side self.new log (with_stage stage id Stage.Anywhere) untaken)) }
     {
         let by_bytes = self.pull_session(id)?;
         Ok((self.take_session(id), by_bytes))

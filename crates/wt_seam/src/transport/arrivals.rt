@@ -1,12 +1,10 @@
 //! Turns of the transport: which may come, and what each leaves.
-ghost use Rattle.std.specs.Prelude.{◌≡◌, ◌<◌, ◌≤◌, ◌^◌, ◌+◌, ◌*◌, ◌-◌, ◌/◌, ◌%◌, ◌++◌, ◌∷◌, [], Some, None, IfOk, IsTrue, OnErr, OnOk, length, min, ◌==◌, ◌&&◌, not, is_some, nat_lt, List, ℕ, if◌then◌else◌, option_copied};
-ghost use Rattle.std.specs.List.{concat};
-ghost use Rattle.wt_turn.specs.Log.{Acked, Connected, DatagramLimit, Log, Loss, MaxData, Stop};
-ghost use Rattle.wt_turn.specs.declared.action.Action.{Action};
+ghost use Rattle.std.specs.Prelude.{◌≡◌, ◌<◌, ◌≤◌, ◌^◌, ◌*◌, ◌-◌, ◌/◌, ◌%◌, Some, IsTrue, OnErr, OnOk, ◌&&◌, not, nat_lt, List, ℕ};
+ghost use Rattle.wt_turn.specs.Log.{Acked, Connected, DatagramLimit, Loss, MaxData, Stop};
 ghost use Rattle.wt_wire.specs.declared.side.Side.{Side};
-ghost use Rattle.wt_seam_spec.specs.Arrivals.{fits, log_bytes_if, log_turn};
-ghost use Rattle.wt_seam_spec.specs.Unread.{ReadPosition};
+ghost use Rattle.wt_seam_spec.specs.Arrivals.{fits, log_turn};
 ghost use Rattle.wt_streams.specs.StreamState.{has_stream, signal, with_end};
+ghost use Rattle.wt_seam.specs.OfLog.{OfEachLog, Tells};
 ghost use Rattle.wt_seam.specs.State.{Refines};
 ghost use Rattle.wt_seam.specs.Step.{after_bytes, after_event, after_turn, count_now, fits_now, may_ack_now, may_be_lost_now, may_begin_now, may_come_now, may_connect_now, may_raise_now, may_receive_now, may_stop_now, with_change, with_new_stream};
 
@@ -115,7 +113,7 @@ impl Transport {
     /// call is no turn of the transport.
     pub fn fits(&self, turn: &Turn) -> bool
         ensures now { result ≡ fits_now self.now turn.now }
-        ensures log { (side : Side) (log : Log) (position : ℕ → ReadPosition) (untaken : List Action) → Refines side self.now log position untaken → result ≡ fits side log turn.now }
+        ensures log { Tells self.now (λ side log. result ≡ fits side log turn.now) }
     {
         self.fits_now(turn)
     }
@@ -298,7 +296,7 @@ impl Transport {
         requires { IsTrue (fits_now self.old turn.now) }
         ensures now { OnOk result (self.new ≡ after_turn self.old turn.now) }
         ensures err { OnErr result (self.new ≡ self.old) }
-        ensures log { (side : Side) (log : Log) (position : ℕ → ReadPosition) (untaken : List Action) → Refines side self.old log position untaken → OnOk result (Refines side self.new (log_turn log turn.now) position untaken) }
+        ensures log { OfEachLog self.old (λ side log position untaken. OnOk result (Refines side self.new (log_turn log turn.now) position untaken)) }
     {
         self.note(turn)
     }
@@ -306,7 +304,7 @@ impl Transport {
     /// Whether bytes, the end or a reset of this stream may come now.
     pub fn bytes_fit(&self, id: StreamId) -> bool
         ensures now { result ≡ (may_receive_now self.now id && not self.now.is_lost) }
-        ensures log { (side : Side) (log : Log) (position : ℕ → ReadPosition) (untaken : List Action) → Refines side self.now log position untaken → (bytes : List ℕ) → result ≡ fits side log (Turn.Bytes id bytes) }
+        ensures log { Tells self.now (λ side log. (bytes : List ℕ) → result ≡ fits side log (Turn.Bytes id bytes)) }
     {
         self.bytes_fit_now(id)
     }
@@ -323,7 +321,7 @@ impl Transport {
         requires { IsTrue (may_receive_now self.old id && not self.old.is_lost) }
         ensures now { OnOk result (self.new ≡ after_bytes self.old id bytes.now) }
         ensures err { OnErr result (self.new ≡ self.old) }
-        ensures log { (side : Side) (log : Log) (position : ℕ → ReadPosition) (untaken : List Action) → Refines side self.old log position untaken → OnOk result (Refines side self.new (log_turn log (Turn.Bytes id bytes.now)) position untaken) }
+        ensures log { OfEachLog self.old (λ side log position untaken. OnOk result (Refines side self.new (log_turn log (Turn.Bytes id bytes.now)) position untaken)) }
     {
         self.receive(id, bytes)
     }

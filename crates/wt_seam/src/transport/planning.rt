@@ -1,14 +1,10 @@
 //! What calls would answer now, with nothing done.
-ghost use Rattle.std.specs.Prelude.{◌≡◌, ◌-◌, ◌<◌, ◌^◌, ◌≤◌, length, nat_lt, take, List, ℕ, IsTrue};
-ghost use Rattle.wt_turn.specs.Log.{Log};
-ghost use Rattle.wt_turn.specs.declared.action.Action.{Action};
-ghost use Rattle.wt_wire.specs.declared.side.Side.{Side};
+ghost use Rattle.std.specs.Prelude.{◌≡◌, ◌-◌, ◌<◌, ◌^◌, ◌≤◌, length, nat_lt, take, IsTrue};
 ghost use Rattle.wt_seam_spec.specs.Outgoing.{opened_id};
 ghost use Rattle.wt_seam_spec.specs.Streams.{local_bi, local_uni};
-ghost use Rattle.wt_seam_spec.specs.Unread.{ReadPosition};
 ghost use Rattle.wt_streams.specs.HalfRules.{finish_answer, is_closed, priority_answer, read_answer, read_exact_answer, stopped_answer, write_all_answer, write_answer};
+ghost use Rattle.wt_seam.specs.OfLog.{Tells};
 ghost use Rattle.wt_seam.specs.Rules.{receiving_half_now, sending_half_now};
-ghost use Rattle.wt_seam.specs.State.{Refines};
 ghost use Rattle.wt_seam.specs.Step.{can_send_now, count_now, credit_now, opened_id_now, sent_now, streams_allowed_now, unread_now};
 
 use super::Transport;
@@ -26,7 +22,7 @@ impl Transport {
     /// The stream that `open_uni` would open.
     pub fn next_uni(&self) -> Option<StreamId>
         ensures now { result ≡ opened_id_now self.now (local_uni self.now.side) }
-        ensures log { (side : Side) (log : Log) (position : ℕ → ReadPosition) (untaken : List Action) → Refines side self.now log position untaken → result ≡ opened_id side log (local_uni side) }
+        ensures log { Tells self.now (λ side log. result ≡ opened_id side log (local_uni side)) }
     {
         self.next_uni_now()
     }
@@ -40,7 +36,7 @@ impl Transport {
     /// The stream that `open_bi` would open.
     pub fn next_bi(&self) -> Option<StreamId>
         ensures now { result ≡ opened_id_now self.now (local_bi self.now.side) }
-        ensures log { (side : Side) (log : Log) (position : ℕ → ReadPosition) (untaken : List Action) → Refines side self.now log position untaken → result ≡ opened_id side log (local_bi side) }
+        ensures log { Tells self.now (λ side log. result ≡ opened_id side log (local_bi side)) }
     {
         self.next_bi_now()
     }

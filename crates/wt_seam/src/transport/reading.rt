@@ -1,16 +1,14 @@
 //! What came for streams, as their readers take it. Nothing here takes memory.
-ghost use Rattle.std.specs.Prelude.{◌≡◌, ◌<◌, ◌≤◌, ◌^◌, ◌+◌, ◌*◌, ◌-◌, ◌/◌, ◌%◌, ◌++◌, ◌∷◌, [], Some, None, IfOk, IsTrue, OnErr, OnOk, length, min, ◌==◌, ◌&&◌, not, is_some, nat_lt, List, ℕ, false, if◌then◌else◌, option_copied};
-ghost use Rattle.std.specs.List.{concat};
-ghost use Rattle.wt_turn.specs.Log.{Log, events_of};
-ghost use Rattle.wt_turn.specs.declared.action.Action.{Action};
-ghost use Rattle.wt_wire.specs.declared.side.Side.{Side};
+ghost use Rattle.std.specs.Prelude.{◌≡◌, ◌<◌, ◌≤◌, ◌^◌, ◌-◌, ◌/◌, ◌%◌, [], IsTrue, length, min, false};
+ghost use Rattle.wt_turn.specs.Log.{events_of};
 ghost use Rattle.wt_wire.specs.declared.side.StreamEnd.{StreamEnd};
 ghost use Rattle.wt_wire.specs.declared.side.StreamEnd.TheVariants as ends;
 ghost use Rattle.wt_seam_spec.specs.Streams.{can_receive};
 ghost use Rattle.wt_seam_spec.specs.Reports.{end_of};
 ghost use Rattle.wt_streams.specs.Pieces.{first_piece};
-ghost use Rattle.wt_seam_spec.specs.Unread.{IsFront, ReadPosition, consumed, given_up, unread};
+ghost use Rattle.wt_seam_spec.specs.Unread.{IsFront, consumed, given_up, unread};
 ghost use Rattle.wt_streams.specs.StreamState.{pieces_of};
+ghost use Rattle.wt_seam.specs.OfLog.{OfEachLog, Tells, TellsUnread};
 ghost use Rattle.wt_seam.specs.State.{Refines};
 ghost use Rattle.wt_seam.specs.Step.{after_consume, after_give_up, can_receive_now, end_now, pieces_now, unread_now};
 
@@ -25,8 +23,8 @@ impl Transport {
     pub fn peek(&self, id: StreamId) -> &[u8]
         ensures now { result.now ≡ first_piece (pieces_now self.now id) }
         ensures some { 0 < length (unread_now self.now id) → 0 < length result.now }
-        ensures log { (side : Side) (log : Log) (position : ℕ → ReadPosition) (untaken : List Action) → Refines side self.now log position untaken → IsFront result.now (unread log position id) }
-        ensures no_half { (side : Side) (log : Log) (position : ℕ → ReadPosition) (untaken : List Action) → Refines side self.now log position untaken → can_receive side log id ≡ false → result.now ≡ [] }
+        ensures log { TellsUnread self.now (λ side log position. IsFront result.now (unread log position id)) }
+        ensures no_half { Tells self.now (λ side log. can_receive side log id ≡ false → result.now ≡ []) }
     {
         self.peek_now(id)
     }
@@ -44,8 +42,8 @@ impl Transport {
     /// How many bytes of a stream are unread.
     pub fn unread(&self, id: StreamId) -> u64
         ensures now { result ≡ length (unread_now self.now id) }
-        ensures log { (side : Side) (log : Log) (position : ℕ → ReadPosition) (untaken : List Action) → Refines side self.now log position untaken → result ≡ length (unread log position id) }
-        ensures no_half { (side : Side) (log : Log) (position : ℕ → ReadPosition) (untaken : List Action) → Refines side self.now log position untaken → can_receive side log id ≡ false → result ≡ 0 }
+        ensures log { TellsUnread self.now (λ side log position. result ≡ length (unread log position id)) }
+        ensures no_half { Tells self.now (λ side log. can_receive side log id ≡ false → result ≡ 0) }
     {
         self.unread_now(id)
     }
@@ -62,7 +60,7 @@ impl Transport {
     /// How many bytes are kept of a stream: those that are unread.
     pub fn held(&self, id: StreamId) -> u64
         ensures now { result ≡ length (unread_now self.now id) }
-        ensures log { (side : Side) (log : Log) (position : ℕ → ReadPosition) (untaken : List Action) → Refines side self.now log position untaken → result ≡ length (unread log position id) }
+        ensures log { TellsUnread self.now (λ side log position. result ≡ length (unread log position id)) }
     {
         self.unread_now(id)
     }
@@ -85,7 +83,7 @@ impl Transport {
     pub fn consume(&mut self, id: StreamId, count: usize)
         requires { count ≤ length (unread_now self.old id) }
         ensures now { self.new ≡ after_consume self.old id count }
-        ensures log { (side : Side) (log : Log) (position : ℕ → ReadPosition) (untaken : List Action) → Refines side self.old log position untaken → Refines side self.new log (consumed position id count) untaken }
+        ensures log { OfEachLog self.old (λ side log position untaken. Refines side self.new log (consumed position id count) untaken) }
     {
         self.consume_now(id, count);
     }
@@ -105,7 +103,7 @@ impl Transport {
     pub fn give_up(&mut self, id: StreamId)
         requires { IsTrue (can_receive_now self.old id) }
         ensures now { self.new ≡ after_give_up self.old id }
-        ensures log { (side : Side) (log : Log) (position : ℕ → ReadPosition) (untaken : List Action) → Refines side self.old log position untaken → Refines side self.new log (given_up position id) untaken }
+        ensures log { OfEachLog self.old (λ side log position untaken. Refines side self.new log (given_up position id) untaken) }
     {
         self.give_up_now(id);
     }
@@ -121,8 +119,8 @@ impl Transport {
     /// How a receiving half ended; Running where there is none (RFC 9000, section 3.2).
     pub fn end(&self, id: StreamId) -> StreamEnd
         ensures now { result ≡ end_now self.now id }
-        ensures log { (side : Side) (log : Log) (position : ℕ → ReadPosition) (untaken : List Action) → Refines side self.now log position untaken → result ≡ end_of (events_of log) id }
-        ensures no_half { (side : Side) (log : Log) (position : ℕ → ReadPosition) (untaken : List Action) → Refines side self.now log position untaken → can_receive side log id ≡ false → result ≡ ends.Running }
+        ensures log { Tells self.now (λ side log. result ≡ end_of (events_of log) id) }
+        ensures no_half { Tells self.now (λ side log. can_receive side log id ≡ false → result ≡ ends.Running) }
     {
         self.end_now(id)
     }

@@ -1,15 +1,13 @@
 //! What goes out on streams.
-ghost use Rattle.std.specs.Prelude.{◌≡◌, ◌<◌, ◌≤◌, ◌^◌, ◌+◌, ◌*◌, ◌-◌, ◌/◌, ◌%◌, ◌++◌, ◌∷◌, [], Some, None, IfOk, IsTrue, OnErr, OnOk, length, min, ◌==◌, ◌&&◌, not, is_some, nat_lt, List, ℕ, false, if◌then◌else◌, option_copied};
-ghost use Rattle.std.specs.List.{concat};
-ghost use Rattle.wt_turn.specs.Log.{Called, Log, PrioritySet, Sent, with_actions};
-ghost use Rattle.wt_wire.specs.declared.side.Side.{Side};
+ghost use Rattle.std.specs.Prelude.{◌≡◌, ◌<◌, ◌≤◌, ◌^◌, ◌+◌, ◌*◌, ◌-◌, ◌/◌, ◌%◌, ◌∷◌, [], Some, None, IfOk, IsTrue, OnErr, OnOk, length, min, ◌&&◌, false};
+ghost use Rattle.wt_turn.specs.Log.{Called, PrioritySet};
 ghost use Rattle.wt_seam_spec.specs.Streams.{local_bi, local_uni};
 ghost use Rattle.wt_seam_spec.specs.Joined.{newest_first};
 ghost use Rattle.wt_seam_spec.specs.Outgoing.{credit_left, if_open, may_send, opened_id, opening, reset_entry, sending};
-ghost use Rattle.wt_seam_spec.specs.Unread.{ReadPosition};
-ghost use Rattle.wt_streams.specs.StreamState.{credit_of, has_stream, stream_at, with_priority, with_sent};
+ghost use Rattle.wt_streams.specs.StreamState.{credit_of, has_stream, stream_at, with_sent};
+ghost use Rattle.wt_seam.specs.OfLog.{OfEachLog, SendsIfOk, Tells};
 ghost use Rattle.wt_seam.specs.State.{Refines};
-ghost use Rattle.wt_seam.specs.Step.{after_finish, after_opening, after_priority, after_reset, after_send, after_stop, can_receive_now, can_send_now, covered_now, may_open_now, may_send_now, opened_id_now, streams_allowed_now, with_change, with_send};
+ghost use Rattle.wt_seam.specs.Step.{after_finish, after_opening, after_priority, after_reset, after_send, after_stop, can_receive_now, can_send_now, covered_now, may_send_now, opened_id_now, streams_allowed_now, with_change, with_send};
 
 use super::Transport;
 use wt_turn::action::Action;
@@ -28,8 +26,8 @@ impl Transport {
         ensures state { OnOk result (self.new ≡ after_opening self.old (local_uni self.old.side)) }
         ensures err { OnErr result (self.new ≡ self.old) }
         ensures ended { self.old.is_open ≡ false → OnOk result (self.new.actions ≡ self.old.actions) }
-        ensures log_id { (side : Side) (log : Log) (position : ℕ → ReadPosition) (untaken : List Action) → Refines side self.old log position untaken → IfOk result (λ id. id ≡ opened_id side log (local_uni side)) }
-        ensures log { (side : Side) (log : Log) (position : ℕ → ReadPosition) (untaken : List Action) → Refines side self.old log position untaken → OnOk result (Refines side self.new (with_actions (opening side log (local_uni side)) log) position (newest_first (opening side log (local_uni side)) untaken)) }
+        ensures log_id { Tells self.old (λ side log. IfOk result (λ id. id ≡ opened_id side log (local_uni side))) }
+        ensures log { SendsIfOk result self.old self.new (λ side log. opening side log (local_uni side)) }
     {
         self.open_uni_now()
     }
@@ -50,8 +48,8 @@ impl Transport {
         ensures state { OnOk result (self.new ≡ after_opening self.old (local_bi self.old.side)) }
         ensures err { OnErr result (self.new ≡ self.old) }
         ensures ended { self.old.is_open ≡ false → OnOk result (self.new.actions ≡ self.old.actions) }
-        ensures log_id { (side : Side) (log : Log) (position : ℕ → ReadPosition) (untaken : List Action) → Refines side self.old log position untaken → IfOk result (λ id. id ≡ opened_id side log (local_bi side)) }
-        ensures log { (side : Side) (log : Log) (position : ℕ → ReadPosition) (untaken : List Action) → Refines side self.old log position untaken → OnOk result (Refines side self.new (with_actions (opening side log (local_bi side)) log) position (newest_first (opening side log (local_bi side)) untaken)) }
+        ensures log_id { Tells self.old (λ side log. IfOk result (λ id. id ≡ opened_id side log (local_bi side))) }
+        ensures log { SendsIfOk result self.old self.new (λ side log. opening side log (local_bi side)) }
     {
         self.open_bi_now()
     }
@@ -95,7 +93,7 @@ impl Transport {
     /// reset nor stopped, and the connection is open.
     pub fn may_send(&self, id: StreamId) -> bool
         ensures now { result ≡ may_send_now self.now id }
-        ensures log { (side : Side) (log : Log) (position : ℕ → ReadPosition) (untaken : List Action) → Refines side self.now log position untaken → result ≡ may_send side log id }
+        ensures log { Tells self.now (λ side log. result ≡ may_send side log id) }
     {
         self.may_send_now(id)
     }
@@ -112,8 +110,8 @@ impl Transport {
         ensures count { IfOk result (λ n. n ≡ length (covered_now self.old id bytes.now)) }
         ensures state { OnOk result (self.new ≡ after_send self.old id bytes.now) }
         ensures err { OnErr result (self.new ≡ self.old) }
-        ensures log_count { (side : Side) (log : Log) (position : ℕ → ReadPosition) (untaken : List Action) → Refines side self.old log position untaken → IfOk result (λ n. n ≡ min (length bytes.now) (credit_left log id)) }
-        ensures log { (side : Side) (log : Log) (position : ℕ → ReadPosition) (untaken : List Action) → Refines side self.old log position untaken → OnOk result (Refines side self.new (with_actions (sending log id bytes.now) log) position (newest_first (sending log id bytes.now) untaken)) }
+        ensures log_count { Tells self.old (λ side log. IfOk result (λ n. n ≡ min (length bytes.now) (credit_left log id))) }
+        ensures log { SendsIfOk result self.old self.new (λ side log. sending log id bytes.now) }
     {
         self.send_now(id, bytes)
     }
@@ -166,7 +164,7 @@ impl Transport {
         requires { IsTrue (may_send_now self.old id) }
         ensures now { OnOk result (self.new ≡ after_finish self.old id) }
         ensures err { OnErr result (self.new ≡ self.old) }
-        ensures log { (side : Side) (log : Log) (position : ℕ → ReadPosition) (untaken : List Action) → Refines side self.old log position untaken → OnOk result (Refines side self.new (Sent (Action.Finish id) ∷ log) position (Action.Finish id ∷ untaken)) }
+        ensures log { SendsIfOk result self.old self.new (λ side log. Action.Finish id ∷ []) }
     {
         self.finish_now(id)
     }
@@ -190,7 +188,7 @@ impl Transport {
         ensures now { OnOk result (self.new ≡ after_reset self.old id code) }
         ensures err { OnErr result (self.new ≡ self.old) }
         ensures ended { self.old.is_open ≡ false → OnOk result (self.new.actions ≡ self.old.actions) }
-        ensures log { (side : Side) (log : Log) (position : ℕ → ReadPosition) (untaken : List Action) → Refines side self.old log position untaken → OnOk result (Refines side self.new (reset_entry log id code ∷ log) position (newest_first (if_open log (Action.ResetOut id code)) untaken)) }
+        ensures log { OfEachLog self.old (λ side log position untaken. OnOk result (Refines side self.new (reset_entry log id code ∷ log) position (newest_first (if_open log (Action.ResetOut id code)) untaken))) }
     {
         self.reset_now(id, code)
     }
@@ -216,7 +214,7 @@ impl Transport {
         ensures now { OnOk result (self.new ≡ after_stop self.old id code) }
         ensures err { OnErr result (self.new ≡ self.old) }
         ensures ended { self.old.is_open ≡ false → OnOk result (self.new.actions ≡ self.old.actions) }
-        ensures log { (side : Side) (log : Log) (position : ℕ → ReadPosition) (untaken : List Action) → Refines side self.old log position untaken → OnOk result (Refines side self.new (with_actions (if_open log (Action.StopOut id code)) log) position (newest_first (if_open log (Action.StopOut id code)) untaken)) }
+        ensures log { SendsIfOk result self.old self.new (λ side log. if_open log (Action.StopOut id code)) }
     {
         self.stop_now(id, code)
     }
@@ -235,7 +233,7 @@ impl Transport {
     pub fn set_priority(&mut self, id: StreamId, priority: i32)
         requires { IsTrue (can_send_now self.old id) }
         ensures now { self.new ≡ after_priority self.old id priority }
-        ensures log { (side : Side) (log : Log) (position : ℕ → ReadPosition) (untaken : List Action) → Refines side self.old log position untaken → Refines side self.new (Called (PrioritySet id priority) ∷ log) position untaken }
+        ensures log { OfEachLog self.old (λ side log position untaken. Refines side self.new (Called (PrioritySet id priority) ∷ log) position untaken) }
     {
         self.set_priority_now(id, priority);
     }
