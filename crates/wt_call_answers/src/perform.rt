@@ -37,7 +37,8 @@ fn step(
     own: Vec<Action>,
     call: Record,
 ) -> Result<(), OutOfMemory>
-    ensures log { OfEachLog d.old (λ side log taken. MaySendAll side log own.items → MayBeCalled side (with_actions own.items log) (record_of call) → OnOk result (Follows side d.new (log_call side log own.items (record_of call)) taken)) }
+    ensures log { OfEachLog d.old (λ side log taken. MaySendAll side log own.items → MayBeCalled side (with_actions own.items log) (record_of call)
+        → OnOk result (Follows side d.new (log_call side log own.items (record_of call)) taken)) }
     ensures session { (calls : List CallRecord) → KeepsCalls s.old calls → OnOk result (KeepsCalls s.new (record_of call ∷ calls)) }
 {
     acting::step(d, own, &call)?;

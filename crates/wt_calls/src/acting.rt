@@ -56,7 +56,8 @@ pub fn act_all(d: &mut Driver, own: Vec<Action>) -> Result<(), OutOfMemory>
 ///
 /// `OutOfMemory` where an action or the record found no memory.
 pub fn step(d: &mut Driver, own: Vec<Action>, call: &Record) -> Result<(), OutOfMemory>
-    ensures log { OfEachLog d.old (λ side log taken. MaySendAll side log own.items → MayBeCalled side (with_actions own.items log) (record_of call.now) → OnOk result (Follows side d.new (log_call side log own.items (record_of call.now)) taken)) }
+    ensures log { OfEachLog d.old (λ side log taken. MaySendAll side log own.items → MayBeCalled side (with_actions own.items log) (record_of call.now)
+        → OnOk result (Follows side d.new (log_call side log own.items (record_of call.now)) taken)) }
 {
     act_all(d, own)?;
     d.called(call)

@@ -1,13 +1,13 @@
 //! What goes out for a call.
-ghost use Rattle.std.specs.Prelude.{◌≡◌, ◌∷◌, [], Some, false, true, List, ℕ, OnOk};
+ghost use Rattle.std.specs.Prelude.{◌≡◌, ◌∷◌, [], Some, false, true, OnOk};
 ghost use Rattle.wt_seam_spec.specs.Acting.{MayAct, local_kind};
-ghost use Rattle.wt_inbox.specs.Stage.{Refines, Stage};
+ghost use Rattle.wt_inbox.specs.OfLog.{OfEachLog};
+ghost use Rattle.wt_inbox.specs.Stage.{Refines};
 ghost use Rattle.wt_seam_spec.specs.Outgoing.{may_send, opened_id, sending};
 ghost use Rattle.wt_seam_spec.specs.Streams.{can_receive, can_send};
-ghost use Rattle.wt_turn.specs.Log.{Called, Log, ResetUnsent, Sent, is_open};
+ghost use Rattle.wt_turn.specs.Log.{Called, ResetUnsent, Sent, is_open};
 ghost use Rattle.wt_turn.specs.declared.action.Action.{Action};
 ghost use Rattle.wt_turn.specs.declared.action.Action.TheVariants as actions;
-ghost use Rattle.wt_wire.specs.declared.side.Side.{Side};
 
 use wt_inbox::Inbox;
 use wt_turn::action::Action;
@@ -19,8 +19,8 @@ use wt_wire::text::Text;
 use wt_wire::varint::VarInt;
 
 fn open(inbox: &mut Inbox, id: StreamId) -> Result<(), OutOfMemory>
-    ensures log { (side : Side) (log : Log) (stage : ℕ → Stage) (untaken : List Action) → Refines side inbox.old log stage untaken
-        → opened_id side log (local_kind side id) ≡ Some id → OnOk result (Refines side inbox.new (Sent (actions.Opened id) ∷ log) stage (actions.Opened id ∷ untaken)) }
+    ensures log { OfEachLog inbox.old (λ side log stage untaken. opened_id side log (local_kind side id) ≡ Some id
+        → OnOk result (Refines side inbox.new (Sent (actions.Opened id) ∷ log) stage (actions.Opened id ∷ untaken))) }
 {
     if id.is_bidirectional() {
         let _opened = inbox.open_bi()?;
@@ -31,8 +31,8 @@ fn open(inbox: &mut Inbox, id: StreamId) -> Result<(), OutOfMemory>
 }
 
 fn send(inbox: &mut Inbox, id: StreamId, piece: &Piece) -> Result<(), OutOfMemory>
-    ensures log { (side : Side) (log : Log) (stage : ℕ → Stage) (untaken : List Action) → Refines side inbox.old log stage untaken
-        → may_send side log id ≡ true → sending log id piece.now ≡ actions.Send id piece.now ∷ [] → OnOk result (Refines side inbox.new (Sent (actions.Send id piece.now) ∷ log) stage (actions.Send id piece.now ∷ untaken)) }
+    ensures log { OfEachLog inbox.old (λ side log stage untaken. may_send side log id ≡ true → sending log id piece.now ≡ actions.Send id piece.now ∷ []
+        → OnOk result (Refines side inbox.new (Sent (actions.Send id piece.now) ∷ log) stage (actions.Send id piece.now ∷ untaken))) }
 {
     if inbox.may_send(id) {
         let _count = inbox.send(id, piece.as_slice())?;
@@ -41,8 +41,7 @@ fn send(inbox: &mut Inbox, id: StreamId, piece: &Piece) -> Result<(), OutOfMemor
 }
 
 fn finish(inbox: &mut Inbox, id: StreamId) -> Result<(), OutOfMemory>
-    ensures log { (side : Side) (log : Log) (stage : ℕ → Stage) (untaken : List Action) → Refines side inbox.old log stage untaken
-        → may_send side log id ≡ true → OnOk result (Refines side inbox.new (Sent (actions.Finish id) ∷ log) stage (actions.Finish id ∷ untaken)) }
+    ensures log { OfEachLog inbox.old (λ side log stage untaken. may_send side log id ≡ true → OnOk result (Refines side inbox.new (Sent (actions.Finish id) ∷ log) stage (actions.Finish id ∷ untaken))) }
 {
     if inbox.may_send(id) {
         inbox.finish(id)?;
@@ -52,10 +51,9 @@ fn finish(inbox: &mut Inbox, id: StreamId) -> Result<(), OutOfMemory>
 
 /// Resets a sending half, where there is one.
 pub fn reset(inbox: &mut Inbox, id: StreamId, code: VarInt) -> Result<(), OutOfMemory>
-    ensures log { (side : Side) (log : Log) (stage : ℕ → Stage) (untaken : List Action) → Refines side inbox.old log stage untaken
-        → is_open log ≡ true → can_send side log id ≡ true → OnOk result (Refines side inbox.new (Sent (actions.ResetOut id code) ∷ log) stage (actions.ResetOut id code ∷ untaken)) }
-    ensures unsent { (side : Side) (log : Log) (stage : ℕ → Stage) (untaken : List Action) → Refines side inbox.old log stage untaken
-        → is_open log ≡ false → can_send side log id ≡ true → OnOk result (Refines side inbox.new (Called (ResetUnsent id code) ∷ log) stage untaken) }
+    ensures log { OfEachLog inbox.old (λ side log stage untaken. is_open log ≡ true → can_send side log id ≡ true
+        → OnOk result (Refines side inbox.new (Sent (actions.ResetOut id code) ∷ log) stage (actions.ResetOut id code ∷ untaken))) }
+    ensures unsent { OfEachLog inbox.old (λ side log stage untaken. is_open log ≡ false → can_send side log id ≡ true → OnOk result (Refines side inbox.new (Called (ResetUnsent id code) ∷ log) stage untaken)) }
 {
     if inbox.can_send(id) {
         inbox.reset(id, code)?;
@@ -65,8 +63,8 @@ pub fn reset(inbox: &mut Inbox, id: StreamId, code: VarInt) -> Result<(), OutOfM
 
 /// Asks the peer to stop its half, where there is one.
 pub fn stop(inbox: &mut Inbox, id: StreamId, code: VarInt) -> Result<(), OutOfMemory>
-    ensures log { (side : Side) (log : Log) (stage : ℕ → Stage) (untaken : List Action) → Refines side inbox.old log stage untaken
-        → is_open log ≡ true → can_receive side log id ≡ true → OnOk result (Refines side inbox.new (Sent (actions.StopOut id code) ∷ log) stage (actions.StopOut id code ∷ untaken)) }
+    ensures log { OfEachLog inbox.old (λ side log stage untaken. is_open log ≡ true → can_receive side log id ≡ true
+        → OnOk result (Refines side inbox.new (Sent (actions.StopOut id code) ∷ log) stage (actions.StopOut id code ∷ untaken))) }
 {
     if inbox.can_receive(id) {
         inbox.stop(id, code)?;
@@ -75,8 +73,7 @@ pub fn stop(inbox: &mut Inbox, id: StreamId, code: VarInt) -> Result<(), OutOfMe
 }
 
 fn dial(inbox: &mut Inbox, address: Addr, name: Text) -> Result<(), OutOfMemory>
-    ensures log { (side : Side) (log : Log) (stage : ℕ → Stage) (untaken : List Action) → Refines side inbox.old log stage untaken
-        → is_open log ≡ true → OnOk result (Refines side inbox.new (Sent (actions.Dial address name) ∷ log) stage (actions.Dial address name ∷ untaken)) }
+    ensures log { OfEachLog inbox.old (λ side log stage untaken. is_open log ≡ true → OnOk result (Refines side inbox.new (Sent (actions.Dial address name) ∷ log) stage (actions.Dial address name ∷ untaken))) }
 {
     if inbox.is_open() {
         inbox.dial(address, name)?;
@@ -85,8 +82,7 @@ fn dial(inbox: &mut Inbox, address: Addr, name: Text) -> Result<(), OutOfMemory>
 }
 
 fn datagram_out(inbox: &mut Inbox, piece: Piece) -> Result<(), OutOfMemory>
-    ensures log { (side : Side) (log : Log) (stage : ℕ → Stage) (untaken : List Action) → Refines side inbox.old log stage untaken
-        → is_open log ≡ true → OnOk result (Refines side inbox.new (Sent (actions.DatagramOut piece) ∷ log) stage (actions.DatagramOut piece ∷ untaken)) }
+    ensures log { OfEachLog inbox.old (λ side log stage untaken. is_open log ≡ true → OnOk result (Refines side inbox.new (Sent (actions.DatagramOut piece) ∷ log) stage (actions.DatagramOut piece ∷ untaken))) }
 {
     if inbox.is_open() {
         inbox.datagram_out(piece)?;
@@ -96,16 +92,14 @@ fn datagram_out(inbox: &mut Inbox, piece: Piece) -> Result<(), OutOfMemory>
 
 /// Closes the connection, where it is open.
 pub fn close(inbox: &mut Inbox, code: VarInt, reason: Piece) -> Result<(), OutOfMemory>
-    ensures log { (side : Side) (log : Log) (stage : ℕ → Stage) (untaken : List Action) → Refines side inbox.old log stage untaken
-        → is_open log ≡ true → OnOk result (Refines side inbox.new (Sent (actions.Close code reason) ∷ log) stage (actions.Close code reason ∷ untaken)) }
+    ensures log { OfEachLog inbox.old (λ side log stage untaken. is_open log ≡ true → OnOk result (Refines side inbox.new (Sent (actions.Close code reason) ∷ log) stage (actions.Close code reason ∷ untaken))) }
 {
     inbox.close(code, reason)
 }
 
 /// An action of a call goes out.
 pub fn act(inbox: &mut Inbox, action: Action) -> Result<(), OutOfMemory>
-    ensures log { (side : Side) (log : Log) (stage : ℕ → Stage) (untaken : List Action) → Refines side inbox.old log stage untaken
-        → MayAct side log action → OnOk result (Refines side inbox.new (Sent action ∷ log) stage (action ∷ untaken)) }
+    ensures log { OfEachLog inbox.old (λ side log stage untaken. MayAct side log action → OnOk result (Refines side inbox.new (Sent action ∷ log) stage (action ∷ untaken))) }
 {
     match action {
         Action::Dial { address, name } => dial(inbox, address, name),

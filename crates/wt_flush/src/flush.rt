@@ -1,15 +1,14 @@
 //! What goes out at a moment.
-ghost use Rattle.std.specs.Prelude.{◌≡◌, ◌<◌, ◌+◌, ◌∷◌, [], None, Some, true, false, List, ℕ, OnOk, IfOk, drop, length, take, not};
+ghost use Rattle.std.specs.Prelude.{◌≡◌, ◌<◌, ◌+◌, ◌∷◌, [], None, Some, true, OnOk, drop, length, take, not};
 ghost use Rattle.wt_flush.specs.Flushing.{CanReset, CanStop, ControlRuns, Flushes, MayFlush, OpensControl, Sends, SendsControl};
-ghost use Rattle.wt_driver_spec.specs.AtOnce.{control_flushed};
-ghost use Rattle.wt_inbox.specs.Stage.{Refines, Stage};
+ghost use Rattle.wt_inbox.specs.OfLog.{OfEachLog};
+ghost use Rattle.wt_inbox.specs.Stage.{Refines};
 ghost use Rattle.wt_message.specs.FixedBytes.{local_control_bytes};
 ghost use Rattle.wt_seam_spec.specs.Joined.{send_of};
 ghost use Rattle.wt_seam_spec.specs.Streams.{can_receive, can_send, local_uni};
-ghost use Rattle.wt_spec.specs.Driver.{ControlSent, actions_after, close_actions, control_actions, control_sent, opened_if, reset_if, session_id, stop_actions, transport_view};
+ghost use Rattle.wt_spec.specs.Driver.{actions_after, close_actions, control_actions, control_sent, opened_if, reset_if, session_id, stop_actions, transport_view};
 ghost use Rattle.std.specs.Option.{option_copied};
-ghost use Rattle.wt_turn.specs.Log.{Log, Sent, is_open};
-ghost use Rattle.wt_turn.specs.declared.action.Action.{Action};
+ghost use Rattle.wt_turn.specs.Log.{Sent, is_open};
 ghost use Rattle.wt_turn.specs.declared.action.Action.TheVariants as actions;
 ghost use Rattle.wt_wire.specs.Codes.{code_of};
 ghost use Rattle.wt_wire.specs.declared.side.Side.{Side};
@@ -52,9 +51,8 @@ fn control_id(side: Side) -> StreamId
 
 /// Opens the control stream where it isn't.
 fn open_control(inbox: &mut Inbox, opened: &mut bool) -> Result<(), OutOfMemory>
-    ensures log { (side : Side) (log : Log) (stage : ℕ → Stage) (untaken : List Action) → Refines side inbox.old log stage untaken → is_open log ≡ true
-        → (control_sent side log).opened ≡ opened.old → (transport_view side log).may_open ≡ true
-        → OnOk result (OpensControl side log stage untaken (opened_if (not opened.old) (local_uni side)) inbox.new opened.new) }
+    ensures log { OfEachLog inbox.old (λ side log stage untaken. is_open log ≡ true → (control_sent side log).opened ≡ opened.old → (transport_view side log).may_open ≡ true
+        → OnOk result (OpensControl side log stage untaken (opened_if (not opened.old) (local_uni side)) inbox.new opened.new)) }
 {
     if !*opened {
         let _id = inbox.open_uni()?;
@@ -65,10 +63,8 @@ fn open_control(inbox: &mut Inbox, opened: &mut bool) -> Result<(), OutOfMemory>
 
 /// Sends the bytes of the control stream that are left, as far as credit goes.
 fn send_control(inbox: &mut Inbox, alloc: Global, sent: &mut usize) -> Result<(), OutOfMemory>
-    ensures log { (side : Side) (log : Log) (stage : ℕ → Stage) (untaken : List Action) → Refines side inbox.old log stage untaken → is_open log ≡ true
-        → control_sent side log ≡ record { opened = true; sent = sent.old } → ControlRuns side log → (transport_view side log).may_open ≡ true
-        → OnOk result (SendsControl side log stage untaken (send_of (local_uni side) (drop sent.old (take (transport_view side log).credit local_control_bytes))) inbox.new
-        sent.new (sent.old + length (drop sent.old (take (transport_view side log).credit local_control_bytes)))) }
+    ensures log { OfEachLog inbox.old (λ side log stage untaken. is_open log ≡ true → control_sent side log ≡ record { opened = true; sent = sent.old } → ControlRuns side log → (transport_view side log).may_open ≡ true
+        → OnOk result (SendsControl side log stage untaken (send_of (local_uni side) (drop sent.old (take (transport_view side log).credit local_control_bytes))) inbox.new sent.new (sent.old + length (drop sent.old (take (transport_view side log).credit local_control_bytes))))) }
 {
     let id = control_id(inbox.side());
     if !inbox.may_send(id) {
@@ -92,9 +88,8 @@ fn flush_control(
     opened: &mut bool,
     sent: &mut usize,
 ) -> Result<(), OutOfMemory>
-    ensures log { (side : Side) (log : Log) (stage : ℕ → Stage) (untaken : List Action) → Refines side inbox.old log stage untaken → is_open log ≡ true
-        → control_sent side log ≡ record { opened = opened.old; sent = sent.old } → ControlRuns side log
-        → OnOk result (Flushes side log stage untaken (control_actions (transport_view side log).may_open (local_uni side) (transport_view side log).credit (control_sent side log)) inbox.new (record { opened = opened.new; sent = sent.new })) }
+    ensures log { OfEachLog inbox.old (λ side log stage untaken. is_open log ≡ true → control_sent side log ≡ record { opened = opened.old; sent = sent.old } → ControlRuns side log
+        → OnOk result (Flushes side log stage untaken (control_actions (transport_view side log).may_open (local_uni side) (transport_view side log).credit (control_sent side log)) inbox.new (record { opened = opened.new; sent = sent.new }))) }
 {
     if inbox.may_open_uni() {
         open_control(inbox, opened)?;
@@ -106,16 +101,14 @@ fn flush_control(
 // ---- the stops
 
 fn stop_one(inbox: &mut Inbox, stopped: &Stopped) -> Result<(), OutOfMemory>
-    ensures log { (side : Side) (log : Log) (stage : ℕ → Stage) (untaken : List Action) → Refines side inbox.old log stage untaken → is_open log ≡ true
-        → can_receive side log stopped.now.id ≡ true
-        → OnOk result (Refines side inbox.new (Sent (actions.StopOut stopped.now.id (code_of stopped.now.code)) ∷ log) stage (actions.StopOut stopped.now.id (code_of stopped.now.code) ∷ untaken)) }
+    ensures log { OfEachLog inbox.old (λ side log stage untaken. is_open log ≡ true → can_receive side log stopped.now.id ≡ true
+        → OnOk result (Refines side inbox.new (Sent (actions.StopOut stopped.now.id (code_of stopped.now.code)) ∷ log) stage (actions.StopOut stopped.now.id (code_of stopped.now.code) ∷ untaken))) }
 {
     stop(inbox, stopped.id, stopped.code.to_code())
 }
 
 fn stop_all(inbox: &mut Inbox, stops: &[Stopped]) -> Result<(), OutOfMemory>
-    ensures log { (side : Side) (log : Log) (stage : ℕ → Stage) (untaken : List Action) → Refines side inbox.old log stage untaken → is_open log ≡ true
-        → CanStop side log stops.now → OnOk result (Sends side log stage untaken (stop_actions stops.now) inbox.new) }
+    ensures log { OfEachLog inbox.old (λ side log stage untaken. is_open log ≡ true → CanStop side log stops.now → OnOk result (Sends side log stage untaken (stop_actions stops.now) inbox.new)) }
 {
     let mut at = 0;
     while at < stops.len() {
@@ -138,8 +131,7 @@ fn session_id(session: Option<(StreamId, usize)>) -> StreamId
 
 /// Resets the session's stream, where a capsule closed the session.
 fn reset_if(inbox: &mut Inbox, by_capsule: bool, id: StreamId) -> Result<(), OutOfMemory>
-    ensures log { (side : Side) (log : Log) (stage : ℕ → Stage) (untaken : List Action) → Refines side inbox.old log stage untaken → is_open log ≡ true
-        → (by_capsule ≡ true → can_send side log id ≡ true) → OnOk result (Sends side log stage untaken (reset_if by_capsule id) inbox.new) }
+    ensures log { OfEachLog inbox.old (λ side log stage untaken. is_open log ≡ true → (by_capsule ≡ true → can_send side log id ≡ true) → OnOk result (Sends side log stage untaken (reset_if by_capsule id) inbox.new)) }
 {
     if by_capsule {
         reset(inbox, id, ErrorCode::NoError.to_code())?;
@@ -148,8 +140,7 @@ fn reset_if(inbox: &mut Inbox, by_capsule: bool, id: StreamId) -> Result<(), Out
 }
 
 fn close_with(inbox: &mut Inbox, alloc: Global, code: ErrorCode) -> Result<(), OutOfMemory>
-    ensures log { (side : Side) (log : Log) (stage : ℕ → Stage) (untaken : List Action) → Refines side inbox.old log stage untaken → is_open log ≡ true
-        → OnOk result (Sends side log stage untaken (actions.Close (code_of code) [] ∷ []) inbox.new) }
+    ensures log { OfEachLog inbox.old (λ side log stage untaken. is_open log ≡ true → OnOk result (Sends side log stage untaken (actions.Close (code_of code) [] ∷ []) inbox.new)) }
 {
     close(inbox, code.to_code(), Piece::new(alloc))
 }
@@ -161,8 +152,8 @@ fn flush_ending(
     session: Option<(StreamId, usize)>,
     ending: Option<&Ending>,
 ) -> Result<(), OutOfMemory>
-    ensures log { (side : Side) (log : Log) (stage : ℕ → Stage) (untaken : List Action) → Refines side inbox.old log stage untaken → is_open log ≡ true
-        → CanReset side log session (option_copied ending.entry) → OnOk result (Sends side log stage untaken (close_actions (session_id session) (option_copied ending.entry)) inbox.new) }
+    ensures log { OfEachLog inbox.old (λ side log stage untaken. is_open log ≡ true → CanReset side log session (option_copied ending.entry)
+        → OnOk result (Sends side log stage untaken (close_actions (session_id session) (option_copied ending.entry)) inbox.new)) }
 {
     let Some(ending) = ending else {
         return Ok(());
@@ -191,9 +182,8 @@ pub fn flush(
     session: Option<(StreamId, usize)>,
     progress: &Progress,
 ) -> Result<(), OutOfMemory>
-    ensures log { (side : Side) (log : Log) (stage : ℕ → Stage) (untaken : List Action) → Refines side inbox.old log stage untaken → is_open log ≡ true
-        → control_sent side log ≡ record { opened = opened.old; sent = sent.old } → MayFlush side log session progress.now
-        → OnOk result (Flushes side log stage untaken (actions_after (transport_view side log) (control_sent side log) session progress.now) inbox.new (record { opened = opened.new; sent = sent.new })) }
+    ensures log { OfEachLog inbox.old (λ side log stage untaken. is_open log ≡ true → control_sent side log ≡ record { opened = opened.old; sent = sent.old } → MayFlush side log session progress.now
+        → OnOk result (Flushes side log stage untaken (actions_after (transport_view side log) (control_sent side log) session progress.now) inbox.new (record { opened = opened.new; sent = sent.new }))) }
 {
     flush_control(inbox, alloc, opened, sent)?;
     stop_all(inbox, progress.stops())?;

@@ -7,6 +7,7 @@ ghost use Rattle.wt_dispatch.specs.Rules.{is_given_up};
 ghost use Rattle.wt_driver_spec.specs.Bounds.{AreDistinct, IsBounded};
 ghost use Rattle.wt_driver_spec.specs.DriverState.{Held};
 ghost use Rattle.wt_driver_spec.specs.Step.{Known, classify_slot, visit_slot, visited_as};
+ghost use Rattle.wt_inbox.specs.OfLog.{OfEachLog, Tells, TellsAt};
 ghost use Rattle.wt_inbox.specs.Stage.{Refines, Stage, stage_from, verdict_offset, with_stage};
 ghost use Rattle.wt_proto.specs.Uni.{is_final};
 ghost use Rattle.wt_seam_spec.specs.Streams.{can_receive};
@@ -38,8 +39,8 @@ fn slots_of(half: Half) -> usize
 
 /// Whether the verdict of a stream of this kind is final.
 fn has_verdict(inbox: &mut Inbox, half: Half, id: StreamId) -> Result<bool, OutOfMemory>
-    ensures answer { (side : Side) (log : Log) (stage : ℕ → Stage) (untaken : List Action) → Refines side inbox.old log stage untaken → awaits half (stage id) ≡ true → IfOk result (λ so. so ≡ is_final ((rule_of half (transport_view side log)).verdict id)) }
-    ensures log { (side : Side) (log : Log) (stage : ℕ → Stage) (untaken : List Action) → Refines side inbox.old log stage untaken → awaits half (stage id) ≡ true → OnOk result (Refines side inbox.new log (with_stage stage id (header_stage half)) untaken) }
+    ensures answer { TellsAt inbox.old (λ side log stage. awaits half (stage id) ≡ true → IfOk result (λ so. so ≡ is_final ((rule_of half (transport_view side log)).verdict id))) }
+    ensures log { OfEachLog inbox.old (λ side log stage untaken. awaits half (stage id) ≡ true → OnOk result (Refines side inbox.new log (with_stage stage id (header_stage half)) untaken)) }
 {
     match half {
         Half::Uni => inbox.has_uni_verdict(id),
@@ -49,8 +50,9 @@ fn has_verdict(inbox: &mut Inbox, half: Half, id: StreamId) -> Result<bool, OutO
 
 /// The verdict of a stream of this kind, whose reader is let go.
 fn release_header(inbox: &mut Inbox, half: Half, id: StreamId) -> Result<Verdict, OutOfMemory>
-    ensures answer { (side : Side) (log : Log) (stage : ℕ → Stage) (untaken : List Action) → Refines side inbox.old log stage untaken → awaits half (stage id) ≡ true → IfOk result (λ v. v ≡ (rule_of half (transport_view side log)).verdict id) }
-    ensures log { (side : Side) (log : Log) (stage : ℕ → Stage) (untaken : List Action) → Refines side inbox.old log stage untaken → awaits half (stage id) ≡ true → OnOk result (Refines side inbox.new log (with_stage stage id (stage_from (verdict_offset ((rule_of half (transport_view side log)).verdict id)))) untaken) }
+    ensures answer { TellsAt inbox.old (λ side log stage. awaits half (stage id) ≡ true → IfOk result (λ v. v ≡ (rule_of half (transport_view side log)).verdict id)) }
+    ensures log { OfEachLog inbox.old (λ side log stage untaken. awaits half (stage id) ≡ true
+        → OnOk result (Refines side inbox.new log (with_stage stage id (stage_from (verdict_offset ((rule_of half (transport_view side log)).verdict id)))) untaken)) }
 {
     match half {
         Half::Uni => inbox.release_uni(id),
@@ -139,7 +141,7 @@ fn look(
 
 /// Whether a stream may be dequeued behind so many occupied slots.
 fn may_dequeue(inbox: &Inbox, half: Half, occupied: usize) -> bool
-    ensures { (side : Side) (log : Log) (stage : ℕ → Stage) (untaken : List Action) → Refines side inbox.now log stage untaken → is_open log ≡ true → result ≡ (is_ready side log && nat_lt occupied (rule_of half (transport_view side log)).slots) }
+    ensures { Tells inbox.now (λ side log. is_open log ≡ true → result ≡ (is_ready side log && nat_lt occupied (rule_of half (transport_view side log)).slots)) }
 {
     let is_ready = inbox.is_ready();
     let is_free = occupied < slots_of(half);
@@ -155,11 +157,11 @@ fn visit(
     dispatched: &mut DispatchedStreams,
     progress: &mut Progress,
 ) -> Result<Option<Slot>, OutOfMemory>
-    ensures log { (side : Side) (log : Log) (stage : ℕ → Stage) (untaken : List Action) → Refines side inbox.old log stage untaken → is_open log ≡ true → AwaitsAt half slot.now.place (stage slot.now.id) → can_receive side log slot.now.id ≡ true
+    ensures log { OfEachLog inbox.old (λ side log stage untaken. is_open log ≡ true → AwaitsAt half slot.now.place (stage slot.now.id) → can_receive side log slot.now.id ≡ true
         → IfOk result (λ left. Leaves side log stage untaken slot.now.id
         (visit_stage (is_ready side log) half (rule_of half (transport_view side log)) slot.now.place slot.now.id occupied (known_by dispatched.old progress.old) (stage slot.now.id))
         (visit_slot (is_ready side log) (rule_of half (transport_view side log)) slot.now.place slot.now occupied (known_by dispatched.old progress.old))
-        occupied left inbox.new (known_by dispatched.new progress.new)) }
+        occupied left inbox.new (known_by dispatched.new progress.new))) }
 {
     let id = slot.id();
     match slot.place() {
@@ -195,10 +197,9 @@ pub fn scan(
     dispatched: &mut DispatchedStreams,
     progress: &mut Progress,
 ) -> Result<(), OutOfMemory>
-    ensures log { (side : Side) (log : Log) (stage : ℕ → Stage) (untaken : List Action) → Refines side inbox.old log stage untaken → is_open log ≡ true
-        → AllAwait half stage slots.old.items → SlotsReceive side log slots.old.items → AreDistinct slots.old.items → IsBounded (slots_of half) 0 slots.old.items
-        → OnOk result (Scans side log untaken (is_ready side log) half (rule_of half (transport_view side log)) stage slots.old.items slots.new.items
-        (known_by dispatched.old progress.old) (known_by dispatched.new progress.new) inbox.new) }
+    ensures log { OfEachLog inbox.old (λ side log stage untaken. is_open log ≡ true → AllAwait half stage slots.old.items → SlotsReceive side log slots.old.items → AreDistinct slots.old.items
+        → IsBounded (slots_of half) 0 slots.old.items
+        → OnOk result (Scans side log untaken (is_ready side log) half (rule_of half (transport_view side log)) stage slots.old.items slots.new.items (known_by dispatched.old progress.old) (known_by dispatched.new progress.new) inbox.new)) }
 {
     let most = slots_of(half);
     let mut at = 0;

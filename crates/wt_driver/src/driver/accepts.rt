@@ -101,7 +101,8 @@ impl Driver {
 
     /// A stream of another session is stopped and passed, and the work of that moment is done.
     fn pass_stream(&mut self, id: StreamId) -> Result<(), OutOfMemory>
-        ensures log { OfEachLog self.old (λ side log taken. MayAct side log (passing id) → MayBeCalled side (Sent (passing id) ∷ log) (StreamPassed id) → OnOk result (Follows side self.new (pass_stream side log id) taken)) }
+        ensures log { OfEachLog self.old (λ side log taken. MayAct side log (passing id) → MayBeCalled side (Sent (passing id) ∷ log) (StreamPassed id)
+            → OnOk result (Follows side self.new (pass_stream side log id) taken)) }
         ensures has_given { OnOk result (self.new.has_given_settings ≡ self.old.has_given_settings) }
     {
         let code = ErrorCode::BufferedStreamRejected.to_code();

@@ -11,6 +11,7 @@ ghost use Rattle.wt_driver_state.specs.Tie.{Follows, TakenIn};
 ghost use Rattle.wt_dispatch.specs.declared.slot.Half.TheVariants as halves;
 ghost use Rattle.wt_driver_spec.specs.Bounds.{AreDistinct, IsBounded};
 ghost use Rattle.wt_driver_spec.specs.Step.{begin_scan, run_checks, scan_bi_slots, scan_state, scan_uni_slots};
+ghost use Rattle.wt_inbox.specs.OfLog.{OfEachLog, Tells};
 ghost use Rattle.wt_inbox.specs.Stage.{Anywhere, ControlBody, Refines, SessionBody, Stage, control_offset, session_offset, with_stage};
 ghost use Rattle.wt_seam_spec.specs.Reports.{end_of, is_running};
 ghost use Rattle.wt_seam_spec.specs.Streams.{contents};
@@ -54,9 +55,9 @@ impl Driver {
     // ---- the scan of the slots
 
     fn scan_unis(&mut self) -> Result<(), OutOfMemory>
-        ensures log { (side : Side) (log : Log) (stage : ℕ → Stage) (untaken : List Action) → Refines side self.old.inbox log stage untaken → is_open log ≡ true
-            → AllAwait halves.Uni stage self.old.state.unis → SlotsReceive side log self.old.state.unis → AreDistinct self.old.state.unis → IsBounded 4 0 self.old.state.unis
-            → OnOk result (Moves side log untaken self.old self.new (uni_stages (transport_view side log) self.old.state stage) (scan_uni_slots (transport_view side log) self.old.state) self.old.settings) }
+        ensures log { OfEachLog self.old.inbox (λ side log stage untaken. is_open log ≡ true → AllAwait halves.Uni stage self.old.state.unis → SlotsReceive side log self.old.state.unis → AreDistinct self.old.state.unis
+            → IsBounded 4 0 self.old.state.unis
+            → OnOk result (Moves side log untaken self.old self.new (uni_stages (transport_view side log) self.old.state stage) (scan_uni_slots (transport_view side log) self.old.state) self.old.settings)) }
         ensures has_given { OnOk result (self.new.has_given_settings ≡ self.old.has_given_settings) }
     {
         scan(
@@ -69,9 +70,9 @@ impl Driver {
     }
 
     fn scan_bis(&mut self) -> Result<(), OutOfMemory>
-        ensures log { (side : Side) (log : Log) (stage : ℕ → Stage) (untaken : List Action) → Refines side self.old.inbox log stage untaken → is_open log ≡ true
-            → AllAwait halves.Bi stage self.old.state.bis → SlotsReceive side log self.old.state.bis → AreDistinct self.old.state.bis → IsBounded 1 0 self.old.state.bis
-            → OnOk result (Moves side log untaken self.old self.new (bi_stages (transport_view side log) self.old.state stage) (scan_bi_slots (transport_view side log) self.old.state) self.old.settings) }
+        ensures log { OfEachLog self.old.inbox (λ side log stage untaken. is_open log ≡ true → AllAwait halves.Bi stage self.old.state.bis → SlotsReceive side log self.old.state.bis → AreDistinct self.old.state.bis
+            → IsBounded 1 0 self.old.state.bis
+            → OnOk result (Moves side log untaken self.old self.new (bi_stages (transport_view side log) self.old.state stage) (scan_bi_slots (transport_view side log) self.old.state) self.old.settings)) }
         ensures has_given { OnOk result (self.new.has_given_settings ≡ self.old.has_given_settings) }
     {
         scan(
@@ -99,8 +100,7 @@ impl Driver {
 
     /// Whether a datagram may be dequeued.
     fn may_dequeue_datagram(&self) -> bool
-        ensures { (side : Side) (log : Log) (stage : ℕ → Stage) (untaken : List Action) → Refines side self.now.inbox log stage untaken → is_open log ≡ true
-            → result ≡ ((transport_view side log).ready && self.now.state.datagrams == self.now.state.progress.datagrams) }
+        ensures { Tells self.now.inbox (λ side log. is_open log ≡ true → result ≡ ((transport_view side log).ready && self.now.state.datagrams == self.now.state.progress.datagrams)) }
     {
         let is_ready = self.inbox.is_ready();
         let is_settled = self.settled == self.progress.datagrams();
@@ -109,8 +109,8 @@ impl Driver {
 
     /// One datagram is dequeued at a time.
     fn check_datagram(&mut self) -> Result<(), OutOfMemory>
-        ensures log { (side : Side) (log : Log) (stage : ℕ → Stage) (untaken : List Action) → Refines side self.old.inbox log stage untaken → is_open log ≡ true → HasDatagram side log self.old
-            → OnOk result (self.new ≡ with_state self.old (record self.old.state { progress = datagram_checked (transport_view side log) self.old.state.datagrams self.old.state.progress })) }
+        ensures log { Tells self.old.inbox (λ side log. is_open log ≡ true → HasDatagram side log self.old
+            → OnOk result (self.new ≡ with_state self.old (record self.old.state { progress = datagram_checked (transport_view side log) self.old.state.datagrams self.old.state.progress }))) }
         ensures has_given { OnOk result (self.new.has_given_settings ≡ self.old.has_given_settings) }
     {
         if self.progress.goes_on() {
@@ -163,9 +163,8 @@ impl Driver {
     }
 
     fn walk_session(&mut self, session: Option<(StreamId, usize)>) -> Result<(), OutOfMemory>
-        ensures log { (side : Side) (log : Log) (stage : ℕ → Stage) (untaken : List Action) → Refines side self.old.inbox log stage untaken → WalkFrom session_offset stage session
-            → OnOk result (Moves side log untaken self.old self.new (session_stages (transport_view side log) session stage)
-            (record self.old.state { progress = check_session (transport_view side log) session self.old.state.progress }) self.old.settings) }
+        ensures log { OfEachLog self.old.inbox (λ side log stage untaken. WalkFrom session_offset stage session
+            → OnOk result (Moves side log untaken self.old self.new (session_stages (transport_view side log) session stage) (record self.old.state { progress = check_session (transport_view side log) session self.old.state.progress }) self.old.settings)) }
         ensures has_given { OnOk result (self.new.has_given_settings ≡ self.old.has_given_settings) }
     {
         match session {
@@ -210,9 +209,9 @@ impl Driver {
 
     /// The peer's end of the session ends the connection.
     fn check_session(&mut self) -> Result<(), OutOfMemory>
-        ensures log { (side : Side) (log : Log) (stage : ℕ → Stage) (untaken : List Action) → Refines side self.old.inbox log stage untaken → (self.old.state.progress.ending ≡ None → WalkFrom session_offset stage self.old.state.session)
+        ensures log { OfEachLog self.old.inbox (λ side log stage untaken. (self.old.state.progress.ending ≡ None → WalkFrom session_offset stage self.old.state.session)
             → OnOk result (Moves side log untaken self.old self.new (unless_ended_stage self.old.state.progress.ending (session_stages (transport_view side log) self.old.state.session stage) stage)
-            (record self.old.state { progress = unless_ended self.old.state.progress.ending (check_session (transport_view side log) self.old.state.session) self.old.state.progress }) self.old.settings) }
+            (record self.old.state { progress = unless_ended self.old.state.progress.ending (check_session (transport_view side log) self.old.state.session) self.old.state.progress }) self.old.settings)) }
         ensures has_given { OnOk result (self.new.has_given_settings ≡ self.old.has_given_settings) }
     {
         let session = self.session();
@@ -225,8 +224,7 @@ impl Driver {
 
     /// This end's control stream must not be stopped.
     fn check_local_control(&mut self)
-        ensures log { (side : Side) (log : Log) (stage : ℕ → Stage) (untaken : List Action) → Refines side self.old.inbox log stage untaken
-            → self.new ≡ with_state self.old (record self.old.state { progress = unless_ended self.old.state.progress.ending (critical_if (transport_view side log).control_stopped) self.old.state.progress }) }
+        ensures log { Tells self.old.inbox (λ side log. self.new ≡ with_state self.old (record self.old.state { progress = unless_ended self.old.state.progress.ending (critical_if (transport_view side log).control_stopped) self.old.state.progress })) }
         ensures has_given { self.new.has_given_settings ≡ self.old.has_given_settings }
     {
         let is_stopped = self.inbox.control_stopped();
@@ -263,10 +261,9 @@ impl Driver {
     }
 
     fn walk_control(&mut self, control: Option<(StreamId, usize)>) -> Result<(), OutOfMemory>
-        ensures log { (side : Side) (log : Log) (stage : ℕ → Stage) (untaken : List Action) → Refines side self.old.inbox log stage untaken → WalkFrom control_offset stage control
+        ensures log { OfEachLog self.old.inbox (λ side log stage untaken. WalkFrom control_offset stage control
             → OnOk result (Moves side log untaken self.old self.new (control_stages control stage)
-            (record self.old.state { progress = check_control (transport_view side log) control self.old.state.progress })
-            (option_or (settings_read (transport_view side log) control) self.old.settings)) }
+            (record self.old.state { progress = check_control (transport_view side log) control self.old.state.progress }) (option_or (settings_read (transport_view side log) control) self.old.settings))) }
         ensures has_given { OnOk result (self.new.has_given_settings ≡ self.old.has_given_settings) }
     {
         match control {
@@ -280,10 +277,9 @@ impl Driver {
 
     /// The peer's control stream behind its type.
     fn check_control(&mut self) -> Result<(), OutOfMemory>
-        ensures log { (side : Side) (log : Log) (stage : ℕ → Stage) (untaken : List Action) → Refines side self.old.inbox log stage untaken → WalkFrom control_offset stage self.old.state.dispatched.control
+        ensures log { OfEachLog self.old.inbox (λ side log stage untaken. WalkFrom control_offset stage self.old.state.dispatched.control
             → OnOk result (Moves side log untaken self.old self.new (unless_ended_stage self.old.state.progress.ending (control_stages self.old.state.dispatched.control stage) stage)
-            (record self.old.state { progress = unless_ended self.old.state.progress.ending (check_control (transport_view side log) self.old.state.dispatched.control) self.old.state.progress })
-            (settings_noted (transport_view side log) self.old.state self.old.settings)) }
+            (record self.old.state { progress = unless_ended self.old.state.progress.ending (check_control (transport_view side log) self.old.state.dispatched.control) self.old.state.progress }) (settings_noted (transport_view side log) self.old.state self.old.settings))) }
         ensures has_given { OnOk result (self.new.has_given_settings ≡ self.old.has_given_settings) }
     {
         let control = self.control();
@@ -295,8 +291,7 @@ impl Driver {
     }
 
     fn check_end(&mut self, id: StreamId)
-        ensures log { (side : Side) (log : Log) (stage : ℕ → Stage) (untaken : List Action) → Refines side self.old.inbox log stage untaken
-            → self.new ≡ with_state self.old (record self.old.state { progress = unless_ended self.old.state.progress.ending (critical_if (not (is_running ((transport_view side log).end id)))) self.old.state.progress }) }
+        ensures log { Tells self.old.inbox (λ side log. self.new ≡ with_state self.old (record self.old.state { progress = unless_ended self.old.state.progress.ending (critical_if (not (is_running ((transport_view side log).end id)))) self.old.state.progress })) }
         ensures has_given { self.new.has_given_settings ≡ self.old.has_given_settings }
     {
         let is_ended = !is_running(self.inbox.end(id));
@@ -305,8 +300,7 @@ impl Driver {
 
     /// A QPACK stream of the peer's must not end.
     fn check_qpack(&mut self, stream: Option<(StreamId, usize)>)
-        ensures log { (side : Side) (log : Log) (stage : ℕ → Stage) (untaken : List Action) → Refines side self.old.inbox log stage untaken
-            → self.new ≡ with_state self.old (record self.old.state { progress = unless_ended self.old.state.progress.ending (check_qpack (transport_view side log) stream) self.old.state.progress }) }
+        ensures log { Tells self.old.inbox (λ side log. self.new ≡ with_state self.old (record self.old.state { progress = unless_ended self.old.state.progress.ending (check_qpack (transport_view side log) stream) self.old.state.progress })) }
         ensures has_given { self.new.has_given_settings ≡ self.old.has_given_settings }
     {
         match stream {
@@ -319,8 +313,7 @@ impl Driver {
     }
 
     fn check_encoder(&mut self)
-        ensures log { (side : Side) (log : Log) (stage : ℕ → Stage) (untaken : List Action) → Refines side self.old.inbox log stage untaken
-            → self.new ≡ with_state self.old (record self.old.state { progress = unless_ended self.old.state.progress.ending (check_qpack (transport_view side log) self.old.state.dispatched.encoder) self.old.state.progress }) }
+        ensures log { Tells self.old.inbox (λ side log. self.new ≡ with_state self.old (record self.old.state { progress = unless_ended self.old.state.progress.ending (check_qpack (transport_view side log) self.old.state.dispatched.encoder) self.old.state.progress })) }
         ensures has_given { self.new.has_given_settings ≡ self.old.has_given_settings }
     {
         let encoder = self.encoder();
@@ -328,8 +321,7 @@ impl Driver {
     }
 
     fn check_decoder(&mut self)
-        ensures log { (side : Side) (log : Log) (stage : ℕ → Stage) (untaken : List Action) → Refines side self.old.inbox log stage untaken
-            → self.new ≡ with_state self.old (record self.old.state { progress = unless_ended self.old.state.progress.ending (check_qpack (transport_view side log) self.old.state.dispatched.decoder) self.old.state.progress }) }
+        ensures log { Tells self.old.inbox (λ side log. self.new ≡ with_state self.old (record self.old.state { progress = unless_ended self.old.state.progress.ending (check_qpack (transport_view side log) self.old.state.dispatched.decoder) self.old.state.progress })) }
         ensures has_given { self.new.has_given_settings ≡ self.old.has_given_settings }
     {
         let decoder = self.decoder();
@@ -338,10 +330,8 @@ impl Driver {
 
     /// The checks in their order, up to the first that ends the connection.
     fn run_checks(&mut self) -> Result<(), OutOfMemory>
-        ensures log { (side : Side) (log : Log) (stage : ℕ → Stage) (untaken : List Action) → Refines side self.old.inbox log stage untaken → is_open log ≡ true → HasDatagram side log self.old
-            → MayCheck (transport_view side log) self.old.state stage
-            → OnOk result (Moves side log untaken self.old self.new (check_stages (transport_view side log) self.old.state stage) (run_checks (transport_view side log) self.old.state)
-            (settings_checked (transport_view side log) self.old.state self.old.settings)) }
+        ensures log { OfEachLog self.old.inbox (λ side log stage untaken. is_open log ≡ true → HasDatagram side log self.old → MayCheck (transport_view side log) self.old.state stage
+            → OnOk result (Moves side log untaken self.old self.new (check_stages (transport_view side log) self.old.state stage) (run_checks (transport_view side log) self.old.state) (settings_checked (transport_view side log) self.old.state self.old.settings))) }
         ensures has_given { OnOk result (self.new.has_given_settings ≡ self.old.has_given_settings) }
     {
         self.check_datagram()?;
@@ -361,10 +351,8 @@ impl Driver {
 
     /// The whole scan of a moment.
     fn scan(&mut self) -> Result<(), OutOfMemory>
-        ensures log { (side : Side) (log : Log) (stage : ℕ → Stage) (untaken : List Action) → Refines side self.old.inbox log stage untaken → is_open log ≡ true → HasDatagram side log self.old
-            → MayScan (transport_view side log) self.old.state stage → CanGiveUp side log self.old.state
-            → OnOk result (Moves side log untaken self.old self.new (scanned_stages (transport_view side log) self.old.state stage) (scan_state (transport_view side log) self.old.state)
-            (settings_scanned (transport_view side log) self.old.state self.old.settings)) }
+        ensures log { OfEachLog self.old.inbox (λ side log stage untaken. is_open log ≡ true → HasDatagram side log self.old → MayScan (transport_view side log) self.old.state stage → CanGiveUp side log self.old.state
+            → OnOk result (Moves side log untaken self.old self.new (scanned_stages (transport_view side log) self.old.state stage) (scan_state (transport_view side log) self.old.state) (settings_scanned (transport_view side log) self.old.state self.old.settings))) }
         ensures has_given { OnOk result (self.new.has_given_settings ≡ self.old.has_given_settings) }
     {
         self.begin_scan();
@@ -402,9 +390,8 @@ impl Driver {
 impl Driver {
     /// What goes out after a moment, in its order.
     pub(super) fn flush(&mut self) -> Result<(), OutOfMemory>
-        ensures log { (side : Side) (log : Log) (stage : ℕ → Stage) (untaken : List Action) → Refines side self.old.inbox log stage untaken → is_open log ≡ true
-            → control_sent side log ≡ self.old.state.control_sent → MayFlush side log self.old.state.session self.old.state.progress
-            → OnOk result (Flushes side log stage untaken (actions_after (transport_view side log) (control_sent side log) self.old.state.session self.old.state.progress) self.new.inbox self.new.state.control_sent) }
+        ensures log { OfEachLog self.old.inbox (λ side log stage untaken. is_open log ≡ true → control_sent side log ≡ self.old.state.control_sent → MayFlush side log self.old.state.session self.old.state.progress
+            → OnOk result (Flushes side log stage untaken (actions_after (transport_view side log) (control_sent side log) self.old.state.session self.old.state.progress) self.new.inbox self.new.state.control_sent)) }
         ensures rest { OnOk result (self.new.state ≡ record self.old.state { control_sent = self.new.state.control_sent; is_open = self.new.state.is_open }) }
         ensures queue { OnOk result (self.new.queue ≡ self.old.queue) }
         ensures settings { OnOk result (self.new.settings ≡ self.old.settings) }

@@ -93,7 +93,8 @@ impl Driver {
 
     /// Registers a session where none was registered.
     fn register(&mut self, id: StreamId, at: usize) -> Result<(), OutOfMemory>
-        ensures log { OfEachLog self.old (λ side log taken. is_open log ≡ true → (may_register log ≡ true → MayBeCalled side log (SessionEstablished id at)) → OnOk result (Follows side self.new (registered side log id at) taken)) }
+        ensures log { OfEachLog self.old (λ side log taken. is_open log ≡ true → (may_register log ≡ true → MayBeCalled side log (SessionEstablished id at))
+            → OnOk result (Follows side self.new (registered side log id at) taken)) }
         ensures further { OnOk result (is_some self.old.state.session ≡ true → self.new ≡ self.old) }
         ensures has_given { OnOk result (self.new.has_given_settings ≡ self.old.has_given_settings) }
     {

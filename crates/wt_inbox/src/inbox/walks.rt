@@ -59,7 +59,8 @@ impl Inbox {
         ensures gone { OnOk result (is_kept self.new.unis id ≡ false) }
         ensures readers { OnOk result (readers_now self.new ≡ (if is_kept self.old.unis id then readers_now self.old - 1 else readers_now self.old)) }
         ensures log_answer { TellsAt self.old (λ side log stage. awaits_uni (stage id) ≡ true → IfOk result (λ outcome. outcome ≡ uni_verdict_of (contents log id) (end_of (events_of log) id))) }
-        ensures log { OfEachLog self.old (λ side log stage untaken. awaits_uni (stage id) ≡ true → OnOk result (Refines side self.new log (with_stage stage id (stage_from (verdict_offset (uni_verdict_of (contents log id) (end_of (events_of log) id))))) untaken)) }
+        ensures log { OfEachLog self.old (λ side log stage untaken. awaits_uni (stage id) ≡ true
+            → OnOk result (Refines side self.new log (with_stage stage id (stage_from (verdict_offset (uni_verdict_of (contents log id) (end_of (events_of log) id))))) untaken)) }
     {
         self.pull_uni(id)?;
         Ok(self.take_uni(id))
@@ -92,7 +93,8 @@ impl Inbox {
         ensures gone { OnOk result (is_kept self.new.bis id ≡ false) }
         ensures readers { OnOk result (readers_now self.new ≡ (if is_kept self.old.bis id then readers_now self.old - 1 else readers_now self.old)) }
         ensures log_answer { TellsAt self.old (λ side log stage. awaits_bi (stage id) ≡ true → IfOk result (λ outcome. outcome ≡ bi_verdict_of (contents log id) (end_of (events_of log) id))) }
-        ensures log { OfEachLog self.old (λ side log stage untaken. awaits_bi (stage id) ≡ true → OnOk result (Refines side self.new log (with_stage stage id (stage_from (verdict_offset (bi_verdict_of (contents log id) (end_of (events_of log) id))))) untaken)) }
+        ensures log { OfEachLog self.old (λ side log stage untaken. awaits_bi (stage id) ≡ true
+            → OnOk result (Refines side self.new log (with_stage stage id (stage_from (verdict_offset (bi_verdict_of (contents log id) (end_of (events_of log) id))))) untaken)) }
     {
         self.pull_bi(id)?;
         Ok(self.take_bi(id))
@@ -142,7 +144,8 @@ impl Inbox {
         ensures gone { OnOk result (is_kept self.new.responses id ≡ false) }
         ensures readers { OnOk result (readers_now self.new ≡ (if is_kept self.old.responses id then readers_now self.old - 1 else readers_now self.old)) }
         ensures log_answer { TellsAt self.old (λ side log stage. awaits_response (stage id) ≡ true → IfOk result (λ outcome. outcome ≡ response_walk_of (contents log id) (end_of (events_of log) id))) }
-        ensures log { OfEachLog self.old (λ side log stage untaken. awaits_response (stage id) ≡ true → OnOk result (Refines side self.new log (with_stage stage id (stage_from (response_offset (response_walk_of (contents log id) (end_of (events_of log) id))))) untaken)) }
+        ensures log { OfEachLog self.old (λ side log stage untaken. awaits_response (stage id) ≡ true
+            → OnOk result (Refines side self.new log (with_stage stage id (stage_from (response_offset (response_walk_of (contents log id) (end_of (events_of log) id))))) untaken)) }
     {
         self.pull_response(id)?;
         Ok(self.take_response(id))
@@ -178,7 +181,8 @@ impl Inbox {
         ensures read { OnOk result (is_over_by_bytes self.old id ≡ false → unread_now self.new.transport id ≡ []) }
         ensures kept { OnOk result (is_kept self.new.sessions id ≡ true) }
         ensures readers { OnOk result (readers_now self.new ≡ (if is_kept self.old.sessions id then readers_now self.old else readers_now self.old + 1)) }
-        ensures log_answer { TellsAt self.old (λ side log stage. (at : ℕ) → session_offset (stage id) ≡ Some at → IfOk result (λ so. so ≡ is_over (session_walk_of (drop at (contents log id)) (end_of (events_of log) id)))) }
+        ensures log_answer { TellsAt self.old (λ side log stage. (at : ℕ) → session_offset (stage id) ≡ Some at
+            → IfOk result (λ so. so ≡ is_over (session_walk_of (drop at (contents log id)) (end_of (events_of log) id)))) }
         ensures log { OfEachLog self.old (λ side log stage untaken. (at : ℕ) → session_offset (stage id) ≡ Some at → OnOk result (Refines side self.new log (with_stage stage id (Stage.SessionBody at)) untaken)) }
     {
         self.pull_session(id)?;
@@ -192,7 +196,8 @@ impl Inbox {
         ensures quiet { OnOk result (quiet self.new.transport ≡ quiet self.old.transport) }
         ensures gone { OnOk result (is_kept self.new.sessions id ≡ false) }
         ensures readers { OnOk result (readers_now self.new ≡ (if is_kept self.old.sessions id then readers_now self.old - 1 else readers_now self.old)) }
-        ensures log_answer { TellsAt self.old (λ side log stage. (at : ℕ) → session_offset (stage id) ≡ Some at → IfOk result (λ end. (end.0 ≡ session_walk_of (drop at (contents log id)) (end_of (events_of log) id)) × (end.1 ≡ is_over (session_walk_of (drop at (contents log id)) Running)))) }
+        ensures log_answer { TellsAt self.old (λ side log stage. (at : ℕ) → session_offset (stage id) ≡ Some at
+            → IfOk result (λ end. (end.0 ≡ session_walk_of (drop at (contents log id)) (end_of (events_of log) id)) × (end.1 ≡ is_over (session_walk_of (drop at (contents log id)) Running)))) }
         ensures log { OfEachLog self.old (λ side log stage untaken. (at : ℕ) → session_offset (stage id) ≡ Some at → OnOk result (Refines side self.new log (with_stage stage id Stage.Anywhere) untaken)) }
     {
         let by_bytes = self.pull_session(id)?;
