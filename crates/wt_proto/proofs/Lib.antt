@@ -1,5 +1,6 @@
 pub mod WalkLaws
 pub mod FrameLaws
+pub mod TypedHeaders
 pub mod UniLaws
 pub mod HeaderAgain
 pub mod ControlLaws
