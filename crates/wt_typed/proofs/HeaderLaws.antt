@@ -1,5 +1,5 @@
 -- The header of a unidirectional stream is read from its own bytes, and stays under more.
-use Rattle.std.proofs.Common.{◌≡◌, ℕ, ◌==◌, refl}
+use Rattle.std.proofs.Common.{ℕ, ◌==◌, refl}
 use Rattle.wt_wire.specs.Frames.{is_exercise}
 use Rattle.wt_proto.specs.Steady.{IsSteady}
 use Rattle.wt_proto.proofs.FrameLaws.{IsEffect, IsReader, items-steady}

@@ -1,5 +1,6 @@
 pub mod Writing
 pub mod Reading
+pub mod Reads
 pub mod UniHeader
 pub mod NextFrame
 pub mod Accepting

@@ -3,11 +3,8 @@ use Rattle.std.specs.Prelude.{ℕ, List, [], Option, Some, None, Result, Ok, Err
 use Rattle.wt_turn.specs.declared.poll.Poll.{Poll}
 use Rattle.wt_turn.specs.declared.poll.Poll.TheVariants as polls
 use Rattle.wt_error.specs.declared.stream_error.AlreadyStop.{AlreadyStop}
-use Rattle.wt_error.specs.declared.proto_error.ProtoReadError.{ProtoReadError}
-use Rattle.wt_wire.specs.declared.side.StreamEnd.{StreamEnd}
 use Rattle.wt_wire.specs.declared.frame.FrameKind.TheVariants as kinds
-use Rattle.wt_wire.specs.FrameBytes.{FrameParts, frame_bytes}
-use Rattle.wt_proto.specs.Walk.{walked}
+use Rattle.wt_wire.specs.FrameBytes.{frame_bytes}
 use Rattle.wt_seam.specs.declared.halves.QuicSendStream.{QuicSendStream}
 use Rattle.wt_seam.specs.declared.halves.QuicRecvStream.{QuicRecvStream}
 use Rattle.wt_seam.specs.State.{TransportState}
@@ -17,8 +14,6 @@ use Rattle.wt_typed.specs.declared.next_frame.FrameSource.{FrameSource}
 use Rattle.wt_typed.specs.declared.next_frame.FrameSource.TheVariants as sources
 use Rattle.wt_typed.specs.declared.uni_header.UniHeader.{UniHeader}
 use Rattle.wt_typed.specs.declared.uni_header.UniHeader.TheVariants as headers
-use Rattle.wt_typed.specs.NextFrame.{frame_decides}
-use Rattle.wt_typed.specs.Reading.{read_answer}
 
 -- a stream: its halves, and what is known of it
 pub record Typed (S P : Type 0) : Type 0 where
@@ -62,10 +57,6 @@ is_through polls.Pending = false
 abbrev pub ready_at_all : {A : Type 0} → Poll A → Poll (Unit {0})
 ready_at_all (polls.Ready a) = polls.Ready tt
 ready_at_all polls.Pending = polls.Pending
-
--- what is answered of the next frame of such a stream, whose bytes these are since the last one
-abbrev pub frame_answer : FrameSource → Bool → StreamEnd → List ℕ → Poll (Result FrameParts ProtoReadError)
-frame_answer source open_ end bytes = read_answer open_ end (walked frame_decides source bytes)
 
 -- the signal of a stream of this session (draft-ietf-webtrans-http3, section 4.3)
 abbrev pub signal_bytes : ℕ → List ℕ

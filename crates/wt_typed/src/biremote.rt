@@ -1,12 +1,12 @@
 //! Bidirectional streams that the peer opened.
-ghost use Rattle.std.specs.Prelude.{◌≡◌, ◌++◌, ◌%◌, IfOk, IfSome, IsTrue, List, OnErr, OnOk, false, true, ℕ};
-ghost use Rattle.wt_proto.specs.Progress.{at_item, fed, reached};
-ghost use Rattle.wt_seam.specs.Step.{can_receive_now, end_now, unread_now};
+ghost use Rattle.std.specs.Prelude.{◌≡◌, ◌%◌, IfOk, IfSome, IsTrue, OnErr, OnOk, false, true};
+ghost use Rattle.wt_proto.specs.Progress.{at_item};
+ghost use Rattle.wt_seam.specs.Step.{can_receive_now};
 ghost use Rattle.wt_typed.specs.declared.next_frame.FrameSource.TheVariants as sources;
 ghost use Rattle.wt_typed.specs.Accepting.{accepted_bi, next_bi};
 ghost use Rattle.wt_typed.specs.NextFrame.{frame_decides, session_reading};
-ghost use Rattle.wt_typed.specs.Reading.{HasBegun, Took, TookFirst, after_read, read_answer, since_item};
-ghost use Rattle.wt_typed.specs.Typed.{after_stop_once, both, frame_answer, has_both, in_stage, stop_answer};
+ghost use Rattle.wt_typed.specs.Reads.{FailedReadTakes, ReadAnswers, ReadAnswersSince, ReadLeaves, ReadLeavesBegun, ReadTakes};
+ghost use Rattle.wt_typed.specs.Typed.{after_stop_once, both, has_both, in_stage, stop_answer};
 ghost use Rattle.wt_typed.specs.Writing.{nothing_begun};
 
 use crate::accepted::Accepted;
@@ -78,13 +78,13 @@ impl Stream<Pair, BiRemoteH3> {
         t: &mut Transport,
     ) -> Result<Poll<Result<Frame, ProtoReadError>>, OutOfMemory>
         requires { IsTrue (can_receive_now t.old self.old.halves.0.id) }
-        ensures answer { IfOk result (λ a. a ≡ read_answer t.old.is_open (end_now t.old self.old.halves.0.id) (reached (fed frame_decides self.old.stage.frames (unread_now t.old self.old.halves.0.id)))) }
-        ensures frame { (bytes : List ℕ) → HasBegun frame_decides sources.Request self.old.stage.frames bytes → IfOk result (λ a. a ≡ frame_answer sources.Request t.old.is_open (end_now t.old self.old.halves.0.id) (bytes ++ unread_now t.old self.old.halves.0.id)) }
-        ensures begun { (bytes : List ℕ) → HasBegun frame_decides sources.Request self.old.stage.frames bytes → IfOk result (λ a. HasBegun frame_decides sources.Request self.new.stage.frames (since_item a (bytes ++ unread_now t.old self.old.halves.0.id))) }
-        ensures left { OnOk result (self.new ≡ record self.old { stage = record self.old.stage { frames = after_read (fed frame_decides self.old.stage.frames (unread_now t.old self.old.halves.0.id)) } }) }
-        ensures took { OnOk result ((n : ℕ) × Took frame_decides self.old.stage.frames (fed frame_decides self.old.stage.frames (unread_now t.old self.old.halves.0.id)) t.old t.new self.old.halves.0.id n) }
+        ensures answer { ReadAnswers frame_decides self.old.stage.frames t.old self.old.halves.0.id result }
+        ensures frame { ReadAnswersSince frame_decides sources.Request self.old.stage.frames t.old self.old.halves.0.id result }
+        ensures begun { ReadLeavesBegun frame_decides sources.Request self.old.stage.frames self.new.stage.frames t.old self.old.halves.0.id result }
+        ensures left { ReadLeaves frame_decides self.old.stage.frames self.new.stage.frames t.old self.old.halves.0.id result }
+        ensures took { ReadTakes frame_decides self.old.stage.frames t.old t.new self.old.halves.0.id result }
         ensures others { self.new ≡ record self.old { stage = record self.old.stage { frames = self.new.stage.frames } } }
-        ensures err { OnErr result ((n : ℕ) × TookFirst frame_decides self.old.stage.frames self.new.stage.frames t.old t.new self.old.halves.0.id n) }
+        ensures err { FailedReadTakes frame_decides self.old.stage.frames self.new.stage.frames t.old t.new self.old.halves.0.id result }
     {
         self.stage.frames.poll(t, self.halves.0.id)
     }

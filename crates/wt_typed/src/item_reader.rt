@@ -1,13 +1,13 @@
 //! Items that are read from a stream, each up to its last byte.
-ghost use Rattle.std.specs.Prelude.{◌≡◌, ◌<◌, ◌≤◌, ◌&&◌, ◌==◌, ℕ, [], ◌∷◌, ◌++◌, List, Option, length, take, IfOk, IsTrue, OnErr, OnOk, is_some, false, true};
+ghost use Rattle.std.specs.Prelude.{◌≡◌, ◌<◌, ◌≤◌, ◌&&◌, ◌==◌, ℕ, [], ◌∷◌, List, Option, length, take, IfOk, IsTrue, OnErr, OnOk, is_some, false, true};
 ghost use Rattle.std.specs.Prelude.{Result};
 ghost use Rattle.wt_wire.specs.declared.error.ErrorCode.{ErrorCode};
 ghost use Rattle.wt_proto.specs.declared.walk.Step.{Step};
-ghost use Rattle.wt_proto.specs.Progress.{Advances, at_item, fed, progress_over, reached};
+ghost use Rattle.wt_proto.specs.Progress.{Advances, at_item, progress_over, reached};
 ghost use Rattle.wt_proto.specs.Steady.{IsSteady};
-ghost use Rattle.wt_proto.specs.Walk.{walked};
-ghost use Rattle.wt_seam.specs.Step.{can_receive_now, end_now, unread_now};
-ghost use Rattle.wt_typed.specs.Reading.{HasBegun, Took, TookFirst, after_read, ended, is_over, read_answer};
+ghost use Rattle.wt_seam.specs.Step.{can_receive_now, unread_now};
+ghost use Rattle.wt_typed.specs.Reading.{Took, after_read, ended, is_over, read_answer};
+ghost use Rattle.wt_typed.specs.Reads.{FailedReadTakes, ReadAnswers, ReadAnswersSince, ReadLeaves, ReadTakes};
 
 use std::alloc::Global;
 use std::marker::Model;
@@ -154,7 +154,7 @@ impl<G: Grammar> ItemReader<G> {
     fn take_unread(&mut self, t: &mut Transport, id: StreamId) -> Result<u64, OutOfMemory>
         requires { IsTrue (can_receive_now t.old id) }
         ensures took { IfOk result (λ n. Took G.decides self.old self.new t.old t.new id n) }
-        ensures err { OnErr result ((n : ℕ) × TookFirst G.decides self.old self.new t.old t.new id n) }
+        ensures err { FailedReadTakes G.decides self.old self.new t.old t.new id result }
     {
         let _ = &self.state;
         let unread = t.unread(id);
@@ -205,11 +205,11 @@ impl<G: Grammar> ItemReader<G> {
         id: StreamId,
     ) -> Result<Poll<Result<G::Given, ProtoReadError>>, OutOfMemory>
         requires { IsTrue (can_receive_now t.old id) }
-        ensures answer { IfOk result (λ a. a ≡ read_answer t.old.is_open (end_now t.old id) (reached (fed G.decides self.old (unread_now t.old id)))) }
-        ensures begun { (state : G.State) (bytes : List ℕ) → HasBegun G.decides state self.old bytes → IfOk result (λ a. a ≡ read_answer t.old.is_open (end_now t.old id) (walked G.decides state (bytes ++ unread_now t.old id))) }
-        ensures left { OnOk result (self.new ≡ after_read (fed G.decides self.old (unread_now t.old id))) }
-        ensures took { OnOk result ((n : ℕ) × Took G.decides self.old (fed G.decides self.old (unread_now t.old id)) t.old t.new id n) }
-        ensures err { OnErr result ((n : ℕ) × TookFirst G.decides self.old self.new t.old t.new id n) }
+        ensures answer { ReadAnswers G.decides self.old t.old id result }
+        ensures begun { (state : G.State) → ReadAnswersSince G.decides state self.old t.old id result }
+        ensures left { ReadLeaves G.decides self.old self.new t.old id result }
+        ensures took { ReadTakes G.decides self.old t.old t.new id result }
+        ensures err { FailedReadTakes G.decides self.old self.new t.old t.new id result }
     {
         let _ = &self.state;
         let is_open = t.is_open();

@@ -1,14 +1,13 @@
 //! The stream of a session.
-ghost use Rattle.std.specs.Prelude.{◌≡◌, ◌↔◌, ◌++◌, IfOk, IsTrue, List, OnErr, OnOk, true, ℕ};
-ghost use Rattle.wt_proto.specs.Progress.{fed, reached};
+ghost use Rattle.std.specs.Prelude.{◌≡◌, ◌↔◌, IfOk, IsTrue, OnErr, OnOk, true};
 ghost use Rattle.wt_wire.specs.FrameBytes.{frame_bytes};
 ghost use Rattle.wt_streams.specs.HalfRules.{finish_answer, reset_answer};
 ghost use Rattle.wt_seam.specs.Rules.{after_finishing, after_reset_unless_closed, after_write, sending_half_now};
-ghost use Rattle.wt_seam.specs.Step.{can_receive_now, can_send_now, end_now, unread_now};
+ghost use Rattle.wt_seam.specs.Step.{can_receive_now, can_send_now};
 ghost use Rattle.wt_typed.specs.declared.next_frame.FrameSource.TheVariants as sources;
 ghost use Rattle.wt_typed.specs.NextFrame.{frame_decides};
-ghost use Rattle.wt_typed.specs.Reading.{HasBegun, Took, TookFirst, after_read, read_answer, since_item};
-ghost use Rattle.wt_typed.specs.Typed.{after_stop_once, can_write_now, frame_answer, ready_at_all, stop_answer};
+ghost use Rattle.wt_typed.specs.Reads.{FailedReadTakes, ReadAnswers, ReadAnswersSince, ReadLeaves, ReadLeavesBegun, ReadTakes};
+ghost use Rattle.wt_typed.specs.Typed.{after_stop_once, can_write_now, ready_at_all, stop_answer};
 ghost use Rattle.wt_typed.specs.Writing.{Continues, WritesPrefix, after_pending, is_begun, pending_answer, rest, write_of};
 
 use crate::stream::{Pair, Session, Stream, can_write, stop_once};
@@ -33,13 +32,13 @@ impl Stream<Pair, Session> {
         t: &mut Transport,
     ) -> Result<Poll<Result<Frame, ProtoReadError>>, OutOfMemory>
         requires { IsTrue (can_receive_now t.old self.old.halves.0.id) }
-        ensures answer { IfOk result (λ a. a ≡ read_answer t.old.is_open (end_now t.old self.old.halves.0.id) (reached (fed frame_decides self.old.stage.frames (unread_now t.old self.old.halves.0.id)))) }
-        ensures frame { (bytes : List ℕ) → HasBegun frame_decides sources.Other self.old.stage.frames bytes → IfOk result (λ a. a ≡ frame_answer sources.Other t.old.is_open (end_now t.old self.old.halves.0.id) (bytes ++ unread_now t.old self.old.halves.0.id)) }
-        ensures begun { (bytes : List ℕ) → HasBegun frame_decides sources.Other self.old.stage.frames bytes → IfOk result (λ a. HasBegun frame_decides sources.Other self.new.stage.frames (since_item a (bytes ++ unread_now t.old self.old.halves.0.id))) }
-        ensures left { OnOk result (self.new ≡ record self.old { stage = record self.old.stage { frames = after_read (fed frame_decides self.old.stage.frames (unread_now t.old self.old.halves.0.id)) } }) }
-        ensures took { OnOk result ((n : ℕ) × Took frame_decides self.old.stage.frames (fed frame_decides self.old.stage.frames (unread_now t.old self.old.halves.0.id)) t.old t.new self.old.halves.0.id n) }
+        ensures answer { ReadAnswers frame_decides self.old.stage.frames t.old self.old.halves.0.id result }
+        ensures frame { ReadAnswersSince frame_decides sources.Other self.old.stage.frames t.old self.old.halves.0.id result }
+        ensures begun { ReadLeavesBegun frame_decides sources.Other self.old.stage.frames self.new.stage.frames t.old self.old.halves.0.id result }
+        ensures left { ReadLeaves frame_decides self.old.stage.frames self.new.stage.frames t.old self.old.halves.0.id result }
+        ensures took { ReadTakes frame_decides self.old.stage.frames t.old t.new self.old.halves.0.id result }
         ensures others { self.new ≡ record self.old { stage = record self.old.stage { frames = self.new.stage.frames } } }
-        ensures err { OnErr result ((n : ℕ) × TookFirst frame_decides self.old.stage.frames self.new.stage.frames t.old t.new self.old.halves.0.id n) }
+        ensures err { FailedReadTakes frame_decides self.old.stage.frames self.new.stage.frames t.old t.new self.old.halves.0.id result }
     {
         self.stage.frames.poll(t, self.halves.0.id)
     }

@@ -1,5 +1,5 @@
 //! Unidirectional streams that the peer opened.
-ghost use Rattle.std.specs.Prelude.{◌≡◌, ◌++◌, IfOk, IfSome, IsTrue, List, OnErr, OnOk, false, true, ℕ};
+ghost use Rattle.std.specs.Prelude.{◌≡◌, ◌++◌, IfOk, IfSome, IsTrue, List, OnErr, false, true, ℕ};
 ghost use Rattle.std.specs.Borrow.{sem};
 ghost use Rattle.wt_proto.specs.Progress.{at_item, fed, reached};
 ghost use Rattle.wt_proto.specs.Walk.{walked};
@@ -9,8 +9,9 @@ ghost use Rattle.wt_typed.specs.declared.uni_header.UniHeader.TheVariants as hea
 ghost use Rattle.wt_typed.specs.Accepting.{accepted_uni, next_uni};
 ghost use Rattle.wt_typed.specs.Lending.{LendsHalf};
 ghost use Rattle.wt_typed.specs.NextFrame.{frame_decides};
-ghost use Rattle.wt_typed.specs.Reading.{HasBegun, Took, TookFirst, after_read, read_answer, since_item};
-ghost use Rattle.wt_typed.specs.Typed.{frame_answer, in_stage, is_through, made, source_of};
+ghost use Rattle.wt_typed.specs.Reading.{HasBegun, read_answer};
+ghost use Rattle.wt_typed.specs.Reads.{FailedReadTakes, ReadAnswers, ReadAnswersSince, ReadLeaves, ReadLeavesBegun, ReadTakes};
+ghost use Rattle.wt_typed.specs.Typed.{in_stage, is_through, made, source_of};
 ghost use Rattle.wt_typed.specs.UniHeader.{header_decides, kind_of};
 
 use crate::accepted::Accepted;
@@ -92,13 +93,13 @@ impl Stream<QuicRecvStream, UniRemoteQuic> {
         requires can { IsTrue (can_receive_now t.old self.old.halves.id) }
         ensures answer { IfOk result (λ a. a ≡ made (λ header. record { halves = self.old.halves; stage = record { header = header; frames = at_item (source_of header) } }) (read_answer t.old.is_open (end_now t.old self.old.halves.id) (reached (fed header_decides self.old.stage.header (unread_now t.old self.old.halves.id))))) }
         ensures header { (bytes : List ℕ) → HasBegun header_decides tt self.old.stage.header bytes → IfOk result (λ a. a ≡ made (λ header. record { halves = self.old.halves; stage = record { header = header; frames = at_item (source_of header) } }) (read_answer t.old.is_open (end_now t.old self.old.halves.id) (walked header_decides tt (bytes ++ unread_now t.old self.old.halves.id)))) }
-        ensures begun { (bytes : List ℕ) → HasBegun header_decides tt self.old.stage.header bytes → IfOk result (λ a. HasBegun header_decides tt self.new.stage.header (since_item a (bytes ++ unread_now t.old self.old.halves.id))) }
+        ensures begun { ReadLeavesBegun header_decides tt self.old.stage.header self.new.stage.header t.old self.old.halves.id result }
         ensures halves { self.new.halves ≡ self.old.halves }
-        ensures left { OnOk result (self.new.stage.header ≡ after_read (fed header_decides self.old.stage.header (unread_now t.old self.old.halves.id))) }
-        ensures took { OnOk result ((n : ℕ) × Took header_decides self.old.stage.header (fed header_decides self.old.stage.header (unread_now t.old self.old.halves.id)) t.old t.new self.old.halves.id n) }
+        ensures left { ReadLeaves header_decides self.old.stage.header self.new.stage.header t.old self.old.halves.id result }
+        ensures took { ReadTakes header_decides self.old.stage.header t.old t.new self.old.halves.id result }
         ensures spent { IfOk result (λ a. self.new.stage.is_spent ≡ is_through a) }
         ensures unspent { OnErr result (self.new.stage.is_spent ≡ false) }
-        ensures err { OnErr result ((n : ℕ) × TookFirst header_decides self.old.stage.header self.new.stage.header t.old t.new self.old.halves.id n) }
+        ensures err { FailedReadTakes header_decides self.old.stage.header self.new.stage.header t.old t.new self.old.halves.id result }
     {
         let id = self.halves.id;
         let alloc = self.stage.header.allocator();
@@ -138,13 +139,13 @@ impl Stream<QuicRecvStream, UniRemoteH3> {
         t: &mut Transport,
     ) -> Result<Poll<Result<Frame, ProtoReadError>>, OutOfMemory>
         requires { IsTrue (can_receive_now t.old self.old.halves.id) }
-        ensures answer { IfOk result (λ a. a ≡ read_answer t.old.is_open (end_now t.old self.old.halves.id) (reached (fed frame_decides self.old.stage.frames (unread_now t.old self.old.halves.id)))) }
-        ensures frame { (bytes : List ℕ) → HasBegun frame_decides (source_of self.old.stage.header) self.old.stage.frames bytes → IfOk result (λ a. a ≡ frame_answer (source_of self.old.stage.header) t.old.is_open (end_now t.old self.old.halves.id) (bytes ++ unread_now t.old self.old.halves.id)) }
-        ensures begun { (bytes : List ℕ) → HasBegun frame_decides (source_of self.old.stage.header) self.old.stage.frames bytes → IfOk result (λ a. HasBegun frame_decides (source_of self.old.stage.header) self.new.stage.frames (since_item a (bytes ++ unread_now t.old self.old.halves.id))) }
-        ensures left { OnOk result (self.new ≡ record self.old { stage = record self.old.stage { frames = after_read (fed frame_decides self.old.stage.frames (unread_now t.old self.old.halves.id)) } }) }
-        ensures took { OnOk result ((n : ℕ) × Took frame_decides self.old.stage.frames (fed frame_decides self.old.stage.frames (unread_now t.old self.old.halves.id)) t.old t.new self.old.halves.id n) }
+        ensures answer { ReadAnswers frame_decides self.old.stage.frames t.old self.old.halves.id result }
+        ensures frame { ReadAnswersSince frame_decides (source_of self.old.stage.header) self.old.stage.frames t.old self.old.halves.id result }
+        ensures begun { ReadLeavesBegun frame_decides (source_of self.old.stage.header) self.old.stage.frames self.new.stage.frames t.old self.old.halves.id result }
+        ensures left { ReadLeaves frame_decides self.old.stage.frames self.new.stage.frames t.old self.old.halves.id result }
+        ensures took { ReadTakes frame_decides self.old.stage.frames t.old t.new self.old.halves.id result }
         ensures others { self.new ≡ record self.old { stage = record self.old.stage { frames = self.new.stage.frames } } }
-        ensures err { OnErr result ((n : ℕ) × TookFirst frame_decides self.old.stage.frames self.new.stage.frames t.old t.new self.old.halves.id n) }
+        ensures err { FailedReadTakes frame_decides self.old.stage.frames self.new.stage.frames t.old t.new self.old.halves.id result }
     {
         self.stage.frames.poll(t, self.halves.id)
     }
