@@ -9,6 +9,6 @@ pub mod settings;
 mod shown;
 
 pub use connect::ConnectStream;
-pub use qpack::{RemoteQPackDecStream, RemoteQPackEncStream};
+pub use qpack::{RemoteQPackDecStream, RemoteQPackEncStream, RemoteQPackStream};
 pub use settings::{LocalSettingsStream, RemoteSettingsStream, RemoteSettingsWatcher};
 pub use wt_turn::driver_error::DriverError;
