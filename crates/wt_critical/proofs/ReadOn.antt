@@ -1,66 +1,28 @@
 -- A reader that is fed piece after piece of what is unread stands as one that took all.
-use Rattle.std.proofs.Common.{arith, ◌≡◌, ◌<◌, ◌≤◌, ◌+◌, ◌-◌, ℕ, zero, suc, Bool, true, false, List, [], ◌∷◌, ◌++◌, length, take, drop, Option, Some, None, refl, sym, ap, subst, ◌∙◌, inl, inr}
-use Rattle.std.specs.List.{concat}
-use Rattle.std.proofs.lemmas.List.{length-drop, take-append-drop, take-append-le, take_all}
+use Rattle.std.proofs.Common.{arith, ◌≡◌, ◌<◌, ◌≤◌, ◌+◌, ◌-◌, ℕ, Bool, true, false, List, [], ◌∷◌, ◌++◌, length, take, drop, None, refl, sym, ap, subst, ◌∙◌, inl, inr}
+use Rattle.std.proofs.lemmas.List.{length-drop, take-append-drop, take_all}
 use Rattle.std.proofs.lemmas.Bool.{cases_lt}
+use Rattle.std.proofs.Math.Seq.{take-add}
 use Rattle.wt_wire.specs.declared.side.StreamEnd.{StreamEnd}
 use Rattle.wt_wire.specs.declared.side.StreamEnd.TheVariants.{Running}
 use Rattle.wt_proto.specs.declared.walk.Step.{Step}
 use Rattle.wt_proto.specs.Walk.{outcome_at, walked}
-use Rattle.wt_proto.specs.Progress.{Progress, Reading, fed, fed_reading, progress_over, reached, reached_at}
+use Rattle.wt_proto.specs.Progress.{Progress, Reading, fed, fed_reading, reached}
 use Rattle.wt_proto.specs.Reading.{outcome_in}
 use Rattle.wt_proto.specs.Steady.{IsSteady}
 use Rattle.wt_proto.proofs.ProgressLaws.{fed-append, fed-fed, walk-progress}
+use Rattle.wt_proto.proofs.ReadingLaws.{stays}
 use Rattle.wt_streams.specs.Pieces.{first_piece}
+use Rattle.wt_streams.proofs.PieceLaws.{first_within, take_first}
 use Rattle.wt_seam.specs.State.{TransportState}
 use Rattle.wt_seam.specs.Step.{after_consume, pieces_now, unread_now}
 use Rattle.wt_critical.specs.Reading.{ReadsSome, WasRead, after_reading_all, read_on}
 use Rattle.wt_critical.proofs.Consuming.{consume-again, consume-unread}
 
--- ---- lists
-
-take-first : (k : ℕ) (pieces : List (List ℕ)) → k ≤ length (first_piece pieces) → take k (concat pieces) ≡ take k (first_piece pieces)
-take-first k [] l = refl
-take-first k (p ∷ later) l = take-append-le k p (concat later) l
-
-first-within : (pieces : List (List ℕ)) → length (first_piece pieces) ≤ length (concat pieces)
-first-within [] = omega arith
-first-within (p ∷ later) = within p (concat later)
-  where
-    within : (p xs : List ℕ) → length p ≤ length (p ++ xs)
-    within [] xs = omega arith
-    within (x ∷ p) xs = omega (arith, within p xs)
-
-take-more : (m n : ℕ) (xs : List ℕ) → take (m + n) xs ≡ take m xs ++ take n (drop m xs)
-take-more zero n xs = ap (λ i. take i xs) (omega arith)
-take-more (suc m) n [] = none (suc m + n) ∙ sym (none n)
-  where
-    none : (n : ℕ) → take {A = ℕ} n [] ≡ []
-    none zero = refl
-    none (suc n) = refl
-take-more (suc m) n (x ∷ xs) =
-    let e : suc m + n ≡ suc (m + n) = omega arith in
-    ap (λ i. take i (x ∷ xs)) e ∙ ap (λ ys. x ∷ ys) (take-more m n xs)
-
 -- ---- one piece
 
 module _ {S O : Type 0} (decide : S → List ℕ → Step S O) (steady : IsSteady decide) where
   module _ (final : O → Bool) (unfinished : StreamEnd → S → Bool → O) (goes_on : (s : S) (b : Bool) → final (unfinished Running s b) ≡ false) where
-    over : (s : S) (o : O) (ys : List ℕ) → progress_over decide s (Some o) 0 ys ≡ record { state = s; stop = Some o; skip = 0; kept = [] }
-    over s o [] = refl
-    over s o (y ∷ ys) = refl
-
-    stays-at : (s : S) (stop : Option O) (skip : ℕ) (kept more : List ℕ) → final (outcome_at unfinished Running (reached_at s stop skip kept)) ≡ true
-        → fed decide (record { state = s; stop = stop; skip = skip; kept = kept }) more ≡ record { state = s; stop = stop; skip = skip; kept = kept }
-    stays-at s stop (suc skip) kept more e = let no_ = goes_on s false in absurd cc
-    stays-at s stop zero (b ∷ kept) more e = let no_ = goes_on s false in absurd cc
-    stays-at s None zero [] more e = let no_ = goes_on s true in absurd cc
-    stays-at s (Some o) zero [] more e = over s o more
-
-    -- what is final while the stream runs was stopped: more bytes change nothing
-    stays : (r : Reading S O) (more : List ℕ) → r.end ≡ Running → final (outcome_in unfinished r) ≡ true → fed decide r.progress more ≡ r.progress
-    stays r more e f = stays-at r.progress.state r.progress.stop r.progress.skip r.progress.kept more (ap (λ (end : StreamEnd). final (outcome_at unfinished end (reached r.progress))) (sym e) ∙ f)
-
     -- a reader that took all of a piece, or as much as it needs, stands as if it had taken all
     pub fed-whole : (old new : Reading S O) (piece : List ℕ) (n : ℕ) → old.end ≡ Running → n ≤ length piece → new ≡ fed_reading decide old (take n piece)
         → (n < length piece → final (outcome_in unfinished new) ≡ true) → new ≡ fed_reading decide old piece
@@ -68,7 +30,7 @@ module _ {S O : Type 0} (decide : S → List ℕ → Step S O) (steady : IsStead
         elim (cases_lt n (length piece)) [
           | inl lt ↦
               let front : new.progress ≡ fed decide old.progress (take n piece) = ap (λ (r : Reading S O). r.progress) taken in
-              let still : fed decide new.progress (drop n piece) ≡ new.progress = stays new (drop n piece) (ap (λ (r : Reading S O). r.end) taken ∙ runs) (stands lt) in
+              let still : fed decide new.progress (drop n piece) ≡ new.progress = stays decide final unfinished goes_on new (drop n piece) (ap (λ (r : Reading S O). r.end) taken ∙ runs) (stands lt) in
               let whole : fed decide new.progress (drop n piece) ≡ fed decide old.progress piece =
               ap (λ (p : Progress S O). fed decide p (drop n piece)) front
               ∙ (fed-fed decide steady old.progress (take n piece) (drop n piece)
@@ -79,11 +41,11 @@ module _ {S O : Type 0} (decide : S → List ℕ → Step S O) (steady : IsStead
 
   module _ (old new : Reading S O) (t u : TransportState) (id : ℕ) (piece : List ℕ) (is : piece ≡ first_piece (pieces_now t id)) (reading : new ≡ fed_reading decide old piece) (after : u ≡ after_consume t id (length piece)) where
     within : length piece ≤ length (unread_now t id)
-    within = subst (λ (xs : List ℕ). length xs ≤ length (unread_now t id)) (sym is) (first-within (pieces_now t id))
+    within = subst (λ (xs : List ℕ). length xs ≤ length (unread_now t id)) (sym is) (first_within (pieces_now t id))
 
     front : take (length piece) (unread_now t id) ≡ piece
     front =
-        take-first (length piece) (pieces_now t id) (subst (λ (xs : List ℕ). length piece ≤ length xs) is (omega arith))
+        take_first (length piece) (pieces_now t id) (subst (λ (xs : List ℕ). length piece ≤ length xs) is (omega arith))
         ∙ (ap (λ (xs : List ℕ). take (length piece) xs) (sym is) ∙ take_all (length piece) piece (omega arith))
 
     pub piece-read : ReadsSome decide old new t u id (length piece)
@@ -117,7 +79,7 @@ module _ {S O : Type 0} (decide : S → List ℕ → Step S O) (steady : IsStead
         reading = b.reading ∙ (ap (λ (r : Reading S O). fed_reading decide r (take n (unread_now u id))) a.reading
             ∙ ap (λ (p : Progress S O). record { progress = p; end = old.end })
             (fed-fed decide steady old.progress (take m (unread_now t id)) (take n (unread_now u id))
-            ∙ ap (λ (xs : List ℕ). fed decide old.progress xs) (ap (λ (xs : List ℕ). take m (unread_now t id) ++ take n xs) here ∙ sym (take-more m n (unread_now t id)))));
+            ∙ ap (λ (xs : List ℕ). fed decide old.progress xs) (ap (λ (xs : List ℕ). take m (unread_now t id) ++ take n xs) here ∙ sym (take-add m n (unread_now t id)))));
         state = b.state ∙ (ap (λ (w : TransportState). after_consume w id n) a.state ∙ consume-again t id m n);
       }
 

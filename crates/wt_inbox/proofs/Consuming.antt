@@ -1,7 +1,7 @@
 -- Reading unread bytes, and what it leaves.
-use Rattle.std.proofs.Common.{arith, ◌≡◌, ◌≤◌, ◌+◌, ◌-◌, ℕ, zero, suc, Bool, true, false, List, [], ◌∷◌, length, drop, refl, sym, ap, subst, ◌∙◌}
+use Rattle.std.proofs.Common.{arith, ◌≡◌, ◌≤◌, ◌+◌, ◌-◌, ℕ, Bool, true, false, length, drop, refl, sym, ap, subst, ◌∙◌}
 use Rattle.std.specs.Prelude.{◌==◌, if◌then◌else◌}
-use Rattle.std.proofs.lemmas.List.{length-drop}
+use Rattle.std.proofs.lemmas.List.{drop-drop, length-drop}
 use Rattle.wt_streams.specs.StreamState.{consume, has_stream, stream_at}
 use Rattle.wt_streams.proofs.PieceLaws.{concat_skip, drop_none}
 use Rattle.wt_seam_spec.specs.Unread.{ReadPosition, AtOffset, GivenUp, advance, consumed}
@@ -41,13 +41,6 @@ module _ (t : TransportState) (id n : ℕ) where
 
 -- ---- one call after another
 
-pub drop-drop : (m n : ℕ) (xs : List ℕ) → drop n (drop m xs) ≡ drop (m + n) xs
-drop-drop zero n xs = ap (λ i. drop i xs) (omega arith)
-drop-drop (suc m) n [] = drop_none n ∙ sym (drop_none (suc m + n))
-drop-drop (suc m) n (x ∷ xs) =
-    let e : suc m + n ≡ suc (m + n) = omega arith in
-    drop-drop m n xs ∙ sym (ap (λ i. drop i (x ∷ xs)) e)
-
 advance-advance : (m n : ℕ) (p : ReadPosition) → advance n (advance m p) ≡ advance (m + n) p
 advance-advance m n (AtOffset offset) = ap AtOffset (omega arith)
 advance-advance m n GivenUp = refl
@@ -64,7 +57,7 @@ consumes-twice t u v id m n a b =
     let rest : length (unread_now u id) ≡ length (unread_now t id) - m = ap length a.here ∙ length-drop m (unread_now t id) in
     record {
       within = omega (arith, a.within, b.within, rest);
-      here = b.here ∙ (ap (λ xs. drop n xs) a.here ∙ drop-drop m n (unread_now t id));
+      here = b.here ∙ (ap (λ xs. drop n xs) a.here ∙ drop-drop n m (unread_now t id));
       others = λ k d. b.others k d ∙ a.others k d;
       quiet = b.quiet ∙ a.quiet;
       refines = λ side log position untaken r.

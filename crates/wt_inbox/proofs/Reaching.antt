@@ -3,7 +3,8 @@ use Rattle.std.proofs.Common.{arith, ◌≡◌, ◌<◌, ◌≤◌, ◌+◌, ◌
 use Rattle.std.specs.Prelude.{◌==◌, unwrap_or}
 use Rattle.std.proofs.lemmas.Bool.Decides.{nat_tests}
 use Rattle.std.proofs.lemmas.Bool.{cases_lt}
-use Rattle.std.proofs.lemmas.List.{length-drop, length-take, take-append-drop}
+use Rattle.std.proofs.lemmas.List.{drop-drop, length-drop, length-take, take-append-drop}
+use Rattle.std.proofs.Math.Seq.{take-add}
 use Rattle.wt_wire.specs.declared.side.StreamEnd.{StreamEnd}
 use Rattle.wt_wire.specs.declared.side.StreamEnd.TheVariants.{Running}
 use Rattle.wt_proto.specs.declared.walk.Step.{Step}
@@ -18,10 +19,8 @@ use Rattle.wt_seam.specs.State.{TransportState}
 use Rattle.wt_seam.specs.Step.{end_now, unread_now}
 use Rattle.wt_inbox.specs.Kept.{Kept, Pulled, Pulls, outcome_after, outcome_by, outcome_now, read_on, reading_of}
 use Rattle.wt_inbox.specs.Stage.{HasReached}
-use Rattle.wt_inbox.proofs.Consuming.{drop-drop}
 use Rattle.wt_inbox.proofs.Offsets.{IsOffset}
 use Rattle.wt_inbox.proofs.QuietLaws.{same_end}
-use Rattle.wt_inbox.proofs.ReadOn.{take-more}
 
 module _ {S O : Type 0} (start : S) (decide : S → List ℕ → Step S O) (steady : IsSteady decide) (unfinished : StreamEnd → S → Bool → O) (final : O → Bool) (outcome_of : List ℕ → StreamEnd → O)
     (reaches : (bytes : List ℕ) (end : StreamEnd) → outcome_of bytes end ≡ outcome_at unfinished end (walked decide start bytes)) where
@@ -78,7 +77,7 @@ module _ {S O : Type 0} (start : S) (decide : S → List ℕ → Step S O) (stea
 
   module _ (r : Reading S O) (at : ℕ) (c : List ℕ) (position : ReadPosition) (h : HasReached start decide final outcome_of r at c position) where
     rest-is : from_position position c ≡ drop h.count (drop at c)
-    rest-is = ap (λ (q : ReadPosition). from_position q c) h.place ∙ sym (drop-drop at h.count c)
+    rest-is = ap (λ (q : ReadPosition). from_position q c) h.place ∙ sym (drop-drop h.count at c)
 
     all-is : (unread : List ℕ) → unread ≡ from_position position c → fed decide r.progress unread ≡ over (drop at c)
     all-is unread e =
@@ -97,7 +96,7 @@ module _ {S O : Type 0} (start : S) (decide : S → List ℕ → Step S O) (stea
           omega (arith, h.within, p.consumes.within, size, length-drop h.count (drop at c), length-drop at c)
 
       bytes-are : (n : ℕ) → take h.count (drop at c) ++ take n (unread_now t id) ≡ take (h.count + n) (drop at c)
-      bytes-are n = ap (λ (xs : List ℕ). take h.count (drop at c) ++ take n xs) (e ∙ rest-is) ∙ sym (take-more h.count n (drop at c))
+      bytes-are n = ap (λ (xs : List ℕ). take h.count (drop at c) ++ take n xs) (e ∙ rest-is) ∙ sym (take-add h.count n (drop at c))
 
       read-is : new.progress ≡ over (take (h.count + p.count) (drop at c))
       read-is = p.taken

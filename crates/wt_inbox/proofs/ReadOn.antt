@@ -1,56 +1,32 @@
 -- A reader that takes piece after piece of what is unread stands as one that took all.
-use Rattle.std.proofs.Common.{arith, ◌≡◌, ◌<◌, ◌≤◌, ◌+◌, ◌-◌, ℕ, zero, suc, Bool, true, false, List, [], ◌∷◌, ◌++◌, length, take, drop, Option, Some, None, refl, sym, ap, subst, ◌∙◌, append_assoc, ◌⊎◌, inl, inr}
-use Rattle.std.specs.List.{concat}
-use Rattle.std.proofs.lemmas.List.{append-nil, length-drop, take-append-drop, take-append-le}
+use Rattle.std.proofs.Common.{arith, ◌≡◌, ◌<◌, ◌≤◌, ◌+◌, ◌-◌, ℕ, Bool, true, false, List, [], ◌∷◌, ◌++◌, length, take, drop, sym, ap, subst, ◌∙◌, append_assoc, ◌⊎◌, inl, inr}
+use Rattle.std.proofs.lemmas.List.{append-nil, length-drop, take-append-drop}
 use Rattle.std.proofs.lemmas.Bool.{cases_lt}
+use Rattle.std.proofs.Math.Seq.{take-add}
 use Rattle.wt_wire.specs.declared.side.StreamEnd.{StreamEnd}
 use Rattle.wt_wire.specs.declared.side.StreamEnd.TheVariants.{Running}
 use Rattle.wt_proto.specs.declared.walk.Step.{Step}
 use Rattle.wt_proto.specs.Walk.{outcome_at}
-use Rattle.wt_proto.specs.Progress.{HasRead, Progress, Reading, fed, fed_reading, progress_over, reached, reached_at}
+use Rattle.wt_proto.specs.Progress.{HasRead, Progress, Reading, fed, fed_reading, reached}
 use Rattle.wt_proto.specs.Reading.{outcome_in}
 use Rattle.wt_proto.specs.Steady.{IsSteady}
-use Rattle.wt_proto.proofs.ProgressLaws.{fed-append, fed-fed}
+use Rattle.wt_proto.proofs.ProgressLaws.{fed-fed}
+use Rattle.wt_proto.proofs.ReadingLaws.{fed-read, stays}
 use Rattle.wt_streams.specs.Pieces.{first_piece}
 use Rattle.wt_seam.specs.State.{TransportState}
-use Rattle.wt_streams.proofs.PieceLaws.{drop_none}
+use Rattle.wt_streams.proofs.PieceLaws.{drop_none, first_within, take_first}
 use Rattle.wt_seam.specs.Step.{after_consume, end_now, pieces_now, unread_now}
 use Rattle.wt_inbox.specs.Kept.{Consumes, Takes, Pulls, outcome_after}
 use Rattle.wt_inbox.proofs.Consuming.{consume-consumes, consumes-twice}
-
--- ---- bytes
-
-pub take-first : (k : ℕ) (pieces : List (List ℕ)) → k ≤ length (first_piece pieces) → take k (concat pieces) ≡ take k (first_piece pieces)
-take-first k [] l = refl
-take-first k (p ∷ later) l = take-append-le k p (concat later) l
-
-pub first-within : (pieces : List (List ℕ)) → length (first_piece pieces) ≤ length (concat pieces)
-first-within [] = omega arith
-first-within (p ∷ later) = within p (concat later)
-  where
-    within : (p xs : List ℕ) → length p ≤ length (p ++ xs)
-    within [] xs = omega arith
-    within (x ∷ p) xs = omega (arith, within p xs)
-
-pub take-more : (m n : ℕ) (xs : List ℕ) → take (m + n) xs ≡ take m xs ++ take n (drop m xs)
-take-more zero n xs = ap (λ i. take i xs) (omega arith)
-take-more (suc m) n [] = none (suc m + n) ∙ sym (none n)
-  where
-    none : (n : ℕ) → take {A = ℕ} n [] ≡ []
-    none zero = refl
-    none (suc n) = refl
-take-more (suc m) n (x ∷ xs) =
-    let e : suc m + n ≡ suc (m + n) = omega arith in
-    ap (λ i. take i (x ∷ xs)) e ∙ ap (λ ys. x ∷ ys) (take-more m n xs)
 
 -- ---- the first piece
 
 module _ (t u : TransportState) (id n : ℕ) (piece : List ℕ) (is : piece ≡ first_piece (pieces_now t id)) (within : n ≤ length piece) where
   front : (k : ℕ) → k ≤ length piece → take k piece ≡ take k (unread_now t id)
-  front k l = ap (λ (xs : List ℕ). take k xs) is ∙ sym (take-first k (pieces_now t id) (subst (λ (xs : List ℕ). k ≤ length xs) is l))
+  front k l = ap (λ (xs : List ℕ). take k xs) is ∙ sym (take_first k (pieces_now t id) (subst (λ (xs : List ℕ). k ≤ length xs) is l))
 
   below : n ≤ length (unread_now t id)
-  below = let few : length piece ≤ length (unread_now t id) = subst (λ (xs : List ℕ). length xs ≤ length (unread_now t id)) (sym is) (first-within (pieces_now t id)) in omega arith
+  below = let few : length piece ≤ length (unread_now t id) = subst (λ (xs : List ℕ). length xs ≤ length (unread_now t id)) (sym is) (first_within (pieces_now t id)) in omega arith
 
   pub front-takes_ : {S O : Type 0} (start : S) (decide : S → List ℕ → Step S O) (final : O → Bool) (outcome_of : List ℕ → StreamEnd → O) (old new : Reading S O) → new ≡ fed_reading decide old (take n piece) → ((bytes : List ℕ) (end : StreamEnd) (k : ℕ) → HasRead decide start old bytes end → k < n → final (outcome_of (bytes ++ take k piece) end) ≡ false)
       → u ≡ after_consume t id n → Takes start decide final outcome_of old new t u id n
@@ -86,14 +62,9 @@ front-takes start decide final outcome_of old new t u id n piece is within taken
 -- ---- one piece after another
 
 module _ {S O : Type 0} (start : S) (decide : S → List ℕ → Step S O) (steady : IsSteady decide) (final : O → Bool) (outcome_of : List ℕ → StreamEnd → O) where
-  fed-read : (r : Reading S O) (bytes more : List ℕ) (end : StreamEnd) → HasRead decide start r bytes end → HasRead decide start (fed_reading decide r more) (bytes ++ more) end
-  fed-read r bytes more end has =
-      ap (λ (x : Reading S O). fed_reading decide x more) has
-      ∙ ap (λ (p : Progress S O). record { progress = p; end = end }) (fed-append decide steady bytes more start None 0)
-
   module _ (old mid new : Reading S O) (t u v : TransportState) (id m n : ℕ) (a : Takes start decide final outcome_of old mid t u id m) (b : Takes start decide final outcome_of mid new u v id n) where
     joined : take m (unread_now t id) ++ take n (unread_now u id) ≡ take (m + n) (unread_now t id)
-    joined = ap (λ (ys : List ℕ). take m (unread_now t id) ++ take n ys) a.consumes.here ∙ sym (take-more m n (unread_now t id))
+    joined = ap (λ (ys : List ℕ). take m (unread_now t id) ++ take n ys) a.consumes.here ∙ sym (take-add m n (unread_now t id))
 
     taken-twice : new ≡ fed_reading decide old (take (m + n) (unread_now t id))
     taken-twice = b.taken ∙ (ap (λ (r : Reading S O). fed_reading decide r (take n (unread_now u id))) a.taken
@@ -103,10 +74,10 @@ module _ {S O : Type 0} (start : S) (decide : S → List ℕ → Step S O) (stea
     running-twice bytes end has k l = elim (cases_lt k m) [
       | inl lt ↦ a.running bytes end has k lt
       | inr le ↦
-          let read : HasRead decide start mid (bytes ++ take m (unread_now t id)) end = a.taken ∙ fed-read old bytes (take m (unread_now t id)) end has in
+          let read : HasRead decide start mid (bytes ++ take m (unread_now t id)) end = a.taken ∙ fed-read decide start steady old bytes (take m (unread_now t id)) end has in
           let at : m + (k - m) ≡ k = omega arith in
           let split : take k (unread_now t id) ≡ take m (unread_now t id) ++ take (k - m) (unread_now u id) =
-          ap (λ i. take i (unread_now t id)) (sym at) ∙ (take-more m (k - m) (unread_now t id) ∙ ap (λ (ys : List ℕ). take m (unread_now t id) ++ take (k - m) ys) (sym a.consumes.here)) in
+          ap (λ i. take i (unread_now t id)) (sym at) ∙ (take-add m (k - m) (unread_now t id) ∙ ap (λ (ys : List ℕ). take m (unread_now t id) ++ take (k - m) ys) (sym a.consumes.here)) in
           ap (λ (ys : List ℕ). final (outcome_of ys end)) (ap (λ (ys : List ℕ). bytes ++ ys) split ∙ sym (append_assoc bytes (take m (unread_now t id)) (take (k - m) (unread_now u id))))
           ∙ b.running (bytes ++ take m (unread_now t id)) end read (k - m) (omega arith)
     ]
@@ -117,27 +88,12 @@ module _ {S O : Type 0} (start : S) (decide : S → List ℕ → Step S O) (stea
   -- ---- all of it
 
   module _ (unfinished : StreamEnd → S → Bool → O) (goes_on : (s : S) (b : Bool) → final (unfinished Running s b) ≡ false) where
-    over : (s : S) (o : O) (ys : List ℕ) → progress_over decide s (Some o) 0 ys ≡ record { state = s; stop = Some o; skip = 0; kept = [] }
-    over s o [] = refl
-    over s o (y ∷ ys) = refl
-
-    -- what is final while the stream runs was stopped: more bytes change nothing
-    stays-at : (s : S) (stop : Option O) (skip : ℕ) (kept more : List ℕ) → final (outcome_at unfinished Running (reached_at s stop skip kept)) ≡ true
-        → fed decide (record { state = s; stop = stop; skip = skip; kept = kept }) more ≡ record { state = s; stop = stop; skip = skip; kept = kept }
-    stays-at s stop (suc skip) kept more e = let no_ = goes_on s false in absurd cc
-    stays-at s stop zero (b ∷ kept) more e = let no_ = goes_on s false in absurd cc
-    stays-at s None zero [] more e = let no_ = goes_on s true in absurd cc
-    stays-at s (Some o) zero [] more e = over s o more
-
-    stays : (r : Reading S O) (more : List ℕ) → r.end ≡ Running → final (outcome_in unfinished r) ≡ true → fed decide r.progress more ≡ r.progress
-    stays r more e f = stays-at r.progress.state r.progress.stop r.progress.skip r.progress.kept more (ap (λ (end : StreamEnd). final (outcome_at unfinished end (reached r.progress))) (sym e) ∙ f)
-
     module _ (old new : Reading S O) (t u : TransportState) (id n : ℕ) (a : Takes start decide final outcome_of old new t u id n) (runs : old.end ≡ Running) where
       took-front : new.progress ≡ fed decide old.progress (take n (unread_now t id))
       took-front = ap (λ (r : Reading S O). r.progress) a.taken
 
       all-if : (final (outcome_in unfinished new) ≡ true) ⊎ (unread_now u id ≡ []) → fed decide new.progress (unread_now u id) ≡ new.progress
-      all-if (inl f) = stays new (unread_now u id) (ap (λ (r : Reading S O). r.end) a.taken ∙ runs) f
+      all-if (inl f) = stays decide final unfinished goes_on new (unread_now u id) (ap (λ (r : Reading S O). r.end) a.taken ∙ runs) f
       all-if (inr none) = ap (λ (xs : List ℕ). fed decide new.progress xs) none
           ∙ (ap (λ (p : Progress S O). fed decide p []) took-front
           ∙ (fed-fed decide steady old.progress (take n (unread_now t id)) []

@@ -1,6 +1,7 @@
 -- What goes out on a stream that this end opens, up to its being given: its header.
-use Rattle.std.specs.Prelude.{[], ◌%◌, ◌&&◌, ◌*◌, ◌++◌, ◌+◌, ◌/◌, ◌<◌, ◌==◌, ◌||◌, ◌∷◌, ◌≡◌, ◌≢◌, ◌≤◌, Bool, List, Some, drop, false, if◌then◌else◌, is_some, length, not, suc, take, true, zero, ℕ}
-use Rattle.std.proofs.Common.{◌∙◌, ap, arith, length-take, refl, subst, sym}
+use Rattle.std.specs.Prelude.{[], ◌%◌, ◌&&◌, ◌*◌, ◌++◌, ◌+◌, ◌/◌, ◌<◌, ◌==◌, ◌||◌, ◌∷◌, ◌≡◌, ◌≢◌, ◌≤◌, Bool, List, Some, drop, false, if◌then◌else◌, is_some, length, not, take, true, ℕ}
+use Rattle.std.proofs.Common.{◌∙◌, ap, arith, refl, subst, sym}
+use Rattle.std.proofs.Math.Seq.{take-add}
 use Rattle.std.proofs.lemmas.Bool.{and_parts, eq-eqb, eqb-true, ltb-true, not-true, or_parts, or_right}
 use Rattle.std.proofs.lemmas.List.{append-nil, append_assoc}
 use Rattle.std.specs.List.{list_any}
@@ -71,20 +72,9 @@ fresh-piece side turn log k (actions.Send id piece) h l u c = at (id == k) refl 
     at true e (OfRequest head c s i z p) = absurd (by-side side (subst (λ (j : ℕ). local_count (actions_of log) (j % 4) ≤ j / 4) (sym (eqb-true id k e) ∙ i) u) z)
 fresh-piece side turn log k _ h l u c = refl
 
-take-more : (m c : ℕ) (xs : List ℕ) → m ≤ length xs → take m xs ++ take c (drop m xs) ≡ take (m + c) xs
-take-more zero c xs l = ap (λ n. take n xs) (zero-more c)
-  where
-    zero-more : (n : ℕ) → n ≡ 0 + n
-    zero-more n = omega arith
-take-more (suc m) c [] l = absurd (omega arith)
-take-more (suc m) c (x ∷ xs) l = ap (λ ys. x ∷ ys) (take-more m c xs (omega arith)) ∙ ap (λ n. take n (x ∷ xs)) (suc-more m c)
-  where
-    suc-more : (m c : ℕ) → suc (m + c) ≡ suc m + c
-    suc-more m c = omega arith
-
 pub further : (c n : ℕ) (xs : List ℕ) → take n xs ++ take c (drop (length (take n xs)) xs) ≡ take (length (take n xs) + c) xs
 further c n xs =
-    ap (λ ys. ys ++ take c (drop (length (take n xs)) xs)) (sym (take-same n xs)) ∙ take-more (length (take n xs)) c xs (omega (arith, length-take n xs))
+    ap (λ ys. ys ++ take c (drop (length (take n xs)) xs)) (sym (take-same n xs)) ∙ sym (take-add (length (take n xs)) c xs)
 
 local-opening : (side : Side) (log : Log) (k : ℕ) → Heads side log → is_opening log k ≡ true → is_local side k ≡ true
 local-opening side log k h o = h.given.facts_hold.openings k (and_parts (list_any (starts_opening k) (calls_of log)) _ o).0

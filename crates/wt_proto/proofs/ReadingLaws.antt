@@ -6,6 +6,7 @@ use Rattle.std.proofs.lemmas.Bool.{cases_lt, eq-eqb, ne_eqb}
 use Rattle.std.proofs.Math.ListN.{drop_of_length-le}
 use Rattle.std.proofs.lemmas.Bool.Decides.{nat_tests}
 use Rattle.wt_wire.specs.declared.side.StreamEnd.{StreamEnd}
+use Rattle.wt_wire.specs.declared.side.StreamEnd.TheVariants.{Running}
 use Rattle.wt_proto.specs.declared.walk.Step.{Step}
 use Rattle.wt_proto.specs.declared.walk.Step.TheVariants.{Cut, Goes, Stops}
 use Rattle.wt_proto.specs.declared.cursor.Passed.{Passed}
@@ -34,6 +35,13 @@ module _ {S O : Type 0} (decide : S → List ℕ → Step S O) (P : O → Type 0
   pub advance-stop : (old new : Progress S O) (piece : List ℕ) (n : ℕ) → Advances decide old new piece n → IfSome old.stop P → IfSome new.stop P
   advance-stop old new piece n a h = rw a.taken (progress-stop (old.kept ++ take n piece) old.state old.stop old.skip h)
 
+-- a reader that has read bytes and is fed more has read both
+pub fed-read : {S O : Type 0} (decide : S → List ℕ → Step S O) (start : S) → IsSteady decide → (r : Reading S O) (bytes more : List ℕ) (end : StreamEnd) → HasRead decide start r bytes end →
+    HasRead decide start (fed_reading decide r more) (bytes ++ more) end
+fed-read {S = S} {O = O} decide start steady r bytes more end has =
+    ap (λ (x : Reading S O). fed_reading decide x more) has
+    ∙ ap (λ (p : Progress S O). record { progress = p; end = end }) (fed-append decide steady bytes more start None 0)
+
 module _ {S O : Type 0} (decide : S → List ℕ → Step S O) (start : S) (unfinished : StreamEnd → S → Bool → O) (outcome_of : List ℕ → StreamEnd → O)
     (reaches : (bytes : List ℕ) (end : StreamEnd) → outcome_of bytes end ≡ outcome_at unfinished end (walked decide start bytes)) where
   -- the outcome is that of all bytes and the end
@@ -42,21 +50,16 @@ module _ {S O : Type 0} (decide : S → List ℕ → Step S O) (start : S) (unfi
       ap (λ (x : Reading S O). outcome_in unfinished x) has
       ∙ (ap (λ (x : Reached S O). outcome_at unfinished end x) (sym (walk-progress decide bytes start None 0)) ∙ sym (reaches bytes end))
 
-  pub fed-read : IsSteady decide → (r : Reading S O) (bytes more : List ℕ) (end : StreamEnd) → HasRead decide start r bytes end → HasRead decide start (fed_reading decide r more) (bytes ++ more) end
-  fed-read steady r bytes more end has =
-      ap (λ (x : Reading S O). fed_reading decide x more) has
-      ∙ ap (λ (p : Progress S O). record { progress = p; end = end }) (fed-append decide steady bytes more start None 0)
-
   module _ (final : O → Bool) (by_end : (end : StreamEnd) (s t : S) (b c : Bool) → final (unfinished end s b) ≡ final (unfinished end t c)) (steady : IsSteady decide)
       (old new : Reading S O) (piece bytes : List ℕ) (n : ℕ) (end : StreamEnd) (has : HasRead decide start old bytes end) (a : Advances decide old.progress new.progress piece n) where
     pub feed-read : new.end ≡ old.end → HasRead decide start new (bytes ++ take n piece) end
     feed-read same =
         let is : new ≡ fed_reading decide old (take n piece) = rw (a.taken, same) refl in
-        is ∙ fed-read steady old bytes (take n piece) end has
+        is ∙ fed-read decide start steady old bytes (take n piece) end has
 
     open-outcome : (k : ℕ) → k < n → outcome_of (bytes ++ take k piece) end ≡ unfinished end (reached (fed decide old.progress (take k piece))).state (reached (fed decide old.progress (take k piece))).between
     open-outcome k lt =
-        sym (read-outcome (fed_reading decide old (take k piece)) (bytes ++ take k piece) end (fed-read steady old bytes (take k piece) end has))
+        sym (read-outcome (fed_reading decide old (take k piece)) (bytes ++ take k piece) end (fed-read decide start steady old bytes (take k piece) end has))
         ∙ (rw (a.running k lt) (ap (λ (r : Reading S O). unfinished r.end (reached (fed decide old.progress (take k piece))).state (reached (fed decide old.progress (take k piece))).between) has))
 
     pub feed-running : (0 < n → final (outcome_in unfinished old) ≡ false) → (k : ℕ) → k < n → final (outcome_of (bytes ++ take k piece) end) ≡ false
@@ -107,13 +110,29 @@ advanced decide old new piece (Err e) a b = b
 
 -- the outcome of a walk that went over bytes
 
+-- further bytes leave a reader that stopped as it is
+stopped-over : {S O : Type 0} (decide : S → List ℕ → Step S O) (s : S) (o : O) (more : List ℕ) → progress_over decide s (Some o) 0 more ≡ record { state = s; stop = Some o; skip = 0; kept = [] }
+stopped-over decide s o [] = refl
+stopped-over decide s o (b ∷ more) = refl
+
 fed-over : {S O : Type 0} (decide : S → List ℕ → Step S O) (s : S) (stop : Option O) (skip : ℕ) (kept more : List ℕ) → (0 < length kept → (skip ≡ 0) × (stop ≡ None)) → skip ≡ 0 → IsSome stop →
     fed decide (record { state = s; stop = stop; skip = skip; kept = kept }) more ≡ record { state = s; stop = stop; skip = skip; kept = kept }
 fed-over decide s None skip kept more idle none some = absurd cc
 fed-over decide s (Some o) (suc skip) kept more idle none some = absurd (omega arith)
 fed-over decide s (Some o) zero (b ∷ kept) more idle none some = let bare = (idle (omega arith)).1 in absurd cc
-fed-over decide s (Some o) zero [] [] idle none some = refl
-fed-over decide s (Some o) zero [] (b ∷ more) idle none some = refl
+fed-over decide s (Some o) zero [] more idle none some = stopped-over decide s o more
+
+-- what is final while the stream runs was stopped: more bytes change nothing
+module _ {S O : Type 0} (decide : S → List ℕ → Step S O) (final : O → Bool) (unfinished : StreamEnd → S → Bool → O) (goes_on : (s : S) (b : Bool) → final (unfinished Running s b) ≡ false) where
+  stays-at : (s : S) (stop : Option O) (skip : ℕ) (kept more : List ℕ) → final (outcome_at unfinished Running (reached_at s stop skip kept)) ≡ true
+      → fed decide (record { state = s; stop = stop; skip = skip; kept = kept }) more ≡ record { state = s; stop = stop; skip = skip; kept = kept }
+  stays-at s stop (suc skip) kept more e = let no_ = goes_on s false in absurd cc
+  stays-at s stop zero (b ∷ kept) more e = let no_ = goes_on s false in absurd cc
+  stays-at s None zero [] more e = let no_ = goes_on s true in absurd cc
+  stays-at s (Some o) zero [] more e = stopped-over decide s o more
+
+  pub stays : (r : Reading S O) (more : List ℕ) → r.end ≡ Running → final (outcome_in unfinished r) ≡ true → fed decide r.progress more ≡ r.progress
+  stays r more e f = stays-at r.progress.state r.progress.stop r.progress.skip r.progress.kept more (ap (λ (end : StreamEnd). final (outcome_at unfinished end (reached r.progress))) (sym e) ∙ f)
 
 module _ {S O : Type 0} (unfinished : StreamEnd → S → Bool → O) (end : StreamEnd) (s : S) where
   kept-between : (rest taken : ℕ) (kept : List ℕ) → rest ≤ taken → length kept ≡ taken - rest → outcome_at unfinished end (reached_at {O = O} s None 0 kept) ≡ unfinished end s (rest == taken)

@@ -1,11 +1,11 @@
 -- Unread bytes in pieces.
-use Rattle.std.proofs.Common.{arith, ◌≡◌, ◌≤◌, ◌<◌, ◌+◌, ◌-◌, ℕ, zero, suc, Bool, true, false, List, [], ◌∷◌, ◌++◌, length, drop, refl, sym, ap, ◌∙◌, length-append, length-drop, append_assoc}
+use Rattle.std.proofs.Common.{arith, ◌≡◌, ◌≤◌, ◌<◌, ◌+◌, ◌-◌, ℕ, zero, suc, Bool, true, false, List, [], ◌∷◌, ◌++◌, length, take, drop, refl, sym, ap, ◌∙◌, length-append, length-drop, append_assoc}
 use Rattle.std.specs.Prelude.{nat_lt, if◌then◌else◌, ◌==◌}
 use Rattle.std.specs.List.{concat}
 use Rattle.std.proofs.lemmas.Bool.Decides.{nat_tests}
-use Rattle.std.proofs.lemmas.List.{append-nil, drop-append-le}
+use Rattle.std.proofs.lemmas.List.{append-nil, drop-append-le, take-append-le}
 use Rattle.std.proofs.lemmas.List.Folds.{concat-append}
-use Rattle.wt_streams.specs.Pieces.{AreFilled, with_piece, skip}
+use Rattle.wt_streams.specs.Pieces.{AreFilled, first_piece, with_piece, skip}
 
 -- ---- one more piece
 
@@ -39,6 +39,18 @@ concat_more pieces (b ∷ p) = concat_push pieces (b ∷ p)
 
 pub length_push : (pieces : List (List ℕ)) (p : List ℕ) → length (concat (pieces ++ p ∷ [])) ≡ length (concat pieces) + length p
 length_push pieces p = ap length (concat_push pieces p) ∙ length-append (concat pieces) p
+
+-- ---- the piece in front
+
+-- as many bytes as the first piece has at most are the same of it and of all pieces
+pub take_first : (k : ℕ) (pieces : List (List ℕ)) → k ≤ length (first_piece pieces) → take k (concat pieces) ≡ take k (first_piece pieces)
+take_first k [] l = refl
+take_first k (p ∷ later) l = take-append-le k p (concat later) l
+
+-- the first piece isn't longer than all pieces
+pub first_within : (pieces : List (List ℕ)) → length (first_piece pieces) ≤ length (concat pieces)
+first_within [] = omega arith
+first_within (p ∷ later) = omega (arith, length-append p (concat later))
 
 -- ---- bytes that are left out in front
 
