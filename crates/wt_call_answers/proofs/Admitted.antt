@@ -2,7 +2,7 @@
 use Rattle.std.specs.Prelude.{[], ◌≡◌, Bool}
 use Rattle.std.proofs.Common.{◌∙◌, ap, refl, sym}
 use Rattle.wt_plan.proofs.PlansSame.{table-same}
-use Rattle.wt_plan.specs.Tells.{session_now}
+use Rattle.wt_plan.specs.Tells.{session_of_table}
 use Rattle.wt_call_answers.specs.Keeping.{Keeps, SessionValue, may_call_of}
 use Rattle.wt_session_spec.proofs.Theorems.{may_call_theorem}
 use Rattle.wt_session_spec.specs.CallFacts.{facts_of}
@@ -21,6 +21,6 @@ asks-little side log s _ = refl
 
 pub may_call_kept : (side : Side) (s : SessionValue) (log : Log) (call : Call) → Keeps side s log → may_call_of side s call ≡ may_call side log call
 may_call_kept side s log call k =
-    ap (λ (first : Bool). may_call_now (record (facts_of side []) { is_first = first }) (session_now s.table) call) k.first
+    ap (λ (first : Bool). may_call_now (record (facts_of side []) { is_first = first }) (session_of_table s.table) call) k.first
     ∙ ap (λ (x : SessionState). may_call_now (record (facts_of side []) { is_first = is_first log }) x call) (table-same s.table log k.table)
     ∙ asks-little side log (session_state log) call ∙ sym (may_call_theorem side log call)

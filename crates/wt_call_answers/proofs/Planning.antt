@@ -11,9 +11,9 @@ use Rattle.wt_laws.specs.Reachable.{IsReachable}
 use Rattle.wt_plan.proofs.PlansSame.{plan_same, sending_kept, sending_there}
 use Rattle.wt_plan.specs.DriverAnswers.{answers_now}
 use Rattle.wt_plan.specs.FactsNow.{DriverAnswers, facts_now}
-use Rattle.wt_plan.specs.Planned.{planned}
+use Rattle.wt_plan.specs.Planned.{defined_plan}
 use Rattle.wt_table.specs.Table.{KeepsCalls, TableValue}
-use Rattle.wt_plan.specs.Tells.{KeepsRequestEnd, TellsFacts, session_now}
+use Rattle.wt_plan.specs.Tells.{KeepsRequestEnd, TellsFacts, session_of_table}
 use Rattle.wt_plan.specs.declared.plan.Plan as code
 use Rattle.wt_proto.specs.ResponseWalk.{response_walk_of}
 use Rattle.wt_proto.specs.declared.response_walk.ResponseWalk.{ResponseWalk}
@@ -31,7 +31,7 @@ use Rattle.wt_session_spec.specs.Plan.{Plan}
 use Rattle.wt_session_spec.specs.Plans.{plan_of}
 use Rattle.wt_session_spec.specs.SessionState.{has_sending_now, is_answering, session_state}
 use Rattle.wt_spec.specs.Answers.{is_client, is_first, may_call}
-use Rattle.wt_spec.specs.Driver.{established}
+use Rattle.wt_spec.specs.Driver.{established_session}
 use Rattle.wt_spec.specs.Handshake.{Connecting, HandshakeState, awaits_answer, handshake_state}
 use Rattle.wt_told.proofs.DriverTheorems.{drivers_tell_theorem, requests_theorem}
 use Rattle.wt_turn.specs.Log.{Log, calls_of, events_of}
@@ -97,7 +97,7 @@ module _ (side : Side) (d : DriverValue) (log : Log) (taken : ℕ) (s : TableVal
   side-is : d.inbox.transport.side ≡ side
   side-is = ap (λ (t : TransportState). t.side) f.refines.inbox.transport.state
 
-  session-is : d.state.session ≡ established (calls_of log)
+  session-is : d.state.session ≡ established_session (calls_of log)
   unfolding state_of
   session-is = ap (λ (x : DriverState). x.session) f.refines.state_is
 
@@ -131,18 +131,18 @@ module _ (side : Side) (d : DriverValue) (log : Log) (taken : ℕ) (s : TableVal
     sending-there : SendingThere d.inbox.transport s
     sending-there = record {
       there = λ j h. sending_there side log d.inbox.transport answered tells j
-          (sym (sending_kept side s log j k) ∙ subst (λ (sd : Side). has_sending_now sd (session_now s) j ≡ true) side-is h);
+          (sym (sending_kept side s log j k) ∙ subst (λ (sd : Side). has_sending_now sd (session_of_table s) j ≡ true) side-is h);
     }
 
     pub may_plan : (call : Call) → may_call side log call ≡ true → MayPlan d.inbox.transport d.state s call
     may_plan call m = record {
       sending = sending-there;
-      session = subst OnSessionStream (sym session-is) (established_on side log r (established (calls_of log)) refl);
+      session = subst OnSessionStream (sym session-is) (established_on side log r (established_session (calls_of log)) refl);
       handshake = handshake-fits;
       answer = may-answer call m;
     }
 
     pub planned_by_log : (call : Call) (p : Result code.Plan OutOfMemory) → may_call side log call ≡ true
-        → ((first : Bool) → MayPlan d.inbox.transport d.state s call → IfOk p (λ x. planned x ≡ plan_of (facts_now d.inbox.transport (answers_now d.inbox.transport d.state first s.request_end walk)) (session_now s) call))
-        → IfOk p (λ x. planned x ≡ plan_of (facts_of side log) (session_state log) call)
-    planned_by_log call p m g = subst (λ (q : Plan). IfOk p (λ x. planned x ≡ q)) (plan_same side log d.inbox.transport answered tells s k call m) (g (is_first log) (may_plan call m))
+        → ((first : Bool) → MayPlan d.inbox.transport d.state s call → IfOk p (λ x. defined_plan x ≡ plan_of (facts_now d.inbox.transport (answers_now d.inbox.transport d.state first s.request_end walk)) (session_of_table s) call))
+        → IfOk p (λ x. defined_plan x ≡ plan_of (facts_of side log) (session_state log) call)
+    planned_by_log call p m g = subst (λ (q : Plan). IfOk p (λ x. defined_plan x ≡ q)) (plan_same side log d.inbox.transport answered tells s k call m) (g (is_first log) (may_plan call m))

@@ -1,7 +1,7 @@
 -- What a session keeps, and of which logs.
 use Rattle.std.specs.Prelude.{[], ◌≡◌, Bool}
 use Rattle.wt_table.specs.Table.{KeepsCalls, TableValue}
-use Rattle.wt_plan.specs.Tells.{KeepsRequestEnd, session_now}
+use Rattle.wt_plan.specs.Tells.{KeepsRequestEnd, session_of_table}
 use Rattle.wt_session_spec.specs.CallFacts.{facts_of}
 use Rattle.wt_session_spec.specs.Plans.{may_call_now}
 use Rattle.wt_spec.specs.Answers.{is_first}
@@ -22,4 +22,4 @@ pub record Keeps (side : Side) (s : SessionValue) (log : Log) : Type 0 where
 
 -- which call may come, by what is kept
 abbrev pub may_call_of : Side → SessionValue → Call → Bool
-may_call_of side s call = may_call_now (record (facts_of side []) { is_first = s.is_first }) (session_now s.table) call
+may_call_of side s call = may_call_now (record (facts_of side []) { is_first = s.is_first }) (session_of_table s.table) call

@@ -1,7 +1,7 @@
 //! Which call may come, by what is kept.
 ghost use Rattle.std.specs.Prelude.{◌≡◌};
 ghost use Rattle.wt_table.specs.Table.{handshake_as};
-ghost use Rattle.wt_plan.specs.Tells.{session_now};
+ghost use Rattle.wt_plan.specs.Tells.{session_of_table};
 ghost use Rattle.wt_session_spec.specs.CallFacts.{CallFacts};
 ghost use Rattle.wt_session_spec.specs.Plans.{may_call_now, may_respond_now};
 ghost use Rattle.wt_spec.specs.Answers.{is_client};
@@ -48,14 +48,14 @@ fn is_continuable(handshake: &Handshake) -> bool
 }
 
 fn may_respond(side: Side, s: &SessionTable) -> bool
-    ensures { (f : CallFacts) → f.side ≡ side → result ≡ may_respond_now f (session_now s.now) }
+    ensures { (f : CallFacts) → f.side ≡ side → result ≡ may_respond_now f (session_of_table s.now) }
 {
     !is_client(side) && awaits_answer(s.handshake())
 }
 
 /// Whether the call may come now, where nothing happened yet or something did.
 pub fn may_call(side: Side, is_first: bool, s: &SessionTable, call: &Call) -> bool
-    ensures { (f : CallFacts) → f.side ≡ side → f.is_first ≡ is_first → result ≡ may_call_now f (session_now s.now) call.now }
+    ensures { (f : CallFacts) → f.side ≡ side → f.is_first ≡ is_first → result ≡ may_call_now f (session_of_table s.now) call.now }
 {
     match call {
         Call::Connect { .. } => is_client(side) && is_first,

@@ -3,7 +3,7 @@ ghost use Rattle.std.specs.Prelude.{◌≡◌, ◌∷◌, IfOk, List, OnOk};
 ghost use Rattle.wt_driver_state.specs.OfLog.{FollowsIfOk, OfEachLog, Tells};
 ghost use Rattle.wt_driver_state.specs.Tie.{Follows};
 ghost use Rattle.wt_driver_spec.specs.Asking.{MayBeCalled};
-ghost use Rattle.wt_plan.specs.Planned.{planned};
+ghost use Rattle.wt_plan.specs.Planned.{defined_plan};
 ghost use Rattle.wt_table.specs.Table.{KeepsCalls};
 ghost use Rattle.wt_seam_spec.specs.Streams.{peer_bi, peer_uni};
 ghost use Rattle.wt_calls.specs.Given.{given_in, with_given};
@@ -138,9 +138,9 @@ pub fn perform(
     s: &mut SessionTable,
     plan: Plan,
 ) -> Result<Reply, OutOfMemory>
-    ensures reply { Tells d.old (λ side log. MayPerform side log (planned plan) → IfOk result (λ r. r ≡ (perform side log (planned plan)).reply)) }
-    ensures log { OfEachLog d.old (λ side log taken. MayPerform side log (planned plan) → OnOk result (Follows side d.new (perform side log (planned plan)).log taken)) }
-    ensures session { Tells d.old (λ side log. KeepsCalls s.old (calls_of log) → OnOk result (KeepsCalls s.new (calls_of (perform side log (planned plan)).log))) }
+    ensures reply { Tells d.old (λ side log. MayPerform side log (defined_plan plan) → IfOk result (λ r. r ≡ (perform side log (defined_plan plan)).reply)) }
+    ensures log { OfEachLog d.old (λ side log taken. MayPerform side log (defined_plan plan) → OnOk result (Follows side d.new (perform side log (defined_plan plan)).log taken)) }
+    ensures session { Tells d.old (λ side log. KeepsCalls s.old (calls_of log) → OnOk result (KeepsCalls s.new (calls_of (perform side log (defined_plan plan)).log))) }
 {
     match plan {
         Plan::Step { own, call, reply } => {

@@ -2,8 +2,8 @@
 ghost use Rattle.std.specs.Prelude.{◌≡◌, [], IfOk, OnOk, false, is_some, true, ℕ};
 ghost use Rattle.wt_driver_state.specs.Tie.{Follows};
 ghost use Rattle.wt_laws.specs.Reachable.{IsReachable};
-ghost use Rattle.wt_spec.specs.Turns.{is_call};
-ghost use Rattle.wt_plan.specs.Planned.{planned};
+ghost use Rattle.wt_turn.specs.Turns.{is_call};
+ghost use Rattle.wt_plan.specs.Planned.{defined_plan};
 ghost use Rattle.wt_table.specs.Table.{KeepsCalls, handshake_as};
 ghost use Rattle.wt_plan.specs.Tells.{KeepsRequestEnd};
 ghost use Rattle.wt_call_answers.specs.Keeping.{Keeps, may_call_of};
@@ -83,7 +83,7 @@ fn planned_call(
     call: &Call,
 ) -> Result<Plan, OutOfMemory>
     ensures { (side : Side) (log : Log) (taken : ℕ) → Follows side d.now log taken → KeepsCalls s.now (calls_of log) → KeepsRequestEnd side log s.now.request_end → IsReachable side log → may_call side log call.now ≡ true → KnowsResponse side log walk
-        → IfOk result (λ p. planned p ≡ plan_of (facts_of side log) (session_state log) call.now) }
+        → IfOk result (λ p. defined_plan p ≡ plan_of (facts_of side log) (session_state log) call.now) }
 {
     plans::plan(alloc, d.inbox().transport(), d, s, walk, call)
 }
@@ -101,7 +101,7 @@ fn is_delivery(call: &Record) -> bool
 /// The plan delivers a request.
 #[tactic(auto, using(wt_calls::proofs::Ends::step_delivers))]
 fn delivers_request(plan: &Plan) -> bool
-    ensures { result ≡ delivers_request (planned plan.now) }
+    ensures { result ≡ delivers_request (defined_plan plan.now) }
 {
     match plan {
         Plan::Step { call, .. } => is_delivery(call),
@@ -111,7 +111,7 @@ fn delivers_request(plan: &Plan) -> bool
 
 /// Where the delivered request ends, once this plan is performed.
 fn request_end(d: &Driver, s: &SessionTable, plan: &Plan) -> usize
-    ensures { (side : Side) (log : Log) (taken : ℕ) (call : Call) → Follows side d.now log taken → KeepsRequestEnd side log s.now.request_end → IsReachable side log → may_call side log call ≡ true → planned plan.now ≡ plan_of (facts_of side log) (session_state log) call
+    ensures { (side : Side) (log : Log) (taken : ℕ) (call : Call) → Follows side d.now log taken → KeepsRequestEnd side log s.now.request_end → IsReachable side log → may_call side log call ≡ true → defined_plan plan.now ≡ plan_of (facts_of side log) (session_state log) call
         → KeepsRequestEnd side (call_effect side log call).log result }
 {
     let (_, kept) = s.requested();

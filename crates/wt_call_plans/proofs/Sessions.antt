@@ -1,7 +1,7 @@
 -- A call on the established session is planned as such.
 use Rattle.std.proofs.Common.{◌≡◌, IfOk, Result, Some, subst, true, ℕ}
 use Rattle.wt_plan.specs.FactsNow.{DriverAnswers, facts_now}
-use Rattle.wt_plan.specs.Planned.{planned}
+use Rattle.wt_plan.specs.Planned.{defined_plan}
 use Rattle.wt_plan.specs.declared.plan.Plan as code
 use Rattle.wt_seam.specs.State.{TransportState}
 use Rattle.wt_session_spec.specs.CallFacts.{CallFacts}
@@ -14,9 +14,9 @@ use Rattle.wt_spec.specs.Connection.{stream_header}
 use Rattle.wt_wire.specs.declared.error.OutOfMemory.{OutOfMemory}
 
 pub in_session : (t : TransportState) (d : DriverAnswers) (call : ℕ → Plan) (id at k : ℕ) (r : Result code.Plan OutOfMemory) → d.session ≡ Some (id, at)
-    → IfOk r (λ p. planned p ≡ call k) → k ≡ id → IfOk r (λ p. planned p ≡ with_session (facts_now t d) call)
-in_session t d call id at k r h e same = rw h (subst (λ (j : ℕ). IfOk r (λ p. planned p ≡ call j)) same e)
+    → IfOk r (λ p. defined_plan p ≡ call k) → k ≡ id → IfOk r (λ p. defined_plan p ≡ with_session (facts_now t d) call)
+in_session t d call id at k r h e same = rw h (subst (λ (j : ℕ). IfOk r (λ p. defined_plan p ≡ call j)) same e)
 
 pub opening_polled : (f : CallFacts) (s : SessionState) (k session : ℕ) (r : Result code.Plan OutOfMemory) → is_opening_now s k ≡ true
-    → IfOk r (λ p. planned p ≡ header_left f k (left_of f k (stream_header k session))) → IfOk r (λ p. planned p ≡ poll_plan f s k session)
+    → IfOk r (λ p. defined_plan p ≡ header_left f k (left_of f k (stream_header k session))) → IfOk r (λ p. defined_plan p ≡ poll_plan f s k session)
 opening_polled f s k session r h e = rw h e

@@ -5,7 +5,7 @@ use Rattle.wt_driver_state.specs.DriverValue.{DriverValue}
 use Rattle.wt_driver_state.specs.Tie.{Follows, untaken_since}
 use Rattle.wt_driver_spec.proofs.Accepting.{accept-is, receive-is}
 use Rattle.wt_driver_spec.specs.Asking.{MayBeCalled, SparesControl, SparesControlAll}
-use Rattle.wt_driver_spec.specs.Due.{accepted, received, reply_or}
+use Rattle.wt_driver_spec.specs.Due.{accept_outcome, receive_outcome, reply_or}
 use Rattle.wt_plan.specs.DriverAnswers.{error_now}
 use Rattle.wt_table.specs.Table.{KeepsCalls, TableValue}
 use Rattle.wt_seam.specs.State.{TransportState}
@@ -61,46 +61,46 @@ repolled t calls x = record { handshake_is = x.handshake_is; requested_is = x.re
 -- ---- accepts
 
 module _ (side : Side) (reply : ℕ → Reply) (kind s : ℕ) (log : Log) where
-  pub accept_log : (accept_stream side reply kind log s).log ≡ log_and_flush side (accepted side kind log s).state (Called Polled)
+  pub accept_log : (accept_stream side reply kind log s).log ≡ log_and_flush side (accept_outcome side kind log s).state (Called Polled)
   accept_log = ap (λ (e : Effect). e.log) (accept-is side reply kind s (suc (peer_count side (events_of log) kind)) log)
 
-  pub accept_told : (item : Option ℕ) (r : Reply) → r ≡ reply_or reply (pending_or_failed side (accepted side kind log s).state) item → item ≡ (accepted side kind log s).given
+  pub accept_told : (item : Option ℕ) (r : Reply) → r ≡ reply_or reply (pending_or_failed side (accept_outcome side kind log s).state) item → item ≡ (accept_outcome side kind log s).given
       → r ≡ (accept_stream side reply kind log s).reply
   accept_told item r e f =
-      e ∙ ap (λ i. reply_or reply (pending_or_failed side (accepted side kind log s).state) i) f
+      e ∙ ap (λ i. reply_or reply (pending_or_failed side (accept_outcome side kind log s).state) i) f
       ∙ sym (ap (λ (x : Effect). x.reply) (accept-is side reply kind s (suc (peer_count side (events_of log) kind)) log))
 
-  kept-by : (old new : TableValue) (item : Option ℕ) → (accepted side kind log s).given ≡ item
+  kept-by : (old new : TableValue) (item : Option ℕ) → (accept_outcome side kind log s).given ≡ item
       → ((calls : List CallRecord) → KeepsCalls old calls → KeepsCalls new (Polled ∷ with_given item calls))
-      → KeepsCalls old (calls_of log) → KeepsCalls new (calls_of (accepted side kind log s).state)
+      → KeepsCalls old (calls_of log) → KeepsCalls new (calls_of (accept_outcome side kind log s).state)
   kept-by old new None e f x = unpolled new _ (f _ (passed_theorem side log kind s old x e))
   kept-by old new (Some k) e f x = given_theorem side log kind s k old new x (λ calls y. unpolled new (StreamAccepted k ∷ calls) (f calls y)) e
 
-  pub accept_kept : (old new : TableValue) (item : Option ℕ) → item ≡ (accepted side kind log s).given
+  pub accept_kept : (old new : TableValue) (item : Option ℕ) → item ≡ (accept_outcome side kind log s).given
       → ((calls : List CallRecord) → KeepsCalls old calls → KeepsCalls new (Polled ∷ with_given item calls))
       → KeepsCalls old (calls_of log) → KeepsCalls new (calls_of (accept_stream side reply kind log s).log)
   accept_kept old new item e f x =
-      let same : calls_of (accept_stream side reply kind log s).log ≡ Polled ∷ calls_of (accepted side kind log s).state =
-      ap calls_of accept_log ∙ logged_theorem side (accepted side kind log s).state [] Polled in
+      let same : calls_of (accept_stream side reply kind log s).log ≡ Polled ∷ calls_of (accept_outcome side kind log s).state =
+      ap calls_of accept_log ∙ logged_theorem side (accept_outcome side kind log s).state [] Polled in
       subst (KeepsCalls new) (sym same) (repolled new _ (kept-by old new item (sym e) f x))
 
 -- ---- receives
 
 module _ (side : Side) (s : ℕ) (log : Log) where
-  pub receive_log : (receive_datagram side log s).log ≡ log_and_flush side (received side log s).state (Called Polled)
+  pub receive_log : (receive_datagram side log s).log ≡ log_and_flush side (receive_outcome side log s).state (Called Polled)
   receive_log = ap (λ (e : Effect). e.log) (receive-is side s (suc (length (datagrams_of (events_of log)))) log)
 
-  pub receive_told : (item : Option (List ℕ)) (r : Reply) → r ≡ reply_or replies.Datagram (pending_or_failed side (received side log s).state) item → item ≡ (received side log s).given
+  pub receive_told : (item : Option (List ℕ)) (r : Reply) → r ≡ reply_or replies.Datagram (pending_or_failed side (receive_outcome side log s).state) item → item ≡ (receive_outcome side log s).given
       → r ≡ (receive_datagram side log s).reply
   receive_told item r e f =
-      e ∙ ap (λ i. reply_or replies.Datagram (pending_or_failed side (received side log s).state) i) f
+      e ∙ ap (λ i. reply_or replies.Datagram (pending_or_failed side (receive_outcome side log s).state) i) f
       ∙ sym (ap (λ (x : Effect). x.reply) (receive-is side s (suc (length (datagrams_of (events_of log)))) log))
 
   pub receive_kept : (old new : TableValue) → ((calls : List CallRecord) → KeepsCalls old calls → KeepsCalls new (Polled ∷ calls))
       → KeepsCalls old (calls_of log) → KeepsCalls new (calls_of (receive_datagram side log s).log)
   receive_kept old new f x =
-      let same : calls_of (receive_datagram side log s).log ≡ Polled ∷ calls_of (received side log s).state =
-      ap calls_of receive_log ∙ logged_theorem side (received side log s).state [] Polled in
+      let same : calls_of (receive_datagram side log s).log ≡ Polled ∷ calls_of (receive_outcome side log s).state =
+      ap calls_of receive_log ∙ logged_theorem side (receive_outcome side log s).state [] Polled in
       subst (KeepsCalls new) (sym same) (f _ (received_theorem side log s old x))
 
 -- ---- plans

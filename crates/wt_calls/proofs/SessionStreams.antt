@@ -16,8 +16,8 @@ use Rattle.wt_session_spec.specs.Plan.{Step}
 use Rattle.wt_session_spec.specs.Plans.{plan_of}
 use Rattle.wt_session_spec.specs.SessionState.{is_answering, session_state}
 use Rattle.wt_spec.specs.Answers.{call_effect, is_client, is_first, may_call}
-use Rattle.wt_spec.specs.Driver.{delivers, established}
-use Rattle.wt_spec.specs.Handshake.{HandshakeState, Requested, Responding, deliver, handshake_state, queued_requests, request_fields_of, requested}
+use Rattle.wt_spec.specs.Driver.{delivers, established_session}
+use Rattle.wt_spec.specs.Handshake.{HandshakeState, Requested, Responding, deliver, handshake_state, queued_requests, request_fields_of, requested_stream}
 use Rattle.wt_spec.specs.StreamTable.{Classified}
 use Rattle.wt_told.proofs.Theorems.{call_reached_theorem, first_request_theorem, logged_theorem}
 use Rattle.wt_turn.specs.Log.{CallRecord, Log, RequestDelivered, calls_of}
@@ -45,18 +45,18 @@ module _ (side : Side) (log : Log) (r : IsReachable side log) where
   delivered-on k c d = of-peer side k c (request-bi side log (reached-holds side log r).out.heads k d)
 
   -- the stream of the request that is answered
-  pub requested_on : is_answering (handshake_state (calls_of log)) ≡ true → IsSessionStream (requested (calls_of log))
+  pub requested_on : is_answering (handshake_state (calls_of log)) ≡ true → IsSessionStream (requested_stream (calls_of log))
   requested_on a =
       let h : Reached side log = reached-holds side log r in
       let q = has-one (handshake_state (calls_of log)) a in
-      delivered-on (requested (calls_of log)) (h.out.asked q) (h.out.heads.given.handshakes.has_one q)
+      delivered-on (requested_stream (calls_of log)) (h.out.asked q) (h.out.heads.given.handshakes.has_one q)
 
   on-session : (s at : ℕ) (b : Bool) → is_client side ≡ b → (if b then s == local_bi side else list_any (delivers s) (calls_of log)) ≡ true → IsSessionStream s
   on-session s at true c e = of-client side s c e
   on-session s at false c e = delivered-on s c e
 
   -- that of the established session
-  pub established_on : (o : Option (ℕ × ℕ)) → established (calls_of log) ≡ o → OnSessionStream o
+  pub established_on : (o : Option (ℕ × ℕ)) → established_session (calls_of log) ≡ o → OnSessionStream o
   established_on None e = tt
   established_on (Some s) e = on-session s.0 s.1 (is_client side) refl ((reached-holds side log r).out.whole s.0 s.1 e).0
 

@@ -4,8 +4,8 @@ ghost use Rattle.wt_driver_state.specs.OfLog.{FollowsIfOk, OfEachLog, Tells};
 ghost use Rattle.wt_driver_state.specs.Given.{given_by, payload_by};
 ghost use Rattle.wt_driver_state.specs.Tie.{Follows};
 ghost use Rattle.wt_driver_spec.specs.Asking.{MayBeCalled};
-ghost use Rattle.wt_driver_spec.specs.Due.{accepted, reply_or};
-ghost use Rattle.wt_plan.specs.Planned.{planned};
+ghost use Rattle.wt_driver_spec.specs.Due.{accept_outcome, reply_or};
+ghost use Rattle.wt_plan.specs.Planned.{defined_plan};
 ghost use Rattle.wt_seam_spec.specs.Streams.{peer_bi, peer_uni};
 ghost use Rattle.wt_calls.specs.Given.{given_in, poll_reply, wait_reply};
 ghost use Rattle.wt_session_acts.specs.Performing.{MayPerform, MaySendAll};
@@ -142,7 +142,7 @@ pub fn accept_uni(
 ) -> Result<Poll<Result<StreamId, ConnectionError>>, OutOfMemory>
     ensures reply { Tells d.old (λ side log. IfOk result (λ p. poll_reply replies.Uni p ≡ (accept_stream side replies.Uni (peer_uni side) log session).reply)) }
     ensures log { FollowsIfOk result d.old d.new (λ side log. (accept_stream side replies.Uni (peer_uni side) log session).log) }
-    ensures given { Tells d.old (λ side log. IfOk result (λ p. given_in p ≡ (accepted side (peer_uni side) log session).given)) }
+    ensures given { Tells d.old (λ side log. IfOk result (λ p. given_in p ≡ (accept_outcome side (peer_uni side) log session).given)) }
 {
     let given = given_by(d.accept_uni_id(session)?);
     let answer = accept_answer(alloc, d, given)?;
@@ -162,7 +162,7 @@ pub fn accept_bi(
 ) -> Result<Poll<Result<StreamId, ConnectionError>>, OutOfMemory>
     ensures reply { Tells d.old (λ side log. IfOk result (λ p. poll_reply replies.Bi p ≡ (accept_stream side replies.Bi (peer_bi side) log session).reply)) }
     ensures log { FollowsIfOk result d.old d.new (λ side log. (accept_stream side replies.Bi (peer_bi side) log session).log) }
-    ensures given { Tells d.old (λ side log. IfOk result (λ p. given_in p ≡ (accepted side (peer_bi side) log session).given)) }
+    ensures given { Tells d.old (λ side log. IfOk result (λ p. given_in p ≡ (accept_outcome side (peer_bi side) log session).given)) }
 {
     let given = given_by(d.accept_bi_id(session)?);
     let answer = accept_answer(alloc, d, given)?;
@@ -263,8 +263,8 @@ pub fn datagram_reply(answer: Poll<Result<Piece, ConnectionError>>) -> Reply
 ///
 /// `OutOfMemory` where a part of it found no memory.
 pub fn perform(alloc: Global, d: &mut Driver, plan: Plan) -> Result<Reply, OutOfMemory>
-    ensures reply { Tells d.old (λ side log. IfOk result (λ r. r ≡ (perform side log (planned plan)).reply)) }
-    ensures log { OfEachLog d.old (λ side log taken. MayPerform side log (planned plan) → OnOk result (Follows side d.new (perform side log (planned plan)).log taken)) }
+    ensures reply { Tells d.old (λ side log. IfOk result (λ r. r ≡ (perform side log (defined_plan plan)).reply)) }
+    ensures log { OfEachLog d.old (λ side log taken. MayPerform side log (defined_plan plan) → OnOk result (Follows side d.new (perform side log (defined_plan plan)).log taken)) }
 {
     match plan {
         Plan::Step { own, call, reply } => {

@@ -9,18 +9,13 @@ module _ {T : Type 0} where
   -- one call: what it receives and what then waits is what waited and what it sends
   order_by_call : (end : ChannelEnd) (call : ChannelCall T) (channel : Channel T) →
       received_by end call channel ++ queue_of end (after_call call channel) ≡ queue_of end channel ++ sent_by end call channel
-  order_by_call Left (Send Left value) channel = grind (arith, common_steps)
-  order_by_call Left (Send Right value) channel = grind (arith, common_steps)
   order_by_call Right (Send Left value) channel = grind (arith, common_steps)
   order_by_call Right (Send Right value) channel = grind (arith, common_steps)
-  order_by_call Left (Recv Left) channel = grind (arith, common_steps)
-  order_by_call Left (Recv Right) channel = grind (arith, common_steps)
   order_by_call Right (Recv Left) channel = grind (arith, common_steps)
   order_by_call Right (Recv Right) channel = grind (arith, common_steps)
-  order_by_call Left (Leave Left) channel = grind (arith, common_steps)
-  order_by_call Left (Leave Right) channel = grind (arith, common_steps)
   order_by_call Right (Leave Left) channel = grind (arith, common_steps)
   order_by_call Right (Leave Right) channel = grind (arith, common_steps)
+  order_by_call Left _ channel = grind (arith, common_steps)
 
   order_by_calls : (end : ChannelEnd) (calls : List (ChannelCall T)) (channel : Channel T) →
       all_received end calls channel ++ queue_of end (after_calls calls channel) ≡ queue_of end channel ++ all_sent end calls channel

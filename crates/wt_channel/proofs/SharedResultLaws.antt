@@ -8,10 +8,8 @@ module _ {T : Type 0} where
   -- one call leaves a value that is set
   value_after_call : (call : SharedCall T) (shared : Shared T) (first : T) → shared.value ≡ Some first → (after_call call shared).value ≡ Some first
   value_after_call (Set value) shared first e = grind (arith, common_steps)
-  value_after_call Subscribe shared first e = e
   value_after_call AddSetter shared first e = grind (arith, common_steps)
-  value_after_call LeaveSetter shared first e = e
-  value_after_call LeaveGetter shared first e = e
+  value_after_call _ shared first e = e
 
   -- and so do all of them
   value_after_calls : (later : List (SharedCall T)) (shared : Shared T) (first : T) → shared.value ≡ Some first → (after_calls later shared).value ≡ Some first

@@ -18,8 +18,8 @@ pub data SharedCall (T : Type 0) : Type 0 where
   LeaveGetter : SharedCall T
 
 -- a count that rises by one, and stands still at the end of its 64 bits
-abbrev pub one_more : ℕ → ℕ
-one_more count = min (count + 1) (2 ^ 64 - 1)
+abbrev pub saturating_next : ℕ → ℕ
+saturating_next count = min (count + 1) (2 ^ 64 - 1)
 
 -- a poll for the result, by the value and the count of setters: the value where it is set, None
 -- where it isn't and no setter is left, else Pending
@@ -42,12 +42,12 @@ module _ {T : Type 0} where
 
   -- after a `subscribe`: one more getter
   abbrev pub after_subscribe : Shared T → Shared T
-  after_subscribe shared = record shared { getters = one_more shared.getters }
+  after_subscribe shared = record shared { getters = saturating_next shared.getters }
 
   -- after an `add_setter`: one more setter, where one is left
   abbrev pub after_add_setter : Shared T → Shared T
   after_add_setter shared =
-      if nat_lt 0 shared.setters then record shared { setters = one_more shared.setters } else shared
+      if nat_lt 0 shared.setters then record shared { setters = saturating_next shared.setters } else shared
 
   -- after a `leave_setter`: one setter fewer, where there is one
   abbrev pub after_leave_setter : Shared T → Shared T

@@ -10,15 +10,15 @@ use Rattle.wt_script.specs.Script.{script_of, with_lines}
 use Rattle.wt_script.specs.Words.{is_word}
 use Rattle.wt_commands.specs.declared.command.Command.{Command}
 use Rattle.wt_commands.specs.declared.command.Command.TheVariants.{Large, Trace}
-use Rattle.wt_commands.specs.Generate.{generated}
+use Rattle.wt_commands.specs.Generate.{generated_turns}
 
 -- a number of streams: from 1 to 10,000
-abbrev pub stream_count : ℕ → Option ℕ
-stream_count number = if nat_lt 0 number && nat_lt number 10001 then Some number else None
+abbrev pub bounded_count : ℕ → Option ℕ
+bounded_count number = if nat_lt 0 number && nat_lt number 10001 then Some number else None
 
 -- the number of streams that a word spells
 abbrev pub streams_of : List ℕ → Option ℕ
-streams_of word = option_and_then stream_count (count_of word)
+streams_of word = option_and_then bounded_count (count_of word)
 
 -- what the words ask for: `trace`, or `large` and a number of streams; None where they have no such form
 abbrev pub command_of : List (List ℕ) → Option Command
@@ -32,12 +32,12 @@ abbrev pub server_turns : List ℕ → Result Script ScriptRefused
 server_turns input = with_lines (record { side = Server; turns = [] }) input
 
 -- a script that was read, with these turns before its own
-abbrev pub with_first : List Turn → Result Script ScriptRefused → Result Script ScriptRefused
-with_first first (Err refused) = Err refused
-with_first first (Ok script) = Ok (record { side = script.side; turns = first ++ script.turns })
+abbrev pub with_first_turn : List Turn → Result Script ScriptRefused → Result Script ScriptRefused
+with_first_turn first (Err refused) = Err refused
+with_first_turn first (Ok script) = Ok (record { side = script.side; turns = first ++ script.turns })
 
 -- the script that a command makes of an input: of a trace the script that it is, else the generated turns of a server and,
 -- after them, those of its lines
 unfoldable pub command_script : Command → List ℕ → Result Script ScriptRefused
 command_script Trace input = script_of input
-command_script (Large streams) input = with_first (generated streams) (server_turns input)
+command_script (Large streams) input = with_first_turn (generated_turns streams) (server_turns input)

@@ -28,8 +28,8 @@ session_turns =
 
 -- the id of the stream of this number, from 0: the client's unidirectional streams after its control stream
 -- (RFC 9000, section 2.1)
-abbrev pub stream_id : ℕ → ℕ
-stream_id number = 6 + 4 * number
+abbrev pub client_stream_id : ℕ → ℕ
+client_stream_id number = 6 + 4 * number
 
 -- so many bytes, of which the one of index j, from 0, is (number + j) mod 256
 abbrev pub counted_bytes : ℕ → ℕ → List ℕ
@@ -47,11 +47,11 @@ stream_bytes number = (0x40 ∷ 0x54 ∷ 0x00 ∷ []) ++ stream_payload number
 abbrev pub stream_turns : ℕ → List Turn
 stream_turns number =
     turns.PeerUni
-    ∷ turns.Bytes (stream_id number) (stream_bytes number)
-    ∷ turns.End (stream_id number)
+    ∷ turns.Bytes (client_stream_id number) (stream_bytes number)
+    ∷ turns.End (client_stream_id number)
     ∷ turns.Call calls.AcceptUni
-    ∷ turns.Call (calls.Read (stream_id number) 200)
-    ∷ turns.Call (calls.Read (stream_id number) 200)
+    ∷ turns.Call (calls.Read (client_stream_id number) 200)
+    ∷ turns.Call (calls.Read (client_stream_id number) 200)
     ∷ []
 
 -- the turns of so many streams, one after another
@@ -60,5 +60,5 @@ all_stream_turns zero = []
 all_stream_turns (suc number) = all_stream_turns number ++ stream_turns number
 
 -- the whole run with so many streams
-abbrev pub generated : ℕ → List Turn
-generated streams = session_turns ++ all_stream_turns streams
+abbrev pub generated_turns : ℕ → List Turn
+generated_turns streams = session_turns ++ all_stream_turns streams

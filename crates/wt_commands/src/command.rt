@@ -1,6 +1,6 @@
 //! What the program is asked to do.
 ghost use Rattle.std.specs.Prelude.{◌≡◌, ◌≤◌, map, string_bytes};
-ghost use Rattle.wt_commands.specs.Command.{command_of, stream_count, streams_of};
+ghost use Rattle.wt_commands.specs.Command.{command_of, bounded_count, streams_of};
 
 use crate::generate::MOST_STREAMS;
 use std::marker::Model;
@@ -27,7 +27,7 @@ impl Model for StreamCount {
 impl StreamCount {
     /// The count of this number; None exactly where it isn't from 1 to 10,000.
     pub fn new(number: u64) -> Option<StreamCount>
-        ensures { result ≡ stream_count number }
+        ensures { result ≡ bounded_count number }
     {
         if number > 0 && number < 10_001 {
             Some(StreamCount {

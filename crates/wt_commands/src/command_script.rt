@@ -1,6 +1,6 @@
 //! The script that a command makes of the program's input.
 ghost use Rattle.std.specs.Prelude.{◌≡◌, IfOk};
-ghost use Rattle.wt_commands.specs.Command.{command_script, server_turns, with_first};
+ghost use Rattle.wt_commands.specs.Command.{command_script, server_turns, with_first_turn};
 
 use crate::command::Command;
 use crate::generate::generate;
@@ -39,7 +39,7 @@ fn turns_after(
     first: Turns,
     input: &[u8],
 ) -> Result<Result<Script, ScriptRefused>, OutOfMemory>
-    ensures { IfOk result (λ r. r ≡ with_first first (server_turns input.now)) }
+    ensures { IfOk result (λ r. r ≡ with_first_turn first (server_turns input.now)) }
 {
     let begun = Script {
         side: Side::Server,

@@ -1,6 +1,6 @@
 //! A run that is made by rule.
 ghost use Rattle.std.specs.Prelude.{◌≡◌, ◌<◌, ◌≤◌, ◌+◌, ◌*◌, ◌++◌, ℕ, IfOk, OnOk, length};
-ghost use Rattle.wt_commands.specs.Generate.{generated, request_bytes, session_turns, stream_bytes, stream_turns};
+ghost use Rattle.wt_commands.specs.Generate.{generated_turns, request_bytes, session_turns, stream_bytes, stream_turns};
 
 use std::alloc::Global;
 use wt_proto::theorems::byte_strings::request_of_authority_h;
@@ -39,7 +39,7 @@ const REQUEST: [u8; 83] = [
 /// `OutOfMemory` where the list found no memory.
 pub fn generate(alloc: Global, streams: u32) -> Result<Turns, OutOfMemory>
     requires { streams ≤ MOST_STREAMS }
-    ensures { IfOk result (λ turns. turns ≡ generated streams) }
+    ensures { IfOk result (λ turns. turns ≡ generated_turns streams) }
 {
     let mut turns = session(alloc)?;
     for number in 0..streams {
@@ -131,5 +131,5 @@ fn stream_piece(alloc: Global, number: u32) -> Result<Piece, OutOfMemory>
 /// A run with so many streams has seven turns, and six more for each stream.
 #[tactic(auto, using(crate::proofs::GenerateLaws::length_of_generated))]
 pub fn length_of_a_run()
-    ensures { (streams : ℕ) → length (generated streams) ≡ 7 + 6 * streams }
+    ensures { (streams : ℕ) → length (generated_turns streams) ≡ 7 + 6 * streams }
 {}

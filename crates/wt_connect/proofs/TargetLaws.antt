@@ -52,10 +52,7 @@ address_refuses_no_url (Ipv6 ip) port lookup refusal = λ h. cc
 
 outcome_refuses_no_url : (outcome : ConnectOutcome) (address : Addr) (refusal : UrlRefusal) → unless_hindered (outcome_error outcome) address ≢ Err (errors.InvalidUrl refusal)
 outcome_refuses_no_url outcomes.Proceed address refusal = λ h. cc
-outcome_refuses_no_url outcomes.EndpointStopping address refusal = λ h. cc
-outcome_refuses_no_url outcomes.CidsExhausted address refusal = λ h. cc
-outcome_refuses_no_url (outcomes.InvalidServerName name) address refusal = λ h. cc
-outcome_refuses_no_url (outcomes.InvalidRemoteAddress refused) address refusal = λ h. cc
+outcome_refuses_no_url _ address refusal = λ h. cc
 
 -- two steps that don't give an error don't give it together
 neither : {A B E : Type 0} (first : Result A E) (next : A → Result B E) (error : E) →

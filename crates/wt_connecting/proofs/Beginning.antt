@@ -13,7 +13,7 @@ use Rattle.wt_reached.proofs.Theorems.{performs_theorem}
 use Rattle.wt_session_acts.specs.Performing.{MayPerform, MaySendAll}
 use Rattle.wt_session_spec.proofs.Theorems.{planned_theorem}
 use Rattle.wt_session_spec.specs.CallFacts.{facts_of}
-use Rattle.wt_session_spec.specs.ConnectPlans.{dialling}
+use Rattle.wt_session_spec.specs.ConnectPlans.{dial_plan}
 use Rattle.wt_session_spec.specs.Plan.{perform}
 use Rattle.wt_session_spec.specs.Plans.{plan_of}
 use Rattle.wt_session_spec.specs.SessionState.{session_state}
@@ -36,7 +36,7 @@ module _ (side : Side) (log : Log) (text : List ℕ) (headers : Fields) (lookup 
   -- ---- with a target
 
   module _ (target : ConnectTarget) (found : Ok target ≡ target_of text lookup outcome) where
-    plan-of-dial : plan_of (facts_of side log) (session_state log) (calls.Connect (text, headers) lookup outcome) ≡ dialling target.server_name target.authority target.path headers target.address
+    plan-of-dial : plan_of (facts_of side log) (session_state log) (calls.Connect (text, headers) lookup outcome) ≡ dial_plan target.server_name target.authority target.path headers target.address
     unfolding plan_of
     plan-of-dial = sym (with_target text headers lookup outcome target found)
 
@@ -45,7 +45,7 @@ module _ (side : Side) (log : Log) (text : List ℕ) (headers : Fields) (lookup 
     dialled_effect = planned_theorem side log (calls.Connect (text, headers) lookup outcome) ∙ ap (perform side log) plan-of-dial
 
     -- and may be
-    pub may_dial : IsReachable side log → may_call side log (calls.Connect (text, headers) lookup outcome) ≡ true → MayPerform side log (dialling target.server_name target.authority target.path headers target.address)
+    pub may_dial : IsReachable side log → may_call side log (calls.Connect (text, headers) lookup outcome) ≡ true → MayPerform side log (dial_plan target.server_name target.authority target.path headers target.address)
     may_dial reach may = subst (MayPerform side log) plan-of-dial (performs_theorem side log (calls.Connect (text, headers) lookup outcome) reach may)
 
     -- then the connect goes on

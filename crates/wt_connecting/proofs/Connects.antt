@@ -12,7 +12,7 @@ use Rattle.wt_plan.proofs.FactsSame.{facts-same}
 use Rattle.wt_plan.proofs.PlansSame.{connect-same}
 use Rattle.wt_plan.specs.DriverAnswers.{answers_now, error_now}
 use Rattle.wt_plan.specs.FactsNow.{DriverAnswers, facts_now}
-use Rattle.wt_plan.specs.Planned.{planned}
+use Rattle.wt_plan.specs.Planned.{defined_plan}
 use Rattle.wt_plan.specs.Tells.{TellsFacts, driver_facts}
 use Rattle.wt_plan.specs.declared.plan.Plan as code
 use Rattle.wt_proto.specs.ResponseWalk.{response_walk_of}
@@ -26,7 +26,7 @@ use Rattle.wt_seam_spec.specs.Streams.{contents, local_bi}
 use Rattle.wt_session_acts.specs.RecordFacts.{Connects}
 use Rattle.wt_session_spec.proofs.Theorems.{planned_theorem}
 use Rattle.wt_session_spec.specs.CallFacts.{CallFacts, facts_of}
-use Rattle.wt_session_spec.specs.HandshakePlans.{AllOut, Ended, HeadProgress, Refused, Short, abandoned, actions_of_head, awaited, continued_by, continued_connect, failed_connect, left_of, lost_connect, progress_of, request_left, request_plan, request_sent, request_unless, response_read}
+use Rattle.wt_session_spec.specs.HandshakePlans.{AllOut, Ended, HeadProgress, abandon_plan, actions_of_head, wait_plan, continued_by, continued_connect, failed_connect, left_of, lost_connect, head_progress_of, request_left, request_plan, request_sent, request_unless, response_read}
 use Rattle.wt_session_spec.specs.Plan.{Establish, Plan, Step, only_reply, perform, send_and_reply}
 use Rattle.wt_session_spec.specs.Plans.{plan_of}
 use Rattle.wt_session_spec.specs.SessionState.{is_answering, session_state}
@@ -117,17 +117,15 @@ module _ (f : CallFacts) where
   read-planned id own responses.Ended = refl
   read-planned id own responses.Waiting = either f.is_open (send_and_reply own replies.Pending) (failed_connect own (lost_connect f)) refl refl
   read-planned id own (responses.Response fields at) =
-      either (not (has_success fields)) (abandoned f own failures.SessionRejected) _ refl
+      either (not (has_success fields)) (abandon_plan f own failures.SessionRejected) _ refl
       (either f.is_open (Establish own id at) (failed_connect own (failures.ConnectionError f.driver_error)) tt refl)
 
   sent-planned : (p : HeadProgress) (id : ℕ) (own out : List Action) → IsConnectPlan (request_sent p f id own out)
-  sent-planned Ended id own out = refl
-  sent-planned Refused id own out = refl
-  sent-planned Short id own out = refl
   sent-planned AllOut id own out = read-planned id (own ++ out) f.response
+  sent-planned _ id own out = refl
 
   left-planned : (id : ℕ) (own : List Action) (left : List ℕ) → IsConnectPlan (request_left f id own left)
-  left-planned id own left = either (is_empty left) _ _ (read-planned id own f.response) (sent-planned (progress_of f id left) id own (actions_of_head f id left))
+  left-planned id own left = either (is_empty left) _ _ (read-planned id own f.response) (sent-planned (head_progress_of f id left) id own (actions_of_head f id left))
 
   request-planned : (kind : ℕ) (head : List ℕ) → IsConnectPlan (request_plan f kind head)
   request-planned kind head =
@@ -142,9 +140,9 @@ module _ (f : CallFacts) where
 
   connect-planned : (reserved : Option (List ℕ)) (head : List ℕ) → IsConnectPlan (continued_connect f reserved head)
   connect-planned reserved head =
-      either (not f.is_connected) (awaited f f.transport_error) _
+      either (not f.is_connected) (wait_plan f f.transport_error) _
       (either f.is_open (only_reply replies.Pending) (failed_connect [] (failures.ConnectionError f.transport_error)) refl refl)
-      (either f.settings_came (request_unless f reserved head) (awaited f f.driver_error) (unless-planned reserved head)
+      (either f.settings_came (request_unless f reserved head) (wait_plan f f.driver_error) (unless-planned reserved head)
       (either f.is_open (only_reply replies.Pending) (failed_connect [] (failures.ConnectionError f.driver_error)) refl refl))
 
 -- ---- what stands afterwards
@@ -186,17 +184,17 @@ module _ (p : Result code.Plan OutOfMemory) (side : Side) (log : Log) (c : Conne
   -- what is planned by what a driver keeps is planned by the log
   pub planned_by_log : (d : DriverValue) (taken : ℕ) → Follows side d log taken → IsReachable side log → (t : TransportState) → t ≡ d.inbox.transport → (came : Bool) → came ≡ d.state.progress.settings
       → (error : ConnectionError) → error ≡ error_now t d.state.progress.ending → (walk : ResponseWalk) → walk ≡ (driver_facts side log).response → (head : List ℕ) → head ≡ c.head
-      → ((f : DriverAnswers) → t.side ≡ Client → f.settings_came ≡ came → f.driver_error ≡ error → f.response ≡ walk → IfOk p (λ q. planned q ≡ continued_connect (facts_now t f) c.reserved head))
-      → IfOk p (λ q. planned q ≡ continued_connect (facts_of side log) c.reserved c.head)
+      → ((f : DriverAnswers) → t.side ≡ Client → f.settings_came ≡ came → f.driver_error ≡ error → f.response ≡ walk → IfOk p (λ q. defined_plan q ≡ continued_connect (facts_now t f) c.reserved head))
+      → IfOk p (λ q. defined_plan q ≡ continued_connect (facts_of side log) c.reserved c.head)
   planned_by_log d taken f reach t there came came_is error error_is walk walk_told head same g =
       let now =
       g (answers_now d.inbox.transport d.state (is_first log) 0 walk) (ap (λ (u : TransportState). u.side) there ∙ side_now side log reach c s d taken f) (sym came_is)
       (ap (λ (u : TransportState). error_now u d.state.progress.ending) (sym there) ∙ sym error_is) refl in
-      let by_transport = subst (λ (u : TransportState). IfOk p (λ q. planned q ≡ continued_connect (facts_now u (answers_now d.inbox.transport d.state (is_first log) 0 walk)) c.reserved head)) there now in
-      let by_head = subst (λ (h : List ℕ). IfOk p (λ q. planned q ≡ continued_connect (facts_now d.inbox.transport (answers_now d.inbox.transport d.state (is_first log) 0 walk)) c.reserved h)) same by_transport in
-      subst (λ (x : Plan). IfOk p (λ q. planned q ≡ x)) (connect_by_log side log reach c s d taken f walk walk_told) by_head
+      let by_transport = subst (λ (u : TransportState). IfOk p (λ q. defined_plan q ≡ continued_connect (facts_now u (answers_now d.inbox.transport d.state (is_first log) 0 walk)) c.reserved head)) there now in
+      let by_head = subst (λ (h : List ℕ). IfOk p (λ q. defined_plan q ≡ continued_connect (facts_now d.inbox.transport (answers_now d.inbox.transport d.state (is_first log) 0 walk)) c.reserved h)) same by_transport in
+      subst (λ (x : Plan). IfOk p (λ q. defined_plan q ≡ x)) (connect_by_log side log reach c s d taken f walk walk_told) by_head
 
-  module _ (g : IfOk p (λ q. planned q ≡ continued_connect (facts_of side log) c.reserved c.head)) where
+  module _ (g : IfOk p (λ q. defined_plan q ≡ continued_connect (facts_of side log) c.reserved c.head)) where
     -- it is the plan of the poll's call
-    pub planned_call : IfOk p (λ q. planned q ≡ plan_of (facts_of side log) (session_state log) calls.Handshake)
-    planned_call = subst (λ (x : Plan). IfOk p (λ q. planned q ≡ x)) (sym (poll_plan side log c s)) g
+    pub planned_call : IfOk p (λ q. defined_plan q ≡ plan_of (facts_of side log) (session_state log) calls.Handshake)
+    planned_call = subst (λ (x : Plan). IfOk p (λ q. defined_plan q ≡ x)) (sym (poll_plan side log c s)) g

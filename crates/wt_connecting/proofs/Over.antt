@@ -7,7 +7,7 @@ use Rattle.wt_driver_state.specs.Tie.{Follows}
 use Rattle.wt_driver_spec.specs.Asking.{MayBeCalled}
 use Rattle.wt_session_acts.proofs.RecordsMay.{over-made}
 use Rattle.wt_session_spec.specs.Plan.{Establish, perform}
-use Rattle.wt_spec.specs.Driver.{established}
+use Rattle.wt_spec.specs.Driver.{established_session}
 use Rattle.wt_spec.specs.Effect.{log_call}
 use Rattle.wt_told.proofs.Theorems.{logged_theorem}
 use Rattle.wt_turn.specs.Log.{CallRecord, HandshakeOver, Log, Polled, SessionEstablished}
@@ -29,5 +29,5 @@ over_may side d log taken f =
 pub establishes : (side : Side) (log : Log) (own : List Action) (id at : ℕ) → IsEstablished (perform side log (Establish own id at)).log id
 establishes side log own id at = record {
   offset = at;
-  is = ap established (logged_theorem side (log_call side log own (SessionEstablished id at)) [] Polled ∙ ap (λ (rs : List CallRecord). Polled ∷ rs) (logged_theorem side log own (SessionEstablished id at)));
+  is = ap established_session (logged_theorem side (log_call side log own (SessionEstablished id at)) [] Polled ∙ ap (λ (rs : List CallRecord). Polled ∷ rs) (logged_theorem side log own (SessionEstablished id at)));
 }

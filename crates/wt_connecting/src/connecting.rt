@@ -5,7 +5,7 @@ ghost use Rattle.wt_driver_state.specs.Tie.{Follows};
 ghost use Rattle.wt_driver_spec.specs.Asking.{MayBeCalled};
 ghost use Rattle.wt_halves.specs.Answering.{LeadsOn, MayCall, RepliesTo, StandsBehind};
 ghost use Rattle.wt_laws.specs.Reachable.{IsReachable};
-ghost use Rattle.wt_plan.specs.Planned.{planned};
+ghost use Rattle.wt_plan.specs.Planned.{defined_plan};
 ghost use Rattle.wt_plan.specs.Tells.{driver_facts};
 ghost use Rattle.wt_proto.specs.declared.response_walk.ResponseWalk.{ResponseWalk};
 ghost use Rattle.wt_session_acts.specs.Performing.{MaySendAll};
@@ -186,7 +186,7 @@ impl Connecting {
     /// What the next poll does, by the response as far as it came.
     fn plan(&self, alloc: Global, d: &Driver, walk: ResponseWalk) -> Result<Plan, OutOfMemory>
         ensures { (side : Side) (log : Log) (taken : ℕ) → Follows side d.now log taken → IsReachable side log → IsConnecting log self.now → walk ≡ (driver_facts side log).response
-            → IfOk result (λ p. planned p ≡ plan_of (facts_of side log) (session_state log) calls.Handshake) }
+            → IfOk result (λ p. defined_plan p ≡ plan_of (facts_of side log) (session_state log) calls.Handshake) }
     {
         let t = d.inbox().transport();
         let error = driver_error(alloc, t, d)?;

@@ -1,7 +1,7 @@
 -- What a call gives stands for the log behind it: the halves of a stream, and an opening.
-use Rattle.std.specs.Prelude.{[], ◌%◌, ◌&&◌, ◌*◌, ◌+◌, ◌/◌, ◌<◌, ◌==◌, ◌||◌, ◌∷◌, ◌≡◌, ◌≢◌, ◌≤◌, ◌⊎◌, Bool, Err, List, None, Ok, Option, Result, Some, false, if◌then◌else◌, not, true, ℕ}
-use Rattle.std.proofs.Common.{◌∙◌, ap, arith, inl, inr, refl, subst, sym}
-use Rattle.std.proofs.lemmas.Bool.{and_from, and_parts, eq-eqb, eqb-true, ltb-true, not-true, or_left, or_right}
+use Rattle.std.specs.Prelude.{[], ◌%◌, ◌&&◌, ◌*◌, ◌+◌, ◌/◌, ◌<◌, ◌==◌, ◌||◌, ◌∷◌, ◌≡◌, ◌≢◌, ◌≤◌, ◌⊎◌, Bool, Err, List, None, Ok, Result, Some, false, if◌then◌else◌, not, true, ℕ}
+use Rattle.std.proofs.Common.{◌∙◌, ap, arith, refl, subst, sym}
+use Rattle.std.proofs.lemmas.Bool.{and_from, and_parts, eq-eqb, eqb-true, not-true, or_left, or_right}
 use Rattle.std.specs.List.{list_any}
 use Rattle.wt_calls.specs.Given.{poll_reply}
 use Rattle.wt_error.specs.declared.connection_error.ConnectionError.{ConnectionError}
@@ -16,10 +16,10 @@ use Rattle.wt_laws.proofs.StreamLaws.{streams-accepted-rightly}
 use Rattle.wt_laws.proofs.TurnCauses.{reply-is-recorded}
 use Rattle.wt_laws.specs.RecordCauses.{AtEnd, HeaderStopped, OpeningOver, RecordCause}
 use Rattle.wt_laws.specs.Laws.{AcceptedRightly, IsDuring}
-use Rattle.wt_laws.specs.Reachable.{IsReachable, is_among}
-use Rattle.wt_laws.specs.Told.{Logged, NoRecord, OneRecord, Tells, ThenPolled, datagram_told, given_stream, is_quiet, read_piece, request_told, session_told}
+use Rattle.wt_laws.specs.Reachable.{IsReachable}
+use Rattle.wt_laws.specs.Told.{Logged, NoRecord, OneRecord, TellsOf, ThenPolled, datagram_told, given_stream, is_quiet, read_piece, request_told, session_told}
 use Rattle.wt_reached.proofs.Handshaking.{reached-holds}
-use Rattle.wt_seam_spec.specs.Outgoing.{covered, may_open, next_id, opening}
+use Rattle.wt_seam_spec.specs.Outgoing.{bytes_within_credit, may_open, next_id, actions_to_open}
 use Rattle.wt_seam_spec.specs.Joined.{send_of}
 use Rattle.wt_seam_spec.specs.Streams.{local_bi, local_count, local_uni, peer_bi, peer_count, peer_uni, stream_count}
 use Rattle.wt_connection.proofs.Sessions.{may_use}
@@ -27,7 +27,7 @@ use Rattle.wt_connection.proofs.Stays.{any-stays, fails_opening, given-up-same, 
 use Rattle.wt_connection.specs.Openings.{IsOpening, OpeningStream}
 use Rattle.wt_halves.specs.Replies.{IsOneStream, ready_reply}
 use Rattle.wt_connection.specs.Standing.{IfGiven, IfPending, IsEstablished}
-use Rattle.wt_spec.specs.Answers.{call_effect, in_session, is_lawful, log_after}
+use Rattle.wt_spec.specs.Answers.{call_effect, in_session, is_lawful}
 use Rattle.wt_spec.specs.Connection.{accepts_stream, continue_opening, ends_opening, is_opening, open_stream, opened_reply, poll_opening, starts_opening, stream_header}
 use Rattle.wt_spec.specs.Driver.{releases}
 use Rattle.wt_spec.specs.Effect.{Effect, head_left, is_covered, log_call, poll_only, poll_sending, reply_with, transport_error}
@@ -64,7 +64,7 @@ tells-stream k (replies.SendReady j) g = record { loud = refl; no_bytes = refl; 
 tells-stream k (replies.BiReady j) g = record { loud = refl; no_bytes = refl; no_datagram = refl; no_session = refl; no_request = refl }
 tells-stream k _ g = absurd (cc)
 
-told-accepts : (turn : Turn) (k : ℕ) (reply : Reply) → given_stream reply ≡ Some k → TellsStream reply → (r : CallRecord) → Tells turn r reply → accepts_stream k r ≡ true
+told-accepts : (turn : Turn) (k : ℕ) (reply : Reply) → given_stream reply ≡ Some k → TellsStream reply → (r : CallRecord) → TellsOf turn r reply → accepts_stream k r ≡ true
 told-accepts turn k reply g t (StreamAccepted i) q = let e : i ≡ k = cc in eq-eqb i k e
 told-accepts turn k reply g t (BytesRead i n) (piece, e, count, rest) = absurd (let x = t.no_bytes in cc)
 told-accepts turn k reply g t DatagramReceived (piece, e) = absurd (let x = t.no_datagram in cc)
@@ -323,13 +323,13 @@ module _ (side : Side) (log : Log) (r : IsReachable side log) (kind : ℕ) (smal
     where
       at : (c m : Bool)
           → (if c then poll_only side log (replies.Failed (transport_error log)) else
-          (if m then reply_with (log_call side log (opening side log kind) (OpeningStarted (next_id side log kind) s)) (replies.Opening (next_id side log kind)) else poll_only side log replies.Pending)).reply ≡ replies.Opening k
+          (if m then reply_with (log_call side log (actions_to_open side log kind) (OpeningStarted (next_id side log kind) s)) (replies.Opening (next_id side log kind)) else poll_only side log replies.Pending)).reply ≡ replies.Opening k
           → (is_opening (if c then poll_only side log (replies.Failed (transport_error log)) else
-          (if m then reply_with (log_call side log (opening side log kind) (OpeningStarted (next_id side log kind) s)) (replies.Opening (next_id side log kind)) else poll_only side log replies.Pending)).log k ≡ true) × (k % 4 ≡ kind)
+          (if m then reply_with (log_call side log (actions_to_open side log kind) (OpeningStarted (next_id side log kind) s)) (replies.Opening (next_id side log kind)) else poll_only side log replies.Pending)).log k ≡ true) × (k % 4 ≡ kind)
       at true m e = absurd (cc)
       at false true e =
           let same : next ≡ k = cc in
-          (subst (λ (j : ℕ). is_opening (log_call side log (opening side log kind) (OpeningStarted next s)) j ≡ true) same (next-opens (opening side log kind) s), subst (λ (j : ℕ). j % 4 ≡ kind) same next-kind)
+          (subst (λ (j : ℕ). is_opening (log_call side log (actions_to_open side log kind) (OpeningStarted next s)) j ≡ true) same (next-opens (actions_to_open side log kind) s), subst (λ (j : ℕ). j % 4 ≡ kind) same next-kind)
       at false false e = absurd (cc)
 
 small-uni : (side : Side) → local_uni side < 4
@@ -407,7 +407,7 @@ module _ (side : Side) (log : Log) (r : IsReachable side log) (kind : Bool) (o :
   polled c f v =
       if c then reply_with (log_call side log [] (OpeningFailed o.id)) (replies.OpeningFailed openings.NotConnected) else
       (if f then reply_with (log_call side log [] (OpeningFailed o.id)) (replies.OpeningFailed openings.Refused) else
-      (if v then reply_with (log_call side log (send_of o.id left) (StreamAccepted o.id)) (opened_reply o.id) else poll_sending side log (send_of o.id (covered log o.id left)) replies.Pending))
+      (if v then reply_with (log_call side log (send_of o.id left) (StreamAccepted o.id)) (opened_reply o.id) else poll_sending side log (send_of o.id (bytes_within_credit log o.id left)) replies.Pending))
 
   opened-send : (b : Bool) (k : ℕ) → (if b then replies.BiReady o.id else replies.SendReady o.id) ≡ replies.SendReady k → o.id ≡ k
   opened-send true k e = absurd (cc)
@@ -440,7 +440,7 @@ module _ (side : Side) (log : Log) (r : IsReachable side log) (kind : Bool) (o :
   waits-open false true v e = absurd (cc)
   waits-open false false true e = absurd (opened-none (is_bidirectional o.id) e)
   waits-open false false false e =
-      subst (λ (cs : List CallRecord). (list_any (starts_opening o.id) cs && not (list_any (ends_opening o.id) cs)) ≡ true) (sym (calls-logged side log (send_of o.id (covered log o.id left)) Polled)) i.opens
+      subst (λ (cs : List CallRecord). (list_any (starts_opening o.id) cs && not (list_any (ends_opening o.id) cs)) ≡ true) (sym (calls-logged side log (send_of o.id (bytes_within_credit log o.id left)) Polled)) i.opens
 
   sent-own : (k : ℕ) → poll.reply ≡ replies.SendReady k → o.id ≡ k
   sent-own k e = sends-own (not (is_open log)) (is_refused log o.id left) (is_covered log o.id left) k (ap (λ (x : Effect). x.reply) goes_on ∙ e)

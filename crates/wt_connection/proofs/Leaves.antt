@@ -1,6 +1,6 @@
 -- Which call leaves which record: a half is given up by its stop alone, and an opening fails in its poll alone.
 use Rattle.std.specs.Prelude.{[], ◌*◌, ◌++◌, ◌/◌, ◌==◌, ◌||◌, ◌∷◌, ◌≡◌, Bool, Err, List, None, Ok, Option, Result, Some, bytes_eq, codes, false, if◌then◌else◌, is_some, length, nat_lt, not, suc, true, zero, ℕ, ℤ}
-use Rattle.std.proofs.Common.{◌∙◌, ap, refl, sym}
+use Rattle.std.proofs.Common.{◌∙◌, ap, refl}
 use Rattle.std.proofs.lemmas.Bool.{eq-eqb}
 use Rattle.std.specs.List.{list_any}
 use Rattle.url.specs.Parser.{parse_url}
@@ -21,22 +21,22 @@ use Rattle.wt_proto.specs.declared.response_walk.ResponseWalk.TheVariants as res
 use Rattle.wt_seam_spec.specs.Reports.{datagrams_of}
 use Rattle.wt_seam_spec.specs.Streams.{local_bi, local_uni, peer_bi, peer_count, peer_uni}
 use Rattle.wt_session_spec.proofs.Theorems.{planned_theorem}
-use Rattle.wt_session_spec.specs.CallFacts.{CallFacts, facts_of, receiving}
+use Rattle.wt_session_spec.specs.CallFacts.{CallFacts, facts_of, receiving_facts}
 use Rattle.wt_session_spec.specs.ConnectPlans.{dialled_at, dialled_to, dialled_unless}
 use Rattle.wt_session_spec.specs.ConnectionPlans.{close_plan, closed_plan, datagram_by, datagram_if, datagram_plan, header_left, header_sent, opening_plan, poll_plan}
 use Rattle.wt_session_spec.specs.HalfPlans.{exact_plan, finish_plan, priority_plan, read_exact_plan, read_plan, read_record, reset_plan, set_priority_plan, stop_plan, stopped_plan, write_all_plan, write_plan}
-use Rattle.wt_session_spec.specs.HandshakePlans.{AllOut, Ended, HeadProgress, Refused, Short, abandoned, acceptance, actions_of_head, awaited, continued_by, continued_connect, delivery, failed_connect, finished_rejection, handshake_plan, left_of, lost_connect, progress_of, rejection, request_left, request_plan, request_sent, request_unless, response_left, response_read, start_plan}
+use Rattle.wt_session_spec.specs.HandshakePlans.{AllOut, Ended, HeadProgress, Refused, Short, abandon_plan, acceptance, actions_of_head, wait_plan, continued_by, continued_connect, delivery, failed_connect, finished_rejection, left_of, lost_connect, head_progress_of, rejection, request_left, request_plan, request_sent, request_unless, response_left, response_read, start_plan}
 use Rattle.wt_session_spec.specs.Plan.{AcceptBi, AcceptUni, Establish, Plan, Receive, Step, closing_with, fail_with, only_reply, perform, send_and_reply}
 use Rattle.wt_session_spec.specs.Plans.{in_session_now, plan_of, with_half}
 use Rattle.wt_session_spec.specs.SessionState.{SessionState, has_receiving_now, has_sending_now, is_opening_now, session_state}
 use Rattle.wt_spec.specs.Answers.{call_effect}
 use Rattle.wt_spec.specs.Connect.{address_of, outcome_error, port_of}
 use Rattle.wt_spec.specs.Connection.{accept_due, accept_first, give_or_pass, is_for_session, next_datagram, next_due, pass_stream, payload_limit, receive_first, receive_next, receive_or_pass, stream_header}
-use Rattle.wt_spec.specs.Effect.{Effect, is_empty, log_call, pending_or_failed, poll_only}
-use Rattle.wt_spec.specs.Handshake.{Connecting, HandshakeState, Responding, handshake_state, has_success, response_head}
+use Rattle.wt_spec.specs.Effect.{Effect, is_empty, log_call}
+use Rattle.wt_spec.specs.Handshake.{Connecting, HandshakeState, Responding, has_success, response_head}
 use Rattle.wt_spec.specs.StreamTable.{Classified}
-use Rattle.wt_streams.specs.HalfRules.{SendingHalf, is_closed, read_count, read_exact_answer}
-use Rattle.wt_turn.specs.Log.{CallRecord, DatagramPassed, DatagramReceived, Log, OpeningFailed, Polled, PrioritySet, ResetUnsent, ResponseStarted, SessionEstablished, StreamAccepted, StreamGivenUp, StreamPassed, calls_of, events_of}
+use Rattle.wt_streams.specs.HalfRules.{is_closed, read_count, read_exact_answer}
+use Rattle.wt_turn.specs.Log.{CallRecord, DatagramPassed, DatagramReceived, Log, OpeningFailed, Polled, PrioritySet, ResponseStarted, SessionEstablished, StreamAccepted, StreamGivenUp, StreamPassed, calls_of, events_of}
 use Rattle.wt_turn.specs.declared.action.Action.{Action}
 use Rattle.wt_turn.specs.declared.action.Action.TheVariants as actions
 use Rattle.wt_turn.specs.declared.call.Call.{Call}
@@ -97,8 +97,8 @@ module _ (call : Call) where
         (either (is_some (f.sending id).stop || (f.sending id).acknowledged) (fail_with (closing_with f 0) replies.Rejected) (Step [] waiting replies.Pending) refl w)
 
     response-left : (accepts : Bool) (id : ℕ) (left : List ℕ) → Left (response_left accepts f id left waiting)
-    response-left true id left = acceptance-left (progress_of f id left) id (actions_of_head f id left)
-    response-left false id left = rejection-left (progress_of f id left) id (actions_of_head f id left)
+    response-left true id left = acceptance-left (head_progress_of f id left) id (actions_of_head f id left)
+    response-left false id left = rejection-left (head_progress_of f id left) id (actions_of_head f id left)
 
   start-left : (f : CallFacts) (s : SessionState) (accepts : Bool) (head : List ℕ) → Left (start_plan f s accepts head)
   start-left f s accepts head = response-left f (ResponseStarted accepts head) refl accepts s.requested (left_of f s.requested head)
@@ -108,19 +108,17 @@ module _ (call : Call) where
   read-left f id own responses.Ended = refl
   read-left f id own responses.Waiting = either f.is_open (send_and_reply own replies.Pending) (failed_connect own (lost_connect f)) refl refl
   read-left f id own (responses.Response fields at) =
-      either (not (has_success fields)) (abandoned f own connects.SessionRejected) (if f.is_open then Establish own id at else failed_connect own (connects.ConnectionError f.driver_error)) refl
+      either (not (has_success fields)) (abandon_plan f own connects.SessionRejected) (if f.is_open then Establish own id at else failed_connect own (connects.ConnectionError f.driver_error)) refl
       (either f.is_open (Establish own id at) (failed_connect own (connects.ConnectionError f.driver_error)) tt refl)
 
   sent-left : (p : HeadProgress) (f : CallFacts) (id : ℕ) (own out : List Action) → Left (request_sent p f id own out)
-  sent-left Ended f id own out = refl
-  sent-left Refused f id own out = refl
-  sent-left Short f id own out = refl
   sent-left AllOut f id own out = read-left f id (own ++ out) f.response
+  sent-left _ f id own out = refl
 
   request-left : (f : CallFacts) (id : ℕ) (own : List Action) (left : List ℕ) → Left (request_left f id own left)
   request-left f id own left =
-      either (is_empty left) (response_read f id own f.response) (request_sent (progress_of f id left) f id own (actions_of_head f id left)) (read-left f id own f.response)
-      (sent-left (progress_of f id left) f id own (actions_of_head f id left))
+      either (is_empty left) (response_read f id own f.response) (request_sent (head_progress_of f id left) f id own (actions_of_head f id left)) (read-left f id own f.response)
+      (sent-left (head_progress_of f id left) f id own (actions_of_head f id left))
 
   request-planned-left : (f : CallFacts) (kind : ℕ) (head : List ℕ) → Left (request_plan f kind head)
   request-planned-left f kind head =
@@ -130,7 +128,7 @@ module _ (call : Call) where
       (either (not f.is_open) (failed_connect [] (lost_connect f)) (if f.may_open kind then request_left f kind opened left else only_reply replies.Pending) refl
       (either (f.may_open kind) (request_left f kind opened left) (only_reply replies.Pending) (request-left f kind opened left) refl))
 
-  awaited-left : (f : CallFacts) (e : ConnectionError) → Left (awaited f e)
+  awaited-left : (f : CallFacts) (e : ConnectionError) → Left (wait_plan f e)
   awaited-left f e = either f.is_open (only_reply replies.Pending) (failed_connect [] (connects.ConnectionError e)) refl refl
 
   unless-left : (f : CallFacts) (reserved : Option (List ℕ)) (head : List ℕ) → Left (request_unless f reserved head)
@@ -139,8 +137,8 @@ module _ (call : Call) where
 
   connecting-left : (f : CallFacts) (reserved : Option (List ℕ)) (head : List ℕ) → Left (continued_connect f reserved head)
   connecting-left f reserved head =
-      either (not f.is_connected) (awaited f f.transport_error) (if f.settings_came then request_unless f reserved head else awaited f f.driver_error) (awaited-left f f.transport_error)
-      (either f.settings_came (request_unless f reserved head) (awaited f f.driver_error) (unless-left f reserved head) (awaited-left f f.driver_error))
+      either (not f.is_connected) (wait_plan f f.transport_error) (if f.settings_came then request_unless f reserved head else wait_plan f f.driver_error) (awaited-left f f.transport_error)
+      (either f.settings_came (request_unless f reserved head) (wait_plan f f.driver_error) (unless-left f reserved head) (awaited-left f f.driver_error))
 
   handshake-left : (f : CallFacts) (s : SessionState) (h : HandshakeState) → Left (continued_by h f s)
   handshake-left f s (Responding accepts head) = response-left f Polled refl accepts s.requested (left_of f s.requested head)
@@ -214,7 +212,7 @@ header-polled AllOut k own = refl
 poll-left : (f : CallFacts) (s : SessionState) (k session : ℕ) → Left (calls.PollOpening k) (poll_plan f s k session)
 poll-left f s k session =
     let left = left_of f k (stream_header k session) in
-    either (calls.PollOpening k) (is_opening_now s k) (header_left f k left) (only_reply replies.NoStream) (header-polled (progress_of f k left) k (actions_of_head f k left)) refl
+    either (calls.PollOpening k) (is_opening_now s k) (header_left f k left) (only_reply replies.NoStream) (header-polled (head_progress_of f k left) k (actions_of_head f k left)) refl
 
 -- every call may leave what its plan records
 pub plan-left : (f : CallFacts) (s : SessionState) (call : Call) → Left call (plan_of f s call)
@@ -245,8 +243,8 @@ plan-left f s (calls.Stopped id) = half-left (calls.Stopped id) (has_sending_now
 plan-left f s (calls.Priority id) = half-left (calls.Priority id) (has_sending_now f.side s id) (priority_plan f id) refl
 plan-left f s (calls.SetPriority id priority) = half-left (calls.SetPriority id priority) (has_sending_now f.side s id) (set_priority_plan f id priority) (set-left (calls.SetPriority id priority) f id priority)
 plan-left f s (calls.ResetSend id code) = half-left (calls.ResetSend id code) (has_sending_now f.side s id) (reset_plan f id code) (reset-left (calls.ResetSend id code) f id code)
-plan-left f s (calls.Read id size) = half-left (calls.Read id size) (has_receiving_now f.side s id) (read_plan f id size) (read-recorded (calls.Read id size) id (read_count (receiving f id) size))
-plan-left f s (calls.ReadExact id size) = half-left (calls.ReadExact id size) (has_receiving_now f.side s id) (read_exact_plan f id size) (exact-left (calls.ReadExact id size) id size (f.unread id) (read_exact_answer f.is_open (receiving f id) size))
+plan-left f s (calls.Read id size) = half-left (calls.Read id size) (has_receiving_now f.side s id) (read_plan f id size) (read-recorded (calls.Read id size) id (read_count (receiving_facts f id) size))
+plan-left f s (calls.ReadExact id size) = half-left (calls.ReadExact id size) (has_receiving_now f.side s id) (read_exact_plan f id size) (exact-left (calls.ReadExact id size) id size (f.unread id) (read_exact_answer f.is_open (receiving_facts f id) size))
 plan-left f s (calls.StopRecv id code) = half-left (calls.StopRecv id code) (has_receiving_now f.side s id) (stop_plan f id code) (eq-eqb id id refl)
 
 -- ---- what holds of no record that a call may leave is as it was

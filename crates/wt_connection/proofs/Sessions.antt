@@ -1,16 +1,16 @@
 -- The calls on the established session: their plans are those by the log, and what their replies may be.
-use Rattle.std.specs.Prelude.{[], ◌/◌, ◌∷◌, ◌≡◌, Bool, List, None, Option, Some, false, if◌then◌else◌, length, nat_lt, not, true, ℕ}
+use Rattle.std.specs.Prelude.{[], ◌/◌, ◌∷◌, ◌≡◌, Bool, List, Option, Some, false, if◌then◌else◌, length, nat_lt, not, true, ℕ}
 use Rattle.std.proofs.Common.{◌∙◌, ap, refl, subst, sym}
 use Rattle.wt_halves.proofs.Told.{facts_told, leads, told}
 use Rattle.wt_connection.specs.Openings.{IsOpening, OpeningStream, opening_in, ready_in}
-use Rattle.wt_halves.specs.Replies.{closed_in, closed_reply, ready_reply, sent_in, sent_reply}
+use Rattle.wt_halves.specs.Replies.{closed_in, closed_poll_reply, ready_reply, sent_in, sent_reply}
 use Rattle.wt_connection.specs.Standing.{IsEstablished}
 use Rattle.wt_driver_state.specs.DriverValue.{DriverValue}
 use Rattle.wt_driver_state.specs.Tie.{Follows}
 use Rattle.wt_laws.specs.Reachable.{IsReachable}
 use Rattle.wt_message.specs.Datagram.{datagram_bytes}
 use Rattle.wt_plan.specs.FactsNow.{DriverAnswers, facts_now}
-use Rattle.wt_plan.specs.Planned.{planned}
+use Rattle.wt_plan.specs.Planned.{defined_plan}
 use Rattle.wt_plan.specs.declared.plan.Plan as planning
 use Rattle.wt_seam.specs.State.{TransportState}
 use Rattle.wt_seam_spec.specs.Streams.{local_bi, local_uni, peer_bi, peer_uni}
@@ -18,7 +18,7 @@ use Rattle.wt_calls.specs.Given.{poll_reply}
 use Rattle.wt_session_spec.proofs.Uses.{same-opening}
 use Rattle.wt_session_spec.specs.CallFacts.{CallFacts, facts_of}
 use Rattle.wt_session_spec.specs.ConnectionPlans.{close_plan, closed_plan, datagram_if, datagram_plan, header_left, header_sent, opening_plan, poll_plan}
-use Rattle.wt_session_spec.specs.HandshakePlans.{AllOut, Ended, HeadProgress, Refused, Short, actions_of_head, left_of, progress_of}
+use Rattle.wt_session_spec.specs.HandshakePlans.{AllOut, HeadProgress, actions_of_head, left_of, head_progress_of}
 use Rattle.wt_session_spec.specs.Plan.{Plan, Step, only_reply, perform, send_and_reply}
 use Rattle.wt_session_spec.specs.Plans.{in_session_now, plan_of, with_session}
 use Rattle.wt_session_spec.specs.SessionState.{session_state}
@@ -70,10 +70,8 @@ sent-within side log bytes true = refl
 sent-within side log bytes false = refl
 
 sent-by : (side : Side) (log : Log) (bytes : List ℕ) (fact : Option DatagramFact) → SentComes side log (datagram_if bytes fact)
-sent-by side log bytes None = refl
-sent-by side log bytes (Some facts.Disabled) = refl
-sent-by side log bytes (Some facts.Unsupported) = refl
 sent-by side log bytes (Some (facts.Limit limit)) = sent-within side log bytes (nat_lt limit (length bytes))
+sent-by side log bytes _ = refl
 
 sent-if : (side : Side) (log : Log) (bytes : List ℕ) (fact : Option DatagramFact) (open_ : Bool) → SentComes side log (if open_ then datagram_if bytes fact else only_reply (replies.DatagramFailed datagrams.NotConnected))
 sent-if side log bytes fact true = sent-by side log bytes fact
@@ -83,25 +81,21 @@ pub sent_comes : (f : CallFacts) (side : Side) (log : Log) (payload : List ℕ) 
 sent_comes f side log payload session = sent-if side log (datagram_bytes (session / 4) payload) f.datagram_fact f.is_open
 
 -- of whether and how the connection ended
-pub closed_comes : (f : CallFacts) (side : Side) (log : Log) → let reply = (perform side log (closed_plan f)).reply in closed_reply (closed_in reply) ≡ reply
+pub closed_comes : (f : CallFacts) (side : Side) (log : Log) → let reply = (perform side log (closed_plan f)).reply in closed_poll_reply (closed_in reply) ≡ reply
 closed_comes f side log = at f.is_open
   where
-    at : (open_ : Bool) → let reply : Reply = if open_ then replies.Pending else replies.Closed f.transport_error in closed_reply (closed_in reply) ≡ reply
+    at : (open_ : Bool) → let reply : Reply = if open_ then replies.Pending else replies.Closed f.transport_error in closed_poll_reply (closed_in reply) ≡ reply
     at true = refl
     at false = refl
 
 -- of an opening that goes on
 uni-ready : (side : Side) (log : Log) (p : HeadProgress) (id : ℕ) (own : List Action) → is_bidirectional id ≡ false → let reply = (perform side log (header_sent p id own)).reply in ready_reply replies.SendReady (ready_in reply) ≡ reply
-uni-ready side log Ended id own k = refl
-uni-ready side log Refused id own k = refl
-uni-ready side log Short id own k = refl
 uni-ready side log AllOut id own k = rw k refl
+uni-ready side log _ id own k = refl
 
 bi-ready : (side : Side) (log : Log) (p : HeadProgress) (id : ℕ) (own : List Action) → is_bidirectional id ≡ true → let reply = (perform side log (header_sent p id own)).reply in ready_reply replies.BiReady (ready_in reply) ≡ reply
-bi-ready side log Ended id own k = refl
-bi-ready side log Refused id own k = refl
-bi-ready side log Short id own k = refl
 bi-ready side log AllOut id own k = rw k refl
+bi-ready side log _ id own k = refl
 
 module _ (side : Side) (log : Log) (session : ℕ) (s : IsEstablished log session) where
   pub accept_uni_is : accept_stream side replies.Uni (peer_uni side) log session ≡ call_effect side log calls.AcceptUni
@@ -154,23 +148,23 @@ module _ (side : Side) (log : Log) (session : ℕ) (s : IsEstablished log sessio
     unfolding plan_of
     closed_by_log = ap (λ (x : CallFacts). closed_plan x) (facts_told side d log taken f r) ∙ had (λ k. closed_plan (facts_of side log))
 
-    pub open_uni_planned : (t : TransportState) → t ≡ d.inbox.transport → (p : planning.Plan) → ((x : DriverAnswers) → planned p ≡ opening_plan (facts_now t x) (local_uni t.side) session) → planned p ≡ plan_of (facts_of side log) (session_state log) calls.OpenUni
+    pub open_uni_planned : (t : TransportState) → t ≡ d.inbox.transport → (p : planning.Plan) → ((x : DriverAnswers) → defined_plan p ≡ opening_plan (facts_now t x) (local_uni t.side) session) → defined_plan p ≡ plan_of (facts_of side log) (session_state log) calls.OpenUni
     open_uni_planned t same p e =
         e (told side d log taken f r) ∙ ap (λ (u : TransportState). opening_plan (facts_now u (told side d log taken f r)) (local_uni u.side) session) same ∙ open_uni_by_log
 
-    pub open_bi_planned : (t : TransportState) → t ≡ d.inbox.transport → (p : planning.Plan) → ((x : DriverAnswers) → planned p ≡ opening_plan (facts_now t x) (local_bi t.side) session) → planned p ≡ plan_of (facts_of side log) (session_state log) calls.OpenBi
+    pub open_bi_planned : (t : TransportState) → t ≡ d.inbox.transport → (p : planning.Plan) → ((x : DriverAnswers) → defined_plan p ≡ opening_plan (facts_now t x) (local_bi t.side) session) → defined_plan p ≡ plan_of (facts_of side log) (session_state log) calls.OpenBi
     open_bi_planned t same p e =
         e (told side d log taken f r) ∙ ap (λ (u : TransportState). opening_plan (facts_now u (told side d log taken f r)) (local_bi u.side) session) same ∙ open_bi_by_log
 
-    pub datagram_planned : (payload : List ℕ) → (t : TransportState) → t ≡ d.inbox.transport → (p : planning.Plan) → ((x : DriverAnswers) → planned p ≡ datagram_plan (facts_now t x) payload session) → planned p ≡ plan_of (facts_of side log) (session_state log) (calls.SendDatagram payload)
+    pub datagram_planned : (payload : List ℕ) → (t : TransportState) → t ≡ d.inbox.transport → (p : planning.Plan) → ((x : DriverAnswers) → defined_plan p ≡ datagram_plan (facts_now t x) payload session) → defined_plan p ≡ plan_of (facts_of side log) (session_state log) (calls.SendDatagram payload)
     datagram_planned payload t same p e =
         e (told side d log taken f r) ∙ ap (λ (u : TransportState). datagram_plan (facts_now u (told side d log taken f r)) payload session) same ∙ datagram_by_log payload
 
-    pub close_planned : (code : ℕ) (reason : List ℕ) → (t : TransportState) → t ≡ d.inbox.transport → (p : planning.Plan) → ((x : DriverAnswers) → planned p ≡ close_plan (facts_now t x) code reason) → planned p ≡ plan_of (facts_of side log) (session_state log) (calls.Close code reason)
+    pub close_planned : (code : ℕ) (reason : List ℕ) → (t : TransportState) → t ≡ d.inbox.transport → (p : planning.Plan) → ((x : DriverAnswers) → defined_plan p ≡ close_plan (facts_now t x) code reason) → defined_plan p ≡ plan_of (facts_of side log) (session_state log) (calls.Close code reason)
     close_planned code reason t same p e =
         e (told side d log taken f r) ∙ ap (λ (u : TransportState). close_plan (facts_now u (told side d log taken f r)) code reason) same ∙ close_by_log code reason
 
-    pub closed_planned : (t : TransportState) → t ≡ d.inbox.transport → (p : planning.Plan) → ((x : DriverAnswers) → planned p ≡ closed_plan (facts_now t x)) → planned p ≡ plan_of (facts_of side log) (session_state log) calls.Closed
+    pub closed_planned : (t : TransportState) → t ≡ d.inbox.transport → (p : planning.Plan) → ((x : DriverAnswers) → defined_plan p ≡ closed_plan (facts_now t x)) → defined_plan p ≡ plan_of (facts_of side log) (session_state log) calls.Closed
     closed_planned t same p e =
         e (told side d log taken f r) ∙ ap (λ (u : TransportState). closed_plan (facts_now u (told side d log taken f r))) same ∙ closed_by_log
 
@@ -186,8 +180,8 @@ module _ (side : Side) (log : Log) (session : ℕ) (s : IsEstablished log sessio
     datagram_comes payload = subst (λ (x : Effect). sent_reply (sent_in x.reply) ≡ x.reply) (leads side log (calls.SendDatagram payload) (datagram_plan now payload session) (datagram_by_log payload))
         (sent_comes now side log payload session)
 
-    pub end_comes : let reply = (call_effect side log calls.Closed).reply in closed_reply (closed_in reply) ≡ reply
-    end_comes = subst (λ (x : Effect). closed_reply (closed_in x.reply) ≡ x.reply) (leads side log calls.Closed (closed_plan now) closed_by_log) (closed_comes now side log)
+    pub end_comes : let reply = (call_effect side log calls.Closed).reply in closed_poll_reply (closed_in reply) ≡ reply
+    end_comes = subst (λ (x : Effect). closed_poll_reply (closed_in x.reply) ≡ x.reply) (leads side log calls.Closed (closed_plan now) closed_by_log) (closed_comes now side log)
 
     pub size_replies : replies.Size (payload_limit session d.inbox.transport.datagram_fact) ≡ (call_effect side log calls.MaxDatagramSize).reply
     size_replies = ap (λ (x : Effect). x.reply) (leads side log calls.MaxDatagramSize _ size_by_log)
@@ -208,8 +202,8 @@ module _ (side : Side) (d : DriverValue) (log : Log) (taken : ℕ) (f : Follows 
       ∙ had side log o.session s.session (poll_plan own (session_state log) o.id)
 
   pub poll_planned : (t : TransportState) → t ≡ d.inbox.transport → (p : planning.Plan)
-      → ((x : DriverAnswers) → planned p ≡ header_left (facts_now t x) o.id (left_of (facts_now t x) o.id (stream_header o.id o.session)))
-      → planned p ≡ plan_of (facts_of side log) (session_state log) (calls.PollOpening o.id)
+      → ((x : DriverAnswers) → defined_plan p ≡ header_left (facts_now t x) o.id (left_of (facts_now t x) o.id (stream_header o.id o.session)))
+      → defined_plan p ≡ plan_of (facts_of side log) (session_state log) (calls.PollOpening o.id)
   poll_planned t same p e =
       let own = told side d log taken f r in
       e own ∙ ap (λ (u : TransportState). header_left (facts_now u own) o.id (left_of (facts_now u own) o.id (stream_header o.id o.session))) same ∙ poll_by_log
@@ -220,7 +214,7 @@ module _ (side : Side) (d : DriverValue) (log : Log) (taken : ℕ) (f : Follows 
       let now = facts_now d.inbox.transport (told side d log taken f r) in
       let left = left_of now o.id (stream_header o.id o.session) in
       subst (λ (x : Effect). ready_reply replies.SendReady (ready_in x.reply) ≡ x.reply) (leads side log (calls.PollOpening o.id) (header_left now o.id left) poll_by_log)
-      (uni-ready side log (progress_of now o.id left) o.id (actions_of_head now o.id left) (s.kind ∙ k))
+      (uni-ready side log (head_progress_of now o.id left) o.id (actions_of_head now o.id left) (s.kind ∙ k))
 
   -- or a bidirectional one
   pub bi_ready_comes : kind ≡ true → let reply = (call_effect side log (calls.PollOpening o.id)).reply in ready_reply replies.BiReady (ready_in reply) ≡ reply
@@ -228,4 +222,4 @@ module _ (side : Side) (d : DriverValue) (log : Log) (taken : ℕ) (f : Follows 
       let now = facts_now d.inbox.transport (told side d log taken f r) in
       let left = left_of now o.id (stream_header o.id o.session) in
       subst (λ (x : Effect). ready_reply replies.BiReady (ready_in x.reply) ≡ x.reply) (leads side log (calls.PollOpening o.id) (header_left now o.id left) poll_by_log)
-      (bi-ready side log (progress_of now o.id left) o.id (actions_of_head now o.id left) (s.kind ∙ k))
+      (bi-ready side log (head_progress_of now o.id left) o.id (actions_of_head now o.id left) (s.kind ∙ k))

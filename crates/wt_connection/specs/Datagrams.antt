@@ -10,10 +10,10 @@ pub record SessionDatagram : Type 0 where
   pub bytes : List ℕ
 
 -- the datagram that these bytes carry, by their quarter id and payload
-abbrev pub carried : List ℕ → Result (ℕ × List ℕ) ErrorCode → Result SessionDatagram ErrorCode
-carried bytes (Ok parts) = Ok (record { session = 4 * parts.0; payload = parts.1; bytes = bytes })
-carried bytes (Err e) = Err e
+abbrev pub carried_datagram : List ℕ → Result (ℕ × List ℕ) ErrorCode → Result SessionDatagram ErrorCode
+carried_datagram bytes (Ok parts) = Ok (record { session = 4 * parts.0; payload = parts.1; bytes = bytes })
+carried_datagram bytes (Err e) = Err e
 
 -- the datagram that these bytes carry
 abbrev pub session_datagram : List ℕ → Result SessionDatagram ErrorCode
-session_datagram bytes = carried bytes (datagram_of bytes)
+session_datagram bytes = carried_datagram bytes (datagram_of bytes)

@@ -2,7 +2,7 @@
 use Rattle.std.specs.Prelude.{◌≡◌, Err, Ok, Result, Some, ℕ}
 use Rattle.wt_driver_state.specs.DriverValue.{DriverValue}
 use Rattle.wt_halves.specs.Answering.{StandsBehind}
-use Rattle.wt_spec.specs.Driver.{established}
+use Rattle.wt_spec.specs.Driver.{established_session}
 use Rattle.wt_turn.specs.Log.{Log, calls_of}
 use Rattle.wt_turn.specs.declared.call.Call.{Call}
 use Rattle.wt_turn.specs.declared.poll.Poll.{Poll}
@@ -12,7 +12,7 @@ use Rattle.wt_wire.specs.declared.side.Side.{Side}
 -- the session of this id is established, and its part of the stream begins at an offset
 pub record IsEstablished (log : Log) (session : ℕ) : Type 0 where
   pub offset : ℕ
-  pub is : established (calls_of log) ≡ Some (session, offset)
+  pub is : established_session (calls_of log) ≡ Some (session, offset)
 
 -- the application has this session
 abbrev pub HasSession : ℕ → Side → Log → Type 0

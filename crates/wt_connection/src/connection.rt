@@ -4,7 +4,7 @@ ghost use Rattle.wt_connection.specs.Datagrams.{session_datagram};
 ghost use Rattle.wt_connection.specs.Openings.{HasOpening, opening_in};
 ghost use Rattle.wt_connection.specs.Standing.{Gives, HasSession, IfGiven, IsEstablished};
 ghost use Rattle.wt_halves.specs.Answering.{HasReceiving, HasSending, LeadsOn, RepliesTo};
-ghost use Rattle.wt_halves.specs.Replies.{IsOneStream, closed_in, closed_reply, done_reply, sent_in, sent_reply};
+ghost use Rattle.wt_halves.specs.Replies.{IsOneStream, closed_in, closed_poll_reply, done_reply, sent_in, sent_reply};
 ghost use Rattle.wt_calls.specs.Given.{poll_reply};
 ghost use Rattle.wt_spec.specs.Answers.{call_effect};
 ghost use Rattle.wt_turn.specs.Log.{Log};
@@ -365,7 +365,7 @@ impl Connection {
         alloc: Global,
         d: &mut Driver,
     ) -> Result<Poll<ConnectionError>, OutOfMemory>
-        ensures reply { IfOk result (RepliesTo d.old (HasSession self.old) calls.Closed closed_reply) }
+        ensures reply { IfOk result (RepliesTo d.old (HasSession self.old) calls.Closed closed_poll_reply) }
         ensures log { OnOk result (LeadsOn d.old (HasSession self.old) calls.Closed d.new) }
         ensures same { self.new ≡ self.old }
     {

@@ -2,12 +2,12 @@
 use Rattle.std.proofs.Common.{List, ap, length, ◌≡◌, false, refl, sym, subst, true, ◌∙◌}
 use Rattle.std.specs.Prelude.{IsTrue}
 use Rattle.wt_core.proofs.Below.{driver_fits, session_calls}
-use Rattle.wt_core.specs.CoreState.{CoreState, Refines, may_come, may_turn}
+use Rattle.wt_core.specs.CoreState.{CoreState, Refines, may_come_next, may_turn}
 use Rattle.wt_laws.specs.Reachable.{AfterTurn, IsReachable}
 use Rattle.wt_seam.specs.Step.{fits_now}
 use Rattle.wt_seam_spec.specs.Arrivals.{fits}
 use Rattle.wt_spec.specs.Answers.{actions_since, answer_to, is_lawful, log_after, turn_effect}
-use Rattle.wt_spec.specs.Turns.{is_call}
+use Rattle.wt_turn.specs.Turns.{is_call}
 use Rattle.wt_driver_state.specs.DriverValue.{DriverValue}
 use Rattle.wt_driver_state.specs.Tie.{Follows}
 use Rattle.wt_call_answers.specs.Keeping.{Keeps}
@@ -21,25 +21,12 @@ use Rattle.wt_turn.specs.declared.turn.Turn.TheVariants as turns
 use Rattle.wt_wire.specs.declared.side.Side.{Side}
 
 -- without the mark of a failed turn the test is that of the state
-pub working_may : (k : CoreState) (log : Log) (turn : Turn) → Refines k log → may_turn k turn ≡ may_come k turn
+pub working_may : (k : CoreState) (log : Log) (turn : Turn) → Refines k log → may_turn k turn ≡ may_come_next k turn
 working_may k log turn r = rw (r.works) refl
 
-may_lawful : (k : CoreState) (log : Log) (turn : Turn) → Refines k log → may_come k turn ≡ is_lawful k.side log turn
+may_lawful : (k : CoreState) (log : Log) (turn : Turn) → Refines k log → may_come_next k turn ≡ is_lawful k.side log turn
 may_lawful k log (turns.Call call) r = session_calls k.side k.session log call r.session
-may_lawful k log (turns.Connected uni bi credit datagrams) r = driver_fits k.side k.driver log _ (turns.Connected uni bi credit datagrams) r.driver
-may_lawful k log turns.PeerUni r = driver_fits k.side k.driver log _ turns.PeerUni r.driver
-may_lawful k log turns.PeerBi r = driver_fits k.side k.driver log _ turns.PeerBi r.driver
-may_lawful k log (turns.Bytes id piece) r = driver_fits k.side k.driver log _ (turns.Bytes id piece) r.driver
-may_lawful k log (turns.End id) r = driver_fits k.side k.driver log _ (turns.End id) r.driver
-may_lawful k log (turns.Reset id code) r = driver_fits k.side k.driver log _ (turns.Reset id code) r.driver
-may_lawful k log (turns.Stop id code) r = driver_fits k.side k.driver log _ (turns.Stop id code) r.driver
-may_lawful k log (turns.Acked id) r = driver_fits k.side k.driver log _ (turns.Acked id) r.driver
-may_lawful k log (turns.Datagram piece) r = driver_fits k.side k.driver log _ (turns.Datagram piece) r.driver
-may_lawful k log (turns.MaxUni total) r = driver_fits k.side k.driver log _ (turns.MaxUni total) r.driver
-may_lawful k log (turns.MaxBi total) r = driver_fits k.side k.driver log _ (turns.MaxBi total) r.driver
-may_lawful k log (turns.MaxData id total) r = driver_fits k.side k.driver log _ (turns.MaxData id total) r.driver
-may_lawful k log (turns.DatagramLimit fact) r = driver_fits k.side k.driver log _ (turns.DatagramLimit fact) r.driver
-may_lawful k log (turns.Loss reason) r = driver_fits k.side k.driver log _ (turns.Loss reason) r.driver
+may_lawful k log turn r = driver_fits k.side k.driver log _ turn r.driver
 
 -- a turn that may be asked for is lawful
 pub asked_lawful : (k : CoreState) (log : Log) (turn : Turn) → Refines k log → IsTrue (may_turn k turn) → is_lawful k.side log turn ≡ true
@@ -58,7 +45,7 @@ session_of k m log e r = subst (λ (x : CoreState). Keeps k.side x.session log) 
 -- ---- a turn that is no call
 
 -- it may come where the transport may tell it
-pub event_may : (k : CoreState) (turn : Turn) → ((call : Call) → turn ≡ turns.Call call → ⊥) → fits_now k.driver.inbox.transport turn ≡ may_come k turn
+pub event_may : (k : CoreState) (turn : Turn) → ((call : Call) → turn ≡ turns.Call call → ⊥) → fits_now k.driver.inbox.transport turn ≡ may_come_next k turn
 event_may k (turns.Call call) n = absurd (n call refl)
 event_may k _ n = refl
 

@@ -18,13 +18,13 @@ pub record CoreState : Type 0 where
   pub session : SessionValue
 
 -- the turn may come next, by what is kept
-abbrev pub may_come : CoreState → Turn → Bool
-may_come k (turns.Call call) = may_call_of k.side k.session call
-may_come k turn = fits_now k.driver.inbox.transport turn
+abbrev pub may_come_next : CoreState → Turn → Bool
+may_come_next k (turns.Call call) = may_call_of k.side k.session call
+may_come_next k turn = fits_now k.driver.inbox.transport turn
 
 -- the turn may be asked: it may come next, or a turn ran out of memory
 abbrev pub may_turn : CoreState → Turn → Bool
-may_turn k turn = k.failed || may_come k turn
+may_turn k turn = k.failed || may_come_next k turn
 
 -- what is kept is that of this log, to which lawful turns lead and all of whose actions were taken
 pub record Refines (k : CoreState) (log : Log) : Type 0 where

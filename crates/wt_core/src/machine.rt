@@ -1,6 +1,6 @@
 //! One connection, driven turn by turn.
 ghost use Rattle.std.specs.Prelude.{◌≡◌, [], IfOk, OnOk, OnErr, IsErr, IsTrue, length, true};
-ghost use Rattle.wt_core.specs.CoreState.{Refines, may_come, may_turn};
+ghost use Rattle.wt_core.specs.CoreState.{Refines, may_come_next, may_turn};
 ghost use Rattle.wt_seam.specs.Step.{fits_now};
 ghost use Rattle.wt_seam_spec.specs.Arrivals.{fits};
 ghost use Rattle.wt_spec.specs.Answers.{answer_to, call_effect, is_lawful, log_after, may_call, turn_effect};
@@ -63,7 +63,7 @@ impl Core {
     }
 
     fn may_come(&self, turn: &Turn) -> bool
-        ensures now { result ≡ may_come self.now turn.now }
+        ensures now { result ≡ may_come_next self.now turn.now }
         ensures log { (log : Log) → Refines self.now log → result ≡ is_lawful self.now.side log turn.now }
     {
         match turn {
@@ -108,7 +108,7 @@ impl Core {
 
     /// The reply to a turn, whose actions stay with the driver.
     fn reply(&mut self, turn: &Turn) -> Result<Reply, OutOfMemory>
-        requires { IsTrue (may_come self.old turn.now) }
+        requires { IsTrue (may_come_next self.old turn.now) }
         ensures reply { (log : Log) → Refines self.old log → is_lawful self.old.side log turn.now ≡ true → IfOk result (λ r. r ≡ (turn_effect self.old.side log turn.now).reply) }
         ensures driver { (log : Log) → Refines self.old log → is_lawful self.old.side log turn.now ≡ true → OnOk result (Follows self.old.side self.new.driver (log_after self.old.side log turn.now) (length (actions_of log))) }
         ensures session { (log : Log) → Refines self.old log → is_lawful self.old.side log turn.now ≡ true → OnOk result (Keeps self.old.side self.new.session (log_after self.old.side log turn.now)) }
@@ -126,7 +126,7 @@ impl Core {
 
     /// The answer to a turn that may come, while memory suffices.
     fn step(&mut self, turn: &Turn) -> Result<Answer, OutOfMemory>
-        requires { IsTrue (may_come self.old turn.now) }
+        requires { IsTrue (may_come_next self.old turn.now) }
         ensures answer { (log : Log) → Refines self.old log → is_lawful self.old.side log turn.now ≡ true → IfOk result (λ a. a ≡ answer_to self.old.side log turn.now) }
         ensures state { (log : Log) → Refines self.old log → is_lawful self.old.side log turn.now ≡ true → OnOk result (Refines self.new (log_after self.old.side log turn.now)) }
         ensures side { self.new.side ≡ self.old.side }

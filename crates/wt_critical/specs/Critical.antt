@@ -1,5 +1,5 @@
 -- What the streams show on which a connection rests, and what their runs answer.
-use Rattle.std.specs.Prelude.{ℕ, List, ◌++◌, ◌||◌, Option, Some, None, Result, Ok, Err, Bool, true, false, if◌then◌else◌}
+use Rattle.std.specs.Prelude.{ℕ, List, ◌++◌, ◌||◌, Option, Some, None, Result, Ok, Err, Bool, false, if◌then◌else◌}
 use Rattle.wt_wire.specs.declared.error.ErrorCode.{ErrorCode}
 use Rattle.wt_wire.specs.declared.error.ErrorCode.TheVariants.{ClosedCriticalStream}
 use Rattle.wt_wire.specs.declared.frame.FrameKind.TheVariants as kinds
@@ -14,7 +14,7 @@ use Rattle.wt_proto.specs.declared.session_walk.SessionWalk.TheVariants as walks
 use Rattle.wt_proto.specs.declared.control_walk.ControlWalk.{ControlWalk}
 use Rattle.wt_proto.specs.ControlWalk.{control_decides, control_unfinished, control_walk_of}
 use Rattle.wt_proto.specs.SessionWalk.{session_decides, session_unfinished, session_walk_of}
-use Rattle.wt_proto.specs.Progress.{Reading}
+use Rattle.wt_proto.specs.Progress.{Reading, read_on}
 use Rattle.wt_proto.specs.Reading.{outcome_in}
 use Rattle.wt_error.specs.declared.driver_error.DriverError.{DriverError}
 use Rattle.wt_error.specs.declared.driver_error.DriverError.TheVariants as errors
@@ -30,9 +30,9 @@ use Rattle.wt_seam.specs.Step.{end_now, stop_now, unread_now}
 use Rattle.wt_typed.specs.declared.stream.UniLocalH3.{UniLocalH3}
 use Rattle.wt_typed.specs.declared.stream.UniRemoteH3.{UniRemoteH3}
 use Rattle.wt_typed.specs.declared.stream.Session.{Session}
-use Rattle.wt_typed.specs.Typed.{Pair, Typed, can_write_now}
+use Rattle.wt_typed.specs.Typed.{StreamPair, Typed, can_write_now, is_through}
 use Rattle.wt_typed.specs.Writing.{Continues, Pending, after_pending, pending_answer, rest, write_of}
-use Rattle.wt_critical.specs.Reading.{after_reading_all, read_on}
+use Rattle.wt_critical.specs.Reading.{after_reading_all}
 
 -- a unidirectional stream of this end, behind its header
 abbrev pub LocalUni : Type 0
@@ -44,7 +44,7 @@ RemoteUni = Typed QuicRecvStream UniRemoteH3
 
 -- the stream of a session
 abbrev pub SessionStream : Type 0
-SessionStream = Typed Pair Session
+SessionStream = Typed StreamPair Session
 
 -- this end's control stream, where it is set, and whether its SETTINGS are all out
 pub record LocalControl : Type 0 where
@@ -164,14 +164,14 @@ abbrev pub settings_frame_bytes : List ℕ
 settings_frame_bytes = frame_bytes settings_frame
 
 -- why the frame can't go out, as a driver tells it: a stop closes a critical stream
-abbrev pub write_error : ProtoWriteError → DriverError
-write_error write_errors.NotConnected = errors.NotConnected
-write_error write_errors.Stopped = closed_critical
+abbrev pub driver_write_error : ProtoWriteError → DriverError
+driver_write_error write_errors.NotConnected = errors.NotConnected
+driver_write_error write_errors.Stopped = closed_critical
 
 -- what a write of the frame answers, as a driver tells it
 abbrev pub written_answer : Poll (Result (Unit {0}) ProtoWriteError) → Poll (Result (Unit {0}) DriverError)
 written_answer (polls.Ready (Ok through)) = polls.Ready (Ok through)
-written_answer (polls.Ready (Err error)) = polls.Ready (Err (write_error error))
+written_answer (polls.Ready (Err error)) = polls.Ready (Err (driver_write_error error))
 written_answer polls.Pending = polls.Pending
 
 -- a stream is set, and a write on it isn't closed
@@ -211,12 +211,6 @@ after_frame (Some s) t = after_write t s.halves.id (rest (settings_write s))
 abbrev pub with_frame : Option LocalUni → TransportState → Option LocalUni
 with_frame None t = None
 with_frame (Some s) t = Some (record s { stage = record s.stage { writing = after_pending t.is_open (sending_half_now t s.halves.id) (settings_write s) } })
-
--- the frame is all out
-abbrev pub is_through : Poll (Result (Unit {0}) DriverError) → Bool
-is_through (polls.Ready (Ok through)) = true
-is_through (polls.Ready (Err error)) = false
-is_through polls.Pending = false
 
 -- SETTINGS that are out aren't sent again (RFC 9114, section 7.2.4)
 abbrev pub sent_answer : Bool → Poll (Result (Unit {0}) DriverError)

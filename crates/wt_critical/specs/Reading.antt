@@ -1,14 +1,9 @@
 -- Reading all that has come of a stream.
 use Rattle.std.specs.Prelude.{◌≡◌, ℕ, ◌≤◌, List, length, take, None}
-use Rattle.wt_wire.specs.declared.side.StreamEnd.{StreamEnd}
 use Rattle.wt_proto.specs.declared.walk.Step.{Step}
-use Rattle.wt_proto.specs.Progress.{Reading, fed, fed_reading, progress_over}
+use Rattle.wt_proto.specs.Progress.{Reading, fed_reading, progress_over}
 use Rattle.wt_seam.specs.State.{TransportState}
 use Rattle.wt_seam.specs.Step.{after_consume, unread_now}
-
--- a reader once it took these bytes and was told the end
-abbrev pub read_on : {S O : Type 0} → (S → List ℕ → Step S O) → Reading S O → List ℕ → StreamEnd → Reading S O
-read_on decide r bytes end = record { progress = fed decide r.progress bytes; end = end }
 
 -- after all that is unread of a stream was read
 abbrev pub after_reading_all : TransportState → ℕ → TransportState

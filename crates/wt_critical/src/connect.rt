@@ -1,10 +1,11 @@
 //! The stream of a session, on which the peer closes it (draft-ietf-webtrans-http3, section 5).
 ghost use Rattle.std.specs.Prelude.{◌≡◌, ℕ, List, [], IfOk, None, Ok, OnOk, Some, is_some, not};
+ghost use Rattle.wt_proto.specs.Progress.{read_on};
 ghost use Rattle.wt_proto.specs.Reading.{outcome_in};
 ghost use Rattle.wt_proto.specs.SessionWalk.{session_decides, session_unfinished};
 ghost use Rattle.wt_seam.specs.Step.{end_now, unread_now};
 ghost use Rattle.wt_critical.specs.Critical.{after_session_run, session_answer, session_bytes, session_after_run, session_shows, shown_by_walk};
-ghost use Rattle.wt_critical.specs.Reading.{WasRead, after_reading_all, read_on};
+ghost use Rattle.wt_critical.specs.Reading.{WasRead, after_reading_all};
 
 use crate::reading::read_all;
 use crate::shown::shown_or_ended;

@@ -1,11 +1,11 @@
 //! Reading on: a stream's reader is fed all that is unread of it.
 ghost use Rattle.std.specs.Prelude.{◌≡◌, ◌<◌, ◌≤◌, ℕ, Bool, IfOk, OnOk, [], length, take, true, false};
 ghost use Rattle.wt_wire.specs.declared.side.StreamEnd.TheVariants.{Running};
-ghost use Rattle.wt_proto.specs.Progress.{fed_reading};
+ghost use Rattle.wt_proto.specs.Progress.{fed_reading, read_on};
 ghost use Rattle.wt_proto.specs.Reading.{outcome_in};
 ghost use Rattle.wt_proto.specs.Steady.{IsSteady};
 ghost use Rattle.wt_seam.specs.Step.{end_now, unread_now};
-ghost use Rattle.wt_critical.specs.Reading.{ReadsSome, after_reading_all, read_on};
+ghost use Rattle.wt_critical.specs.Reading.{ReadsSome, after_reading_all};
 
 use std::marker::Brand;
 use std::sync::ledger::{Blank, Ledger};

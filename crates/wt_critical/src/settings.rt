@@ -1,5 +1,6 @@
 //! The control streams, on which SETTINGS go (RFC 9114, section 6.2.1).
 ghost use Rattle.std.specs.Prelude.{◌≡◌, ◌↔◌, ◌||◌, ℕ, List, [], IfOk, IsTrue, None, Ok, OnErr, OnOk, Some, false, is_some, not, true};
+ghost use Rattle.wt_proto.specs.Progress.{read_on};
 ghost use Rattle.wt_wire.specs.FrameBytes.{frame_bytes};
 ghost use Rattle.wt_wire.specs.declared.side.StreamEnd.TheVariants.{Running};
 ghost use Rattle.wt_proto.specs.ControlWalk.{control_decides, control_unfinished, control_walk_of};
@@ -7,11 +8,11 @@ ghost use Rattle.wt_proto.specs.Reading.{outcome_in};
 ghost use Rattle.wt_proto.specs.declared.stream_header.StreamKind.TheVariants as kinds;
 ghost use Rattle.wt_seam.specs.Rules.{after_write, sending_half_now};
 ghost use Rattle.wt_seam.specs.Step.{end_now, unread_now};
-ghost use Rattle.wt_typed.specs.Typed.{can_write_now};
+ghost use Rattle.wt_typed.specs.Typed.{can_write_now, is_through};
 ghost use Rattle.wt_typed.specs.UniHeader.{kind_of};
 ghost use Rattle.wt_typed.specs.Writing.{Continues, after_pending, pending_answer, rest, write_of};
-ghost use Rattle.wt_critical.specs.Critical.{ContinuesSettings, after_frame, after_settings, after_uni_run, can_send_settings, can_write_on, control_answer, control_after_run, control_shows, frame_answer, given_once, is_through, local_answer, sent_answer, settings_answer, settings_begun, settings_frame, shown_by_fault, uni_bytes, with_frame, with_settings, write_error, written_answer};
-ghost use Rattle.wt_critical.specs.Reading.{WasRead, after_reading_all, read_on};
+ghost use Rattle.wt_critical.specs.Critical.{ContinuesSettings, after_frame, after_settings, after_uni_run, can_send_settings, can_write_on, control_answer, control_after_run, control_shows, frame_answer, given_once, local_answer, sent_answer, settings_answer, settings_begun, settings_frame, shown_by_fault, uni_bytes, with_frame, with_settings, driver_write_error, written_answer};
+ghost use Rattle.wt_critical.specs.Reading.{WasRead, after_reading_all};
 
 use crate::reading::read_all;
 use crate::shown::{id_of, shown_by_fault, shown_by_stop, shown_or_ended};
@@ -48,7 +49,7 @@ impl Model for LocalSettingsStream {
 
 /// Why a frame can't go out, as a driver tells it.
 fn write_error(error: ProtoWriteError) -> DriverError
-    ensures { result ≡ write_error error }
+    ensures { result ≡ driver_write_error error }
 {
     match error {
         ProtoWriteError::NotConnected => DriverError::NotConnected,

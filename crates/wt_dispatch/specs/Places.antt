@@ -13,6 +13,6 @@ place_of places.Dequeued = Dequeued
 place_of places.Held = Held
 
 -- how the driver ends the connection
-abbrev pub ending_of : EndingKind → Ending
-ending_of (kinds.ByFault code) = ByFault code
-ending_of (kinds.BySession code reason by_capsule) = BySession code reason by_capsule
+abbrev pub ending_of_kind : EndingKind → Ending
+ending_of_kind (kinds.ByFault code) = ByFault code
+ending_of_kind (kinds.BySession code reason by_capsule) = BySession code reason by_capsule

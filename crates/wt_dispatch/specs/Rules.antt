@@ -18,9 +18,9 @@ slots_of Bi = 1
 
 -- nothing of a stream with this verdict is read any more: it is dropped or refused, or of its bytes none counts (QPACK, with
 -- no dynamic table; only that such a stream ends counts)
-abbrev pub is_given_up : Verdict → Bool
-is_given_up verdicts.Dropped = true
-is_given_up (verdicts.Refused code) = true
-is_given_up (verdicts.Encoder at) = true
-is_given_up (verdicts.Decoder at) = true
-is_given_up _ = false
+abbrev pub reads_no_more : Verdict → Bool
+reads_no_more verdicts.Dropped = true
+reads_no_more (verdicts.Refused code) = true
+reads_no_more (verdicts.Encoder at) = true
+reads_no_more (verdicts.Decoder at) = true
+reads_no_more _ = false

@@ -2,7 +2,7 @@
 ghost use Rattle.std.specs.Prelude.{◌≡◌, Some, false};
 ghost use Rattle.wt_proto.specs.Uni.{is_final};
 ghost use Rattle.wt_dispatch.specs.Requests.{request_as, request_in};
-ghost use Rattle.wt_dispatch.specs.Rules.{is_given_up};
+ghost use Rattle.wt_dispatch.specs.Rules.{reads_no_more};
 ghost use Rattle.wt_spec.specs.Connection.{is_for_session};
 ghost use Rattle.wt_spec.specs.Scan.{is_released};
 ghost use Rattle.wt_spec.specs.StreamTable.{faulty, none_of_it, stopped_with};
@@ -147,7 +147,7 @@ pub fn session_number(session: SessionId) -> u64
 
 /// Whether nothing of a stream with this verdict is read any more.
 pub fn is_given_up(verdict: &Verdict) -> bool
-    ensures { result ≡ is_given_up verdict.now }
+    ensures { result ≡ reads_no_more verdict.now }
 {
     match verdict {
         Verdict::Dropped | Verdict::Refused(_) | Verdict::Encoder(_) | Verdict::Decoder(_) => true,

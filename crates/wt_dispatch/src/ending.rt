@@ -1,6 +1,6 @@
 //! How the driver ends a connection.
 ghost use Rattle.std.specs.Prelude.{◌≡◌, IfOk};
-ghost use Rattle.wt_dispatch.specs.Places.{ending_of};
+ghost use Rattle.wt_dispatch.specs.Places.{ending_of_kind};
 ghost use Rattle.wt_spec.specs.StreamTable.{ByFault, BySession};
 
 use std::marker::Model;
@@ -28,9 +28,9 @@ impl Model for Ending {
 
     ghost Value = { Ending };
 
-    ghost use Rattle.wt_dispatch.specs.Places.{ending_of};
+    ghost use Rattle.wt_dispatch.specs.Places.{ending_of_kind};
 
-    ghost view = { λ e. ending_of e.kind };
+    ghost view = { λ e. ending_of_kind e.kind };
 }
 
 impl Ending {
@@ -54,7 +54,7 @@ impl Ending {
 
     /// Which it is.
     pub fn kind(&self) -> &EndingKind
-        ensures { ending_of result.now ≡ self.now }
+        ensures { ending_of_kind result.now ≡ self.now }
     {
         &self.kind
     }

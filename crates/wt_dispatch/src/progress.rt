@@ -2,7 +2,7 @@
 ghost use Rattle.std.specs.Prelude.{◌≡◌, ◌↔◌, ◌<◌, ◌^◌, ◌++◌, ◌∷◌, [], ◌||◌, None, Some, is_some, false, OnOk, IsTrue, IfSome};
 ghost use Rattle.std.specs.Option.{option_copied};
 ghost use Rattle.wt_driver_spec.specs.Step.{with_no_stops};
-ghost use Rattle.wt_spec.specs.Scan.{control_read, critical_if, dequeued_datagram, ended_by, listed, session_ends, unless_ended, with_consequence, with_fault, fault_ending};
+ghost use Rattle.wt_spec.specs.Scan.{control_read, critical_if, dequeued_datagram, ended_by, stop_list, session_ends, unless_ended, with_consequence, with_fault, fault_ending};
 ghost use Rattle.wt_spec.specs.StreamTable.{ByFault};
 
 use crate::classified::{Consequence, Stopped};
@@ -26,9 +26,9 @@ pub struct Progress {
 }
 
 impl Model for Progress {
-    ghost use Rattle.wt_spec.specs.StreamTable.{Progress};
+    ghost use Rattle.wt_spec.specs.StreamTable.{DriverProgress};
 
-    ghost Value = { Progress };
+    ghost Value = { DriverProgress };
 
     ghost view = { λ p. record { datagrams = p.datagrams; settings = p.settings; stops = p.stops.items; ending = p.ending } };
 }
@@ -43,7 +43,7 @@ fn fault_ending(fault: Option<ErrorCode>) -> Option<Ending>
 }
 
 fn add_stop(stops: &mut Vec<Stopped>, stop: Option<Stopped>) -> Result<(), OutOfMemory>
-    ensures { OnOk result (stops.new.items ≡ stops.old.items ++ listed stop) }
+    ensures { OnOk result (stops.new.items ≡ stops.old.items ++ stop_list stop) }
 {
     if let Some(stop) = stop {
         stops.push(stop)?;

@@ -4,10 +4,10 @@ use Rattle.std.specs.Prelude.{Option, Some, None}
 use Rattle.std.proofs.lemmas.List.{append-nil}
 use Rattle.wt_driver_spec.proofs.Bounded.{scanned-bounded, takes-bounded, without-bounded}
 use Rattle.wt_driver_spec.proofs.Sending.{sent_at_once}
-use Rattle.wt_driver_spec.specs.AtOnce.{control_flushed, flushed}
+use Rattle.wt_driver_spec.specs.AtOnce.{control_flushed, state_after_flush}
 use Rattle.wt_driver_spec.specs.Bounds.{IsSized}
 use Rattle.wt_driver_spec.specs.DriverState.{DriverState}
-use Rattle.wt_driver_spec.specs.Due.{DriverRun, Due, DueRule, DueOutcome, give_or_pass_due, passing, run_action, begin_run, run_moment, state_datagrams, state_streams, take_due, take_next}
+use Rattle.wt_driver_spec.specs.Due.{DriverRun, Due, DueRule, DueOutcome, give_or_pass_due, passing_stop, run_action, begin_run, run_moment, state_datagrams, state_streams, take_due, take_next}
 use Rattle.wt_driver_spec.specs.Moment.{actions_if, flush_state, moment_actions, moment_state, scan_if}
 use Rattle.wt_driver_spec.specs.Step.{after_call, after_entry, release, scan_state}
 use Rattle.wt_message.specs.FixedBytes.{local_control_bytes}
@@ -30,7 +30,7 @@ after-small : (b : Bool) (credit : ℕ) (sent : ControlSent) → sent.sent < 2 ^
 after-small false credit sent lt = lt
 after-small true credit sent lt = omega (arith, length-drop sent.sent (take credit local_control_bytes), length-take credit local_control_bytes, few)
 
-flushed-sized : (t : TransportView) (s : DriverState) → IsSized s → IsSized (flushed t s)
+flushed-sized : (t : TransportView) (s : DriverState) → IsSized s → IsSized (state_after_flush t s)
 flushed-sized t s z = record { bounded = record { unis = z.bounded.unis; bis = z.bounded.bis }; small = after-small t.may_open t.credit s.control_sent z.small }
 
 pub scanned-sized : (t : TransportView) (s : DriverState) → IsSized s → IsSized (flush_state t (scan_state t s))
@@ -52,14 +52,14 @@ call-sized t r s z = record { bounded = takes-bounded t (Called r) s z.bounded; 
 
 -- ---- an item is passed, or given
 
-pub passing-same : (t : TransportView) (id : ℕ) (s : DriverState) → after_entry t (Sent (passing id)) s ≡ s
+pub passing-same : (t : TransportView) (id : ℕ) (s : DriverState) → after_entry t (Sent (passing_stop id)) s ≡ s
 passing-same t id s = ap (λ (n : ℕ). record s { control_sent = record s.control_sent { sent = n } }) (add-zero s.control_sent.sent)
 
 module _ (t : TransportView) (kind session : ℕ) where
   pub stream-passes : (id : ℕ) (s : DriverState) (acts : List Action)
       → (state_streams t kind session).pass id (record { state = s; actions = acts })
-      ≡ record { state = scan_if s.is_open t (release id s); actions = (acts ++ passing id ∷ []) ++ actions_if s.is_open t (release id s) }
-  stream-passes id s acts = ap (λ (u : DriverState). run_moment t (Called (StreamPassed id)) (record { state = u; actions = acts ++ passing id ∷ [] })) (passing-same t id s)
+      ≡ record { state = scan_if s.is_open t (release id s); actions = (acts ++ passing_stop id ∷ []) ++ actions_if s.is_open t (release id s) }
+  stream-passes id s acts = ap (λ (u : DriverState). run_moment t (Called (StreamPassed id)) (record { state = u; actions = acts ++ passing_stop id ∷ [] })) (passing-same t id s)
 
   pub stream-gives : (id : ℕ) (s : DriverState) (acts : List Action)
       → (state_streams t kind session).give id (record { state = s; actions = acts })
@@ -139,7 +139,7 @@ pub streams-add : (t : TransportView) (kind session : ℕ) → OnlyAdds (state_s
 streams-add t kind session = record {
   next = λ before x. refl;
   pass = λ before id x.
-      ap (run_moment t (Called (StreamPassed id))) (action-ahead t (passing id) before x) ∙ moment-ahead t (Called (StreamPassed id)) before (run_action t (passing id) x);
+      ap (run_moment t (Called (StreamPassed id))) (action-ahead t (passing_stop id) before x) ∙ moment-ahead t (Called (StreamPassed id)) before (run_action t (passing_stop id) x);
   give = λ before id x. moment-ahead t (Called (StreamAccepted id)) before x;
 }
 

@@ -6,9 +6,9 @@ use Rattle.wt_driver_spec.proofs.ClassifiedOnce.{found-in, in-classified, only-i
 use Rattle.wt_driver_spec.proofs.Following.{Sound, events-with, moment-fits, moment-followed, moment-out, out-followed, sound, view-with}
 use Rattle.wt_driver_spec.proofs.RestMoments.{moment-rests-open, quiet-call, quiet-call-rests, quiet-call-state}
 use Rattle.wt_driver_spec.specs.DriverState.{DriverState, state_of}
-use Rattle.wt_driver_spec.specs.Due.{CallFollowed, DriverRun, Due, DueRule, DueOutcome, accepted, due_datagram, due_stream, ending_error, give_or_pass_due, given_reply, log_datagrams, log_streams, outcome_effect, passing, received, reply_or, run_action, begin_run, run_moment, state_accepted, state_datagrams, state_next_datagram, state_next_due, state_pending_or_failed, state_received, state_reply, state_streams, take_due, take_next}
-use Rattle.wt_driver_spec.specs.Moment.{Fits, MayCall, is_local, may_release, moment_actions, moment_state, names_session}
-use Rattle.wt_driver_spec.specs.Rest.{RestsWhileOpen, rested}
+use Rattle.wt_driver_spec.specs.Due.{CallFollowed, DriverRun, Due, DueRule, DueOutcome, accept_outcome, due_datagram, due_stream, ending_error, give_or_pass_due, given_reply, log_datagrams, log_streams, outcome_effect, passing_stop, receive_outcome, reply_or, run_action, begin_run, run_moment, state_accepted, state_datagrams, state_next_datagram, state_next_due, state_pending_or_failed, state_received, state_reply, state_streams, take_due, take_next}
+use Rattle.wt_driver_spec.specs.Moment.{Fits, MayRecord, has_local_kind, may_release, moment_actions, moment_state, names_session}
+use Rattle.wt_driver_spec.specs.Rest.{RestsWhileOpen, state_at_rest}
 use Rattle.wt_driver_spec.specs.Step.{after_entry}
 use Rattle.wt_seam_spec.specs.Joined.{newest_first}
 use Rattle.wt_seam_spec.specs.Reports.{datagrams_of, loss_of}
@@ -16,7 +16,7 @@ use Rattle.wt_seam_spec.specs.Streams.{peer_count}
 use Rattle.wt_spec.specs.Connection.{accept_due, accept_first, accept_stream, first_of, give_or_pass, is_due, is_for_session, next_datagram, next_due, pass_stream, receive_datagram, receive_first, receive_next, receive_or_pass}
 use Rattle.wt_spec.specs.Driver.{call_view, log_and_flush, stream_table, transport_view}
 use Rattle.wt_spec.specs.Effect.{error_of_ending, log_call, loss_or_local, pending_or_failed, transport_error}
-use Rattle.wt_spec.specs.StreamTable.{ByFault, BySession, Classified, Ending, awaits_accept, dispatched, is_webtransport, verdict_of}
+use Rattle.wt_spec.specs.StreamTable.{ByFault, BySession, Classified, Ending, awaits_accept, dispatched_streams, is_webtransport, verdict_of}
 use Rattle.wt_turn.specs.Log.{CallRecord, Called, DatagramPassed, DatagramReceived, Event, Log, Polled, Sent, StreamAccepted, StreamPassed, actions_of, events_of, is_open, with_actions}
 use Rattle.wt_turn.specs.declared.action.Action.{Action}
 use Rattle.wt_reply.specs.declared.reply.Reply.{Reply}
@@ -109,7 +109,7 @@ module _ (side : Side) (since : Log) where
     fits = (tt, t.fits);
   }
 
-  pub tracks-call : (log : Log) (x : DriverRun) (r : CallRecord) → MayCall side log r → Tracks side since log x
+  pub tracks-call : (log : Log) (x : DriverRun) (r : CallRecord) → MayRecord side log r → Tracks side since log x
       → TracksAtRest side since (log_and_flush side log (Called r)) (run_moment (transport_view side since) (Called r) x)
   tracks-call log x r may t =
       let out : List Action = moment_actions (transport_view side log) (transport_view side log) (Called r) (state_of side log) in
@@ -162,10 +162,10 @@ module _ {T : Type 0} (side : Side) (since : Log) where
 
 module _ (side : Side) (since : Log) where
   waits-named : (log : Log) (b : Bool) (kind session : ℕ) (c : Classified) → Sound side log
-      → first_of (is_due b kind session) (dispatched (call_view log) (stream_table side log).classified).waiting ≡ Some c
+      → first_of (is_due b kind session) (dispatched_streams (call_view log) (stream_table side log).classified).waiting ≡ Some c
       → names_session (verdict_of c.id (stream_table side log).classified) ≡ true
   waits-named log b kind session c s e =
-      let found = found-in (is_due b kind session) (dispatched (call_view log) (stream_table side log).classified).waiting c e in
+      let found = found-in (is_due b kind session) (dispatched_streams (call_view log) (stream_table side log).classified).waiting c e in
       let both = only-in (awaits_accept (call_view log).released) (stream_table side log).classified c found in
       let named = and_parts (not ((call_view log).released c.id)) (is_webtransport c.verdict) both.1 in
       ap names_session (in-classified (stream_table side log).classified c s.once both.0) ∙ named.1
@@ -179,9 +179,9 @@ module _ (side : Side) (since : Log) where
       ap (λ i. names_session (verdict_of i (stream_table side log).classified)) (sym same) ∙ waits-named log (is_open log) kind session c s e
 
   pub may-release : (log : Log) (k : ℕ) → names_session (verdict_of k (stream_table side log).classified) ≡ true → may_release side (stream_table side log).classified k ≡ true
-  may-release log k named = or_right (is_local side k) (names_session (verdict_of k (stream_table side log).classified)) named
+  may-release log k named = or_right (has_local_kind side k) (names_session (verdict_of k (stream_table side log).classified)) named
 
-  may-pass : (log : Log) (a : Action) (k : ℕ) → names_session (verdict_of k (stream_table side log).classified) ≡ true → MayCall side (Sent a ∷ log) (StreamPassed k)
+  may-pass : (log : Log) (a : Action) (k : ℕ) → names_session (verdict_of k (stream_table side log).classified) ≡ true → MayRecord side (Sent a ∷ log) (StreamPassed k)
   unfolding stream_table
   may-pass log a k named = may-release log k named
 
@@ -195,8 +195,8 @@ module _ (side : Side) (since : Log) where
     next = λ log x t. next-same log x kind session t.state;
     pass = λ log x d t e.
         let named = due-named log kind session d (sound side log t.fits) (next_due side log kind session) refl e in
-        tracks-call side since (Sent (passing d.item) ∷ log) (run_action (transport_view side since) (passing d.item) x) (StreamPassed d.item)
-        (may-pass log (passing d.item) d.item named) (tracks-action side since log x (passing d.item) t);
+        tracks-call side since (Sent (passing_stop d.item) ∷ log) (run_action (transport_view side since) (passing_stop d.item) x) (StreamPassed d.item)
+        (may-pass log (passing_stop d.item) d.item named) (tracks-action side since log x (passing_stop d.item) t);
     give = λ log x d t e.
         let named = due-named log kind session d (sound side log t.fits) (next_due side log kind session) refl e in
         tracks-call side since log x (StreamAccepted d.item) (may-release log d.item named) t;
@@ -246,7 +246,7 @@ module _ {T : Type 0} (side : Side) (log : Log) (reply : T → Reply) where
       let t = f.tracks.tracks in
       let alone : log_and_flush side a.state (Called Polled) ≡ Called Polled ∷ a.state = quiet-call side a.state Polled tt t.fits refl f.tracks.rests in
       record {
-        state = ap (state_of side) alone ∙ quiet-call-state side a.state Polled tt t.fits refl f.tracks.rests ∙ ap rested t.state;
+        state = ap (state_of side) alone ∙ quiet-call-state side a.state Polled tt t.fits refl f.tracks.rests ∙ ap state_at_rest t.state;
         actions = ap actions_of alone ∙ t.actions;
         reply_is = given-same a b f;
         view = ap (transport_view side) alone ∙ t.view;
@@ -259,7 +259,7 @@ pub accept-follows : (side : Side) (reply : ℕ → Reply) (kind : ℕ) (log : L
     → CallFollowed side log (accept_stream side reply kind log session) reply (state_accepted (transport_view side log) kind (peer_count side (events_of log) kind) (state_of side log) session)
 accept-follows side reply kind log session fits rests =
     rw (accept-is side reply kind session (suc (peer_count side (events_of log) kind)) log)
-    (call-followed side log reply (accepted side kind log session) (state_accepted (transport_view side log) kind (peer_count side (events_of log) kind) (state_of side log) session)
+    (call-followed side log reply (accept_outcome side kind log session) (state_accepted (transport_view side log) kind (peer_count side (events_of log) kind) (state_of side log) session)
     (take-follows side log (log_streams side kind session) (state_streams (transport_view side log) kind session) (streams-alike side log kind session)
     (suc (peer_count side (events_of log) kind)) log (begin_run (state_of side log)) (tracks-start side log fits rests)))
 
@@ -268,6 +268,6 @@ pub receive-follows : (side : Side) (log : Log) (session : ℕ) → Fits side lo
     → CallFollowed side log (receive_datagram side log session) (payload_reply side session) (state_received (transport_view side log) (length (datagrams_of (events_of log))) (state_of side log) session)
 receive-follows side log session fits rests =
     rw (receive-is side session (suc (length (datagrams_of (events_of log)))) log)
-    (call-followed side log (payload_reply side session) (received side log session) (state_received (transport_view side log) (length (datagrams_of (events_of log))) (state_of side log) session)
+    (call-followed side log (payload_reply side session) (receive_outcome side log session) (state_received (transport_view side log) (length (datagrams_of (events_of log))) (state_of side log) session)
     (take-follows side log (log_datagrams side session) (state_datagrams (transport_view side log) session) (datagrams-alike side log session)
     (suc (length (datagrams_of (events_of log)))) log (begin_run (state_of side log)) (tracks-start side log fits rests)))

@@ -4,7 +4,7 @@ use Rattle.std.specs.Prelude.{None, Option, Some, if◌then◌else◌}
 use Rattle.wt_driver_spec.specs.DriverState.{state_of}
 use Rattle.wt_driver_spec.specs.Due.{ending_error, state_next_datagram, state_next_due, state_pending_or_failed}
 use Rattle.wt_spec.specs.Connection.{next_datagram, next_due}
-use Rattle.wt_spec.specs.Driver.{control_sent, established, settings_came, settled_datagrams, stream_table, transport_view}
+use Rattle.wt_spec.specs.Driver.{control_sent, established_session, settings_came, settled_datagrams, stream_table, transport_view}
 use Rattle.wt_spec.specs.Effect.{driver_error, error_of_ending, pending_or_failed, transport_error}
 use Rattle.wt_spec.specs.Handshake.{queued_requests}
 use Rattle.wt_spec.specs.StreamTable.{ByFault, BySession, Ending}
@@ -25,7 +25,7 @@ module _ (side : Side) (log : Log) where
   settings_says = refl
 
   -- the session that is established
-  pub session_says : established (calls_of log) ≡ (state_of side log).session
+  pub session_says : established_session (calls_of log) ≡ (state_of side log).session
   unfolding state_of
   session_says = refl
 

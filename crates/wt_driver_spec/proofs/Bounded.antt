@@ -52,30 +52,23 @@ module _ (ready : Bool) (rule : SlotRule) where
       by None one rest = ap (scan_on (λ m d. scan_slots ready rule m ls d)) one ∙ ap (after_slots (l ∷ [])) rest
       by (Some x) one rest = refl
 
+  -- how many slots the verdict of a dequeued stream leaves
+  classified-than : (l : Slot) (n : ℕ) (c : Known) → (P : ℕ → Type 0) → P n → P (suc n) → (b : Bool) → P (classify_slot b rule l.id n c).occupied
+  classified-than l n c P here next true = two (is_released false (rule.verdict l.id))
+    where
+      two : (s : Bool) → P (occupied s n)
+      two true = here
+      two false = next
+  classified-than l n c P here next false = next
+
   -- how many slots a step leaves, by what it counts
   earlier-than : (p : SlotPlace) (l : Slot) (n : ℕ) (c : Known) → (P : ℕ → Type 0) → P n → P (suc n) → P (visit_slot ready rule p l n c).occupied
   earlier-than Held l n c P here next = next
-  earlier-than Dequeued l n c P here next = by (is_final (rule.verdict l.id))
-    where
-      two : (s : Bool) → P (occupied s n)
-      two true = here
-      two false = next
-
-      by : (b : Bool) → P (classify_slot b rule l.id n c).occupied
-      by true = two (is_released false (rule.verdict l.id))
-      by false = next
+  earlier-than Dequeued l n c P here next = classified-than l n c P here next (is_final (rule.verdict l.id))
   earlier-than Arrived l n c P here next = up (ready && nat_lt n rule.slots)
     where
-      two : (s : Bool) → P (occupied s n)
-      two true = here
-      two false = next
-
-      by : (b : Bool) → P (classify_slot b rule l.id n c).occupied
-      by true = two (is_released false (rule.verdict l.id))
-      by false = next
-
       up : (b : Bool) → P (dequeue_slot b rule l n c).occupied
-      up true = by (is_final (rule.verdict l.id))
+      up true = classified-than l n c P here next (is_final (rule.verdict l.id))
       up false = next
 
   pub first-few : (ls : List Slot) (n : ℕ) (c : Known) → IsBounded rule.slots n ls → scan_first ready rule n ls c ≡ scan_slots ready rule n ls c

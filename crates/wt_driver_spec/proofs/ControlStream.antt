@@ -3,7 +3,7 @@ use Rattle.std.proofs.Common.{arith, ◌≡◌, ℕ, zero, suc, ◌+◌, ◌-◌
 use Rattle.std.specs.Prelude.{drop, nat_lt, not, ◌==◌, ◌&&◌, if◌then◌else◌}
 use Rattle.std.proofs.lemmas.Bool.{eq-eqb, eqb-true}
 use Rattle.wt_seam_spec.specs.Joined.{send_of}
-use Rattle.wt_seam_spec.specs.Outgoing.{opening, sending, streams_allowed}
+use Rattle.wt_seam_spec.specs.Outgoing.{actions_to_open, actions_to_send, streams_allowed}
 use Rattle.wt_seam_spec.specs.Reports.{bis_allowed, credit, unis_allowed}
 use Rattle.wt_seam_spec.specs.Streams.{local_count, local_uni, peer_count, stream_count}
 use Rattle.wt_spec.specs.Driver.{control_sent, opened_if, transport_view}
@@ -33,7 +33,7 @@ peers-open-none side (_ ∷ es) = peers-open-none side es
 
 module _ (side : Side) (log : Log) (events : all_events_of log ≡ events_of log) where
   -- the bytes of this end's control stream
-  pub control-sends : (bytes : List ℕ) → sending log (local_uni side) (drop (control_sent side log).sent bytes)
+  pub control-sends : (bytes : List ℕ) → actions_to_send log (local_uni side) (drop (control_sent side log).sent bytes)
       ≡ send_of (local_uni side) (drop (control_sent side log).sent (take (transport_view side log).credit bytes))
   control-sends bytes =
       ap (λ (es : List Event). send_of (local_uni side) (take (credit es (local_uni side) - (control_sent side log).sent) (drop (control_sent side log).sent bytes))) events
@@ -41,7 +41,7 @@ module _ (side : Side) (log : Log) (events : all_events_of log ≡ events_of log
 
   -- its opening, where it wasn't opened and may be
   pub control-opens : is_open log ≡ true → (control_sent side log).opened ≡ false → (transport_view side log).may_open ≡ true
-      → opening side log (local_uni side) ≡ opened_if true (local_uni side)
+      → actions_to_open side log (local_uni side) ≡ opened_if true (local_uni side)
   control-opens o unopened may =
       let none : local_count (actions_of log) (local_uni side) ≡ 0 = eqb-true (local_count (actions_of log) (local_uni side)) 0 (flipped (local_count (actions_of log) (local_uni side) == 0) unopened) in
       let count : stream_count side log (local_uni side) ≡ 0 = (λ i. peers-open-none side (all_events_of log) i + none i) in

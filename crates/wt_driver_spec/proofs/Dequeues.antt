@@ -18,9 +18,9 @@ use Rattle.wt_proto.specs.declared.verdict.Verdict.{Verdict}
 use Rattle.wt_seam_spec.specs.Reports.{end_of}
 use Rattle.wt_seam_spec.specs.Streams.{contents, one_more_if, peer_bi, peer_count, peer_uni}
 use Rattle.wt_spec.specs.Answers.{log_from}
-use Rattle.wt_spec.specs.Driver.{apply_if, call_view, is_moment, is_ready, stream_table, transport_view}
+use Rattle.wt_spec.specs.Driver.{apply_if, call_view, is_moment, settings_ready, stream_table, transport_view}
 use Rattle.wt_spec.specs.Scan.{Scan, SlotRule, bi_ids, bi_rule, classify, dequeue, has, is_released, occupied, scan, scan_bis, scan_order, scan_unis, stream_ids, uni_ids, uni_rule, unless_ended, visit, with_dequeued, without_stops}
-use Rattle.wt_spec.specs.StreamTable.{CallView, Classified, Ending, StreamTable, TransportView, dispatched, verdict_of}
+use Rattle.wt_spec.specs.StreamTable.{CallView, Classified, Ending, StreamTable, TransportView, dispatched_streams, verdict_of}
 use Rattle.wt_turn.specs.Log.{Entry, Log, PeerBi, PeerUni, Reported, events_of, is_open}
 use Rattle.wt_turn.specs.declared.turn.Turn.{Turn}
 use Rattle.wt_wire.specs.declared.side.Side.{Side}
@@ -38,7 +38,7 @@ module _ (ready : Bool) (d : CallView) (rule : SlotRule) where
   classify-dequeued true k p h all = λ j v e. by j v e (k == j) refl
     where
       r : Classified
-      r = record { id = k; verdict = rule.verdict k; surplus = (rule.consequence (dispatched d p.table.classified) k (rule.verdict k)).surplus }
+      r = record { id = k; verdict = rule.verdict k; surplus = (rule.consequence (dispatched_streams d p.table.classified) k (rule.verdict k)).surplus }
 
       by : (j : ℕ) (v : Verdict) → verdict_of j (classify true d rule k p).table.classified ≡ Some v → (b : Bool) → (k == j) ≡ b → has j p.table.dequeued ≡ true
       by j v e true f = ap (λ i. has i p.table.dequeued) (sym (eqb-true k j f)) ∙ h
@@ -206,7 +206,7 @@ module _ (ready : Bool) (d : CallView) (rule : SlotRule) where
   classify-counts : (b : Bool) (k : ℕ) (p : Scan) → verdict_of k p.table.classified ≡ None → (classify b d rule k p).occupied ≡ one_more_if (unreleased d (classify b d rule k p).table k) p.occupied
   classify-counts false k p none = rw none (sym (add-one p.occupied))
   classify-counts true k p none =
-      let r : Classified = record { id = k; verdict = rule.verdict k; surplus = (rule.consequence (dispatched d p.table.classified) k (rule.verdict k)).surplus } in
+      let r : Classified = record { id = k; verdict = rule.verdict k; surplus = (rule.consequence (dispatched_streams d p.table.classified) k (rule.verdict k)).surplus } in
       rw (classified-here r p.table.classified none) (counts-so (is_released (d.released k) (rule.verdict k)) p.occupied)
 
   dequeue-counts : (b : Bool) (k : ℕ) (p : Scan) → verdict_of k p.table.classified ≡ None → (dequeue b d rule k p).occupied ≡ one_more_if (unreleased d (dequeue b d rule k p).table k) p.occupied
@@ -375,9 +375,9 @@ was-ready side (m ∷ log) j e = by (is_moment m && is_open (m ∷ log)) e (was-
     by : (b : Bool) → has j (apply_if b (scan_order (transport_view side (m ∷ log)) (call_view (m ∷ log))) (stream_table side log)).dequeued ≡ true
         → (has j (stream_table side log).dequeued ≡ true → WasReady side log) → WasReady side (m ∷ log)
     by false f again = before again f
-    by true f again = two (is_ready side (m ∷ log)) refl
+    by true f again = two (settings_ready side (m ∷ log)) refl
       where
-        two : (b : Bool) → is_ready side (m ∷ log) ≡ b → WasReady side (m ∷ log)
+        two : (b : Bool) → settings_ready side (m ∷ log) ≡ b → WasReady side (m ∷ log)
         two true g = ([], m ∷ log, refl, g)
         two false g = before again (sym (moment-waits (transport_view side (m ∷ log)) (call_view (m ∷ log)) (stream_table side log) j g) ∙ f)
 
@@ -411,18 +411,18 @@ module _ (side : Side) (log : Log) (facts : FitsAndRests side log) where
   -- of one kind: its rule, its slots at rest, and what is ahead of each of its streams
   module _ (kind most : ℕ) (verdict : List ℕ → StreamEnd → Verdict) (rule : SlotRule) (so_many : rule.slots ≡ most)
       (reads : (k : ℕ) → rule.verdict k ≡ verdict (contents log k) (end_of (events_of log) k))
-      (rests : is_open log ≡ true → Rests (is_ready side log) rule 0 (slots (call_view log) (stream_table side log) (stream_ids kind 0 (peer_count side (events_of log) kind))))
+      (rests : is_open log ≡ true → Rests (settings_ready side log) rule 0 (slots (call_view log) (stream_table side log) (stream_ids kind 0 (peer_count side (events_of log) kind))))
       (ahead : FewBefore (call_view log) (stream_table side log) most 0 (stream_ids kind 0 (peer_count side (events_of log) kind)))
       (open_ : (n : ℕ) → is_dequeued side log (stream_id kind n) ≡ true → n < peer_count side (events_of log) kind) where
     dequeued-in-turn : DequeuedInTurn side log kind most verdict
     dequeued-in-turn = record {
       next = λ n may low few.
-          (let both = and_parts (is_open log) (is_ready side log) may in
+          (let both = and_parts (is_open log) (settings_ready side log) may in
           let at = ids-at kind 0 n count n (omega arith) low in
           let same : unreleased_before side log kind n ≡ 0 + held d s (stream_ids kind 0 n) = held-before side log kind n ∙ sym (zero-add (held d s (stream_ids kind 0 n))) in
           let fewer : 0 + held d s (stream_ids kind 0 n) < rule.slots = subst (λ (m : ℕ). 0 + held d s (stream_ids kind 0 n) < m) (sym so_many) (subst (λ (m : ℕ). m < most) same few) in
-          next-dequeued (is_ready side log) rule d s (all-dequeued side log) both.1 (stream_ids kind 0 n) (4 * n + kind) at.0 0
-          (subst (λ (ks : List ℕ). Rests (is_ready side log) rule 0 (slots d s ks)) at.1 (rests both.0)) fewer);
+          next-dequeued (settings_ready side log) rule d s (all-dequeued side log) both.1 (stream_ids kind 0 n) (4 * n + kind) at.0 0
+          (subst (λ (ks : List ℕ). Rests (settings_ready side log) rule 0 (slots d s ks)) at.1 (rests both.0)) fewer);
       few = λ n e.
           (let at = ids-at kind 0 n count n (omega arith) (open_ n e) in
           let same : unreleased_before side log kind n ≡ 0 + held d s (stream_ids kind 0 n) = held-before side log kind n ∙ sym (zero-add (held d s (stream_ids kind 0 n))) in
@@ -449,7 +449,7 @@ module _ (side : Side) (log : Log) (facts : FitsAndRests side log) where
         by n o e final false f =
             let at = ids-at kind 0 n count n (omega arith) (open_ n e) in
             let among : has (4 * n + kind) (stream_ids kind 0 count) ≡ true = ap (has (4 * n + kind)) at.1 ∙ here-at (4 * n + kind) (stream_ids kind 0 n) at.0 in
-            let asks = rests-dequeued (is_ready side log) rule d s (4 * n + kind) 0 (stream_ids kind 0 count) (rests o) among e (none-where (verdict_of (4 * n + kind) s.classified) f) in
+            let asks = rests-dequeued (settings_ready side log) rule d s (4 * n + kind) 0 (stream_ids kind 0 count) (rests o) among e (none-where (verdict_of (4 * n + kind) s.classified) f) in
             absurd (true≢false (sym final ∙ ap is_final (sym (reads (4 * n + kind))) ∙ asks))
 
   streams-dequeued : StreamsDequeued side log

@@ -7,8 +7,8 @@ use Rattle.wt_driver_spec.proofs.Following.{Sound, events-with, moment-fits, mom
 use Rattle.wt_driver_spec.proofs.Sending.{sends-are}
 use Rattle.wt_driver_spec.proofs.StreamIds.{bi-low, kind-is, kinds-differ, kinds-differ-so, uni-low}
 use Rattle.wt_driver_spec.specs.DriverState.{Arrived, Dequeued, DriverState, Held, Slot, SlotPlace, slot_by, slot_of, slots, state_of}
-use Rattle.wt_driver_spec.specs.Due.{Due, DueRule, accepted, due_datagram, due_stream, give_or_pass_due, log_datagrams, log_streams, passing, received, take_due, take_next}
-use Rattle.wt_driver_spec.specs.Moment.{Fits, MayCall, is_local, moment_state, names_session, scan_if, scans, state_with_actions}
+use Rattle.wt_driver_spec.specs.Due.{Due, DueRule, accept_outcome, due_datagram, due_stream, give_or_pass_due, log_datagrams, log_streams, passing_stop, receive_outcome, take_due, take_next}
+use Rattle.wt_driver_spec.specs.Moment.{Fits, MayRecord, has_local_kind, moment_state, names_session, scan_if, scans, state_with_actions}
 use Rattle.wt_driver_spec.specs.Step.{Known, Visited, after_entry, begin_scan, classify_slot, dequeue_slot, known_of, scan_on, scan_slots, scan_state, scan_uni_slots, step_actions, unless_ended_slots, visit_slot, without_slot}
 use Rattle.wt_proto.specs.Uni.{is_final}
 use Rattle.wt_proto.specs.declared.verdict.Verdict.{Verdict}
@@ -18,7 +18,7 @@ use Rattle.wt_spec.specs.Connection.{first_of, is_due, is_for_session, next_data
 use Rattle.wt_spec.specs.Driver.{apply_if, call_view, flush, is_moment, log_and_flush, pending_actions, settled_datagrams, stream_table, transport_view}
 use Rattle.wt_spec.specs.Effect.{log_call}
 use Rattle.wt_spec.specs.Scan.{SlotRule, bi_ids, bi_rule, has, is_released, stream_ids, uni_ids, uni_rule}
-use Rattle.wt_spec.specs.StreamTable.{CallView, Classified, Ending, StreamTable, TransportView, awaits_accept, dispatched, is_webtransport, verdict_of}
+use Rattle.wt_spec.specs.StreamTable.{CallView, Classified, Ending, StreamTable, TransportView, awaits_accept, dispatched_streams, is_webtransport, verdict_of}
 use Rattle.wt_turn.specs.Log.{Called, DatagramPassed, Entry, Log, Sent, StreamPassed, calls_of, events_of, is_open, with_actions}
 use Rattle.wt_turn.specs.declared.action.Action.{Action}
 use Rattle.wt_wire.specs.declared.side.Side.{Side}
@@ -162,12 +162,12 @@ found-waits : (side : Side) (log : Log) (kind session : ℕ) → Sound side log 
 found-waits side log kind session s f None e g = absurd cc
 found-waits side log kind session s f (Some r) e g =
     let same : r.id ≡ f.item = cc in
-    let both = only-in (awaits_accept (call_view log).released) (stream_table side log).classified r (found-in (is_due (is_open log) kind session) (dispatched (call_view log) (stream_table side log).classified).waiting r e) in
+    let both = only-in (awaits_accept (call_view log).released) (stream_table side log).classified r (found-in (is_due (is_open log) kind session) (dispatched_streams (call_view log) (stream_table side log).classified).waiting r e) in
     let parts = and_parts (not ((call_view log).released r.id)) (is_webtransport r.verdict) both.1 in
     let classified = in-classified (stream_table side log).classified r s.once both.0 in
     subst (λ (k : ℕ). Waits log side kind k) same (record {
       verdict = r.verdict;
-      of_kind = eqb-true (r.id % 4) kind (found-kind (is_open log) kind session (dispatched (call_view log) (stream_table side log).classified).waiting r e);
+      of_kind = eqb-true (r.id % 4) kind (found-kind (is_open log) kind session (dispatched_streams (call_view log) (stream_table side log).classified).waiting r e);
       classified = classified;
       unreleased = of-session-waits r.verdict ((call_view log).released r.id) parts.1 parts.0;
       named = ap names_session classified ∙ parts.1;
@@ -199,25 +199,25 @@ module _ (side : Side) (log : Log) (fits : Fits side log) where
   unfolding state_of
   bi-less k w = slot-less (call_view log) (stream_table side log) k w.verdict (bi_ids (transport_view side log)) (among-bis k w) w.classified w.unreleased
 
-  may-pass : (k : ℕ) → names_session (verdict_of k (stream_table side log).classified) ≡ true → MayCall side (Sent (passing k) ∷ log) (StreamPassed k)
+  may-pass : (k : ℕ) → names_session (verdict_of k (stream_table side log).classified) ≡ true → MayRecord side (Sent (passing_stop k) ∷ log) (StreamPassed k)
   unfolding stream_table
-  may-pass k named = or_right (is_local side k) (names_session (verdict_of k (stream_table side log).classified)) named
+  may-pass k named = or_right (has_local_kind side k) (names_session (verdict_of k (stream_table side log).classified)) named
 
   -- what is kept after a stream was passed
   passed : (k : ℕ) → names_session (verdict_of k (stream_table side log).classified) ≡ true
       → state_of side (pass_stream side log k)
-      ≡ moment_state (transport_view side log) (transport_view side log) (Called (StreamPassed k)) (after_entry (transport_view side log) (Sent (passing k)) (state_of side log))
+      ≡ moment_state (transport_view side log) (transport_view side log) (Called (StreamPassed k)) (after_entry (transport_view side log) (Sent (passing_stop k)) (state_of side log))
   passed k named =
-      moment-followed side (Sent (passing k) ∷ log) (Called (StreamPassed k)) (may-pass k named) (tt, fits)
-      ∙ ap (moment_state (transport_view side log) (transport_view side log) (Called (StreamPassed k))) (out-followed side log (passing k))
+      moment-followed side (Sent (passing_stop k) ∷ log) (Called (StreamPassed k)) (may-pass k named) (tt, fits)
+      ∙ ap (moment_state (transport_view side log) (transport_view side log) (Called (StreamPassed k))) (out-followed side log (passing_stop k))
 
   passed-fits : (k : ℕ) → names_session (verdict_of k (stream_table side log).classified) ≡ true → Fits side (pass_stream side log k)
-  passed-fits k named = moment-fits side (Sent (passing k) ∷ log) (Called (StreamPassed k)) (may-pass k named) (tt, fits)
+  passed-fits k named = moment-fits side (Sent (passing_stop k) ∷ log) (Called (StreamPassed k)) (may-pass k named) (tt, fits)
 
   passed-unis : (k : ℕ) → Waits log side (peer_uni side) k → length (state_of side (pass_stream side log k)).unis < length (state_of side log).unis
   passed-unis k w =
       let t : TransportView = transport_view side log in
-      let j : DriverState = after_entry t (Called (StreamPassed k)) (after_entry t (Sent (passing k)) (state_of side log)) in
+      let j : DriverState = after_entry t (Called (StreamPassed k)) (after_entry t (Sent (passing_stop k)) (state_of side log)) in
       let few = (worked-fewer (scans (Called (StreamPassed k)) j) t j).0 in
       let less = uni-less k w in
       rw (passed k w.named) (omega arith)
@@ -225,7 +225,7 @@ module _ (side : Side) (log : Log) (fits : Fits side log) where
   passed-bis : (k : ℕ) → Waits log side (peer_bi side) k → length (state_of side (pass_stream side log k)).bis < length (state_of side log).bis
   passed-bis k w =
       let t : TransportView = transport_view side log in
-      let j : DriverState = after_entry t (Called (StreamPassed k)) (after_entry t (Sent (passing k)) (state_of side log)) in
+      let j : DriverState = after_entry t (Called (StreamPassed k)) (after_entry t (Sent (passing_stop k)) (state_of side log)) in
       let few = (worked-fewer (scans (Called (StreamPassed k)) j) t j).1 in
       let less = bi-less k w in
       rw (passed k w.named) (omega arith)
@@ -259,20 +259,20 @@ no-stream session None e = refl
 no-stream session (Some c) e = absurd cc
 
 -- An accept that gives nothing leaves no stream of the kind that it could have given.
-pub accept-uni-ends : (side : Side) (log : Log) (session : ℕ) → Fits side log → (accepted side (peer_uni side) log session).given ≡ None
-    → next_due side (accepted side (peer_uni side) log session).state (peer_uni side) session ≡ None
+pub accept-uni-ends : (side : Side) (log : Log) (session : ℕ) → Fits side log → (accept_outcome side (peer_uni side) log session).given ≡ None
+    → next_due side (accept_outcome side (peer_uni side) log session).state (peer_uni side) session ≡ None
 accept-uni-ends side log session fits none =
-    no-stream session (next_due side (accepted side (peer_uni side) log session).state (peer_uni side) session)
+    no-stream session (next_due side (accept_outcome side (peer_uni side) log session).state (peer_uni side) session)
     (take-ends (log_streams side (peer_uni side) session) (λ g. length (state_of side g).unis) (Fits side)
     (λ g f fit e.
     let w = found-waits side g (peer_uni side) session (sound side g fit) f (next_due side g (peer_uni side) session) refl e in
     (passed-fits side g fit f.item w.named, passed-unis side g fit f.item w))
     (suc (peer_count side (events_of log) (peer_uni side))) log fits (unis-few side log) none)
 
-pub accept-bi-ends : (side : Side) (log : Log) (session : ℕ) → Fits side log → (accepted side (peer_bi side) log session).given ≡ None
-    → next_due side (accepted side (peer_bi side) log session).state (peer_bi side) session ≡ None
+pub accept-bi-ends : (side : Side) (log : Log) (session : ℕ) → Fits side log → (accept_outcome side (peer_bi side) log session).given ≡ None
+    → next_due side (accept_outcome side (peer_bi side) log session).state (peer_bi side) session ≡ None
 accept-bi-ends side log session fits none =
-    no-stream session (next_due side (accepted side (peer_bi side) log session).state (peer_bi side) session)
+    no-stream session (next_due side (accept_outcome side (peer_bi side) log session).state (peer_bi side) session)
     (take-ends (log_streams side (peer_bi side) session) (λ g. length (state_of side g).bis) (Fits side)
     (λ g f fit e.
     let w = found-waits side g (peer_bi side) session (sound side g fit) f (next_due side g (peer_bi side) session) refl e in
@@ -329,9 +329,9 @@ no-datagram session None e = refl
 no-datagram session (Some d) e = absurd cc
 
 -- A receive that gives nothing leaves no datagram that it could have given.
-pub receive-ends : (side : Side) (log : Log) (session : ℕ) → (received side log session).given ≡ None → next_datagram side (received side log session).state ≡ None
+pub receive-ends : (side : Side) (log : Log) (session : ℕ) → (receive_outcome side log session).given ≡ None → next_datagram side (receive_outcome side log session).state ≡ None
 receive-ends side log session none =
-    no-datagram session (next_datagram side (received side log session).state)
+    no-datagram session (next_datagram side (receive_outcome side log session).state)
     (take-ends (log_datagrams side session) unsettled (λ g. Unit {0})
     (λ g d fit e. (tt, passed-less side session g d e))
     (suc (length (datagrams_of (events_of log)))) log tt (omega arith) none)

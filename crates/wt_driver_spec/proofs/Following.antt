@@ -9,14 +9,14 @@ use Rattle.wt_driver_spec.proofs.ScanSlots.{ArePeers, Same, Untouched, is_queued
 use Rattle.wt_driver_spec.proofs.StreamIds.{apart-ids, bi-low, fewer-miss, ids-more, kinds-differ, kinds-differ-so, kinds-miss, next-misses, uni-low}
 use Rattle.wt_driver_spec.specs.Claims.{IsOnce}
 use Rattle.wt_driver_spec.specs.DriverState.{DriverState, Held, Slot, slot_by, slot_of, slots, state_by, state_of}
-use Rattle.wt_driver_spec.specs.Moment.{Fits, MayCall, MayFollow, actions_if, flush_state, is_local, may_release, moment_actions, moment_state, names_session, scan_if, scans, state_with_actions}
+use Rattle.wt_driver_spec.specs.Moment.{Fits, MayRecord, MayFollow, actions_if, flush_state, has_local_kind, may_release, moment_actions, moment_state, names_session, scan_if, scans, state_with_actions}
 use Rattle.wt_driver_spec.specs.Step.{after_call, after_entry, control_after, is_other, new_slot, release, scan_state, sent_length, step_actions, without_slot}
 use Rattle.wt_proto.specs.declared.verdict.Verdict.{Verdict}
 use Rattle.wt_seam_spec.specs.Sent.{sent_on, with_sent_piece}
 use Rattle.wt_seam_spec.specs.Streams.{local_count, local_uni, one_more_if, opens, peer_bi, peer_count, peer_uni}
 use Rattle.wt_spec.specs.Driver.{ControlSent, apply_if, call_view, control_sent, flush, is_moment, log_and_flush, pending_actions, stream_table, transport_view}
 use Rattle.wt_spec.specs.Scan.{bi_ids, bi_rule, has, is_released, scan_bis, scan_order, scan_unis, stream_ids, uni_ids, uni_rule, without_stops}
-use Rattle.wt_spec.specs.StreamTable.{CallView, Classified, StreamTable, TransportView, dispatched, is_webtransport, kept_if, only, verdict_of}
+use Rattle.wt_spec.specs.StreamTable.{CallView, Classified, StreamTable, TransportView, dispatched_streams, is_webtransport, kept_if, only, verdict_of}
 use Rattle.wt_turn.specs.Log.{CallRecord, Called, Entry, Event, Log, PeerBi, PeerUni, Reported, RequestDelivered, Sent, StreamAccepted, StreamPassed, actions_of, ends_by, events_of, is_open, with_actions}
 use Rattle.wt_turn.specs.declared.action.Action.{Action}
 use Rattle.wt_wire.specs.declared.side.Side.{Side}
@@ -32,7 +32,7 @@ pub record Within (t : TransportView) (s : StreamTable) : Type 0 where
   pub classified : (k : ℕ) → has k (uni_ids t) ≡ false → has k (bi_ids t) ≡ false → verdict_of k s.classified ≡ None
 
 pub record Sound (side : Side) (log : Log) : Type 0 where
-  pub untouched : Untouched (is_local side) (call_view log) (stream_table side log)
+  pub untouched : Untouched (has_local_kind side) (call_view log) (stream_table side log)
   pub within : Within (transport_view side log) (stream_table side log)
   pub once : IsOnce (stream_table side log).classified
 
@@ -52,29 +52,29 @@ one-more id k rest ne e = by (id == k) refl
     by false f = e
 
 -- a stream of the peer's that may be released is classified as a session's
-pub named-peer : (side : Side) (cs : List Classified) (k : ℕ) → may_release side cs k ≡ true → is_local side k ≡ false → names_session (verdict_of k cs) ≡ true
+pub named-peer : (side : Side) (cs : List Classified) (k : ℕ) → may_release side cs k ≡ true → has_local_kind side k ≡ false → names_session (verdict_of k cs) ≡ true
 named-peer side cs k may peer = ap (λ b. b || names_session (verdict_of k cs)) (sym peer) ∙ may
 
-untouched-releasing : (side : Side) (log : Log) (id : ℕ) → may_release side (stream_table side log).classified id ≡ true → Untouched (is_local side) (call_view log) (stream_table side log)
-    → (k : ℕ) → is_local side k ≡ false → verdict_of k (stream_table side log).classified ≡ None → ((id == k) || (call_view log).released k) ≡ false
+untouched-releasing : (side : Side) (log : Log) (id : ℕ) → may_release side (stream_table side log).classified id ≡ true → Untouched (has_local_kind side) (call_view log) (stream_table side log)
+    → (k : ℕ) → has_local_kind side k ≡ false → verdict_of k (stream_table side log).classified ≡ None → ((id == k) || (call_view log).released k) ≡ false
 untouched-releasing side log id may un k peer none =
     one-more id k ((call_view log).released k)
     (λ e. none-named (verdict_of id (stream_table side log).classified) (ap (λ i. verdict_of i (stream_table side log).classified) e ∙ none)
-    (named-peer side (stream_table side log).classified id may (ap (is_local side) e ∙ peer)))
+    (named-peer side (stream_table side log).classified id may (ap (has_local_kind side) e ∙ peer)))
     (un.released k peer none)
 
-untouched-delivering : (side : Side) (log : Log) (id : ℕ) → is_some (verdict_of id (stream_table side log).classified) ≡ true → Untouched (is_local side) (call_view log) (stream_table side log)
+untouched-delivering : (side : Side) (log : Log) (id : ℕ) → is_some (verdict_of id (stream_table side log).classified) ≡ true → Untouched (has_local_kind side) (call_view log) (stream_table side log)
     → (k : ℕ) → verdict_of k (stream_table side log).classified ≡ None → ((id == k) || (call_view log).delivered k) ≡ false
 untouched-delivering side log id may un k none =
     one-more id k ((call_view log).delivered k) (λ e. none-some (verdict_of id (stream_table side log).classified) (ap (λ i. verdict_of i (stream_table side log).classified) e ∙ none) may) (un.delivered k none)
 
-untouched-called : (side : Side) (log : Log) (d : CallRecord) → MayCall side log d → Untouched (is_local side) (call_view log) (stream_table side log) → Untouched (is_local side) (call_view (Called d ∷ log)) (stream_table side log)
+untouched-called : (side : Side) (log : Log) (d : CallRecord) → MayRecord side log d → Untouched (has_local_kind side) (call_view log) (stream_table side log) → Untouched (has_local_kind side) (call_view (Called d ∷ log)) (stream_table side log)
 untouched-called side log (StreamAccepted id) may un = record { released = untouched-releasing side log id may un; delivered = un.delivered }
 untouched-called side log (StreamPassed id) may un = record { released = untouched-releasing side log id may un; delivered = un.delivered }
 untouched-called side log (RequestDelivered id) may un = record { released = un.released; delivered = untouched-delivering side log id may un }
 untouched-called side log _ may un = record { released = un.released; delivered = un.delivered }
 
-pub untouched-entry : (side : Side) (log : Log) (m : Entry) → MayFollow side log m → Untouched (is_local side) (call_view log) (stream_table side log) → Untouched (is_local side) (call_view (m ∷ log)) (stream_table side log)
+pub untouched-entry : (side : Side) (log : Log) (m : Entry) → MayFollow side log m → Untouched (has_local_kind side) (call_view log) (stream_table side log) → Untouched (has_local_kind side) (call_view (m ∷ log)) (stream_table side log)
 untouched-entry side log (Called d) may un = untouched-called side log d may un
 untouched-entry side log _ may un = record { released = un.released; delivered = un.delivered }
 
@@ -143,7 +143,7 @@ sound-where false t d local s un w o = (un, w, o)
 sound-entry : (side : Side) (log : Log) (m : Entry) → MayFollow side log m → Sound side log → Sound side (m ∷ log)
 unfolding stream_table
 sound-entry side log m may sound =
-    let both = sound-where ((is_moment m && is_open (m ∷ log))) (transport_view side (m ∷ log)) (call_view (m ∷ log)) (is_local side) (stream_table side log) (untouched-entry side log m may sound.untouched) (within-entry side log m (stream_table side log) sound.within) sound.once in
+    let both = sound-where ((is_moment m && is_open (m ∷ log))) (transport_view side (m ∷ log)) (call_view (m ∷ log)) (has_local_kind side) (stream_table side log) (untouched-entry side log m may sound.untouched) (within-entry side log m (stream_table side log) sound.within) sound.once in
     record { untouched = both.0; within = both.1; once = both.2 }
 
 pub sound : (side : Side) (log : Log) → Fits side log → Sound side log
@@ -234,15 +234,15 @@ only-but id gone is (r ∷ rs) =
 state-releasing : (t : TransportView) (d : CallView) (own : ControlSent) (runs : Bool) (s : StreamTable) (id : ℕ) → may_release t.side s.classified id ≡ true
     → state_by t (releasing id d) own runs s ≡ release id (state_by t d own runs s)
 state-releasing t d own runs s id may = λ i. record (state_by t d own runs s) {
-  unis = slots-releasing (is_local t.side) id d s (uni_ids t) (apart-ids t).uni_peers may i;
-  bis = slots-releasing (is_local t.side) id d s (bi_ids t) (apart-ids t).bi_peers may i;
-  dispatched = record (dispatched d s.classified) { waiting = only-but id d.released (λ r. is_webtransport r.verdict) s.classified i };
+  unis = slots-releasing (has_local_kind t.side) id d s (uni_ids t) (apart-ids t).uni_peers may i;
+  bis = slots-releasing (has_local_kind t.side) id d s (bi_ids t) (apart-ids t).bi_peers may i;
+  dispatched = record (dispatched_streams d s.classified) { waiting = only-but id d.released (λ r. is_webtransport r.verdict) s.classified i };
 }
 
 state-delivering : (t : TransportView) (d : CallView) (own : ControlSent) (runs : Bool) (s : StreamTable) (id : ℕ)
     → state_by t (delivering id d) own runs s ≡ after_call (RequestDelivered id) (state_by t d own runs s)
 state-delivering t d own runs s id = λ i. record (state_by t d own runs s) {
-  dispatched = record (dispatched d s.classified) { requests = only-but id d.delivered is_queued s.classified i };
+  dispatched = record (dispatched_streams d s.classified) { requests = only-but id d.delivered is_queued s.classified i };
 }
 
 -- ---- the peer opens a stream
@@ -326,7 +326,7 @@ reported-in side log PeerUni s = reported-uni side log s.within
 reported-in side log PeerBi s = reported-bi side log s.within
 reported-in side log _ s = refl
 
-called-in : (side : Side) (log : Log) (d : CallRecord) → MayCall side log d → before_scan side log (Called d) ≡ after_entry (transport_view side log) (Called d) (held side log)
+called-in : (side : Side) (log : Log) (d : CallRecord) → MayRecord side log d → before_scan side log (Called d) ≡ after_entry (transport_view side log) (Called d) (held side log)
 called-in side log (StreamAccepted id) may = state-releasing (transport_view side log) (call_view log) (control_sent side log) (is_open log) (stream_table side log) id may
 called-in side log (StreamPassed id) may = state-releasing (transport_view side log) (call_view log) (control_sent side log) (is_open log) (stream_table side log) id may
 called-in side log (RequestDelivered id) may = state-delivering (transport_view side log) (call_view log) (control_sent side log) (is_open log) (stream_table side log) id
@@ -339,7 +339,7 @@ taken-in side log (Sent a) may s = λ i. state_by (transport_view side log) (cal
 taken-in side log _ may s = refl
 
 -- what is kept after one more entry, but for what goes out then
-scanned-where : (b : Bool) (side : Side) (log : Log) (m : Entry) → Untouched (is_local side) (call_view (m ∷ log)) (stream_table side log)
+scanned-where : (b : Bool) (side : Side) (log : Log) (m : Entry) → Untouched (has_local_kind side) (call_view (m ∷ log)) (stream_table side log)
     → state_by (transport_view side (m ∷ log)) (call_view (m ∷ log)) (control_sent side (m ∷ log)) (is_open (m ∷ log)) (apply_if b (scan_order (transport_view side (m ∷ log)) (call_view (m ∷ log))) (stream_table side log))
     ≡ apply_if b (scan_state (transport_view side (m ∷ log))) (before_scan side log m)
 scanned-where true side log m un = sym (moment-scanned (transport_view side (m ∷ log)) (call_view (m ∷ log)) (control_sent side (m ∷ log)) (is_open (m ∷ log)) (apart-ids (transport_view side (m ∷ log))) (stream_table side log) un)

@@ -21,3 +21,4 @@ pub mod LookOrder
 pub mod Theorems
 pub mod ControlStream
 pub mod Asked
+pub mod Fair

@@ -14,7 +14,7 @@ use Rattle.wt_proto.specs.declared.verdict.Verdict.{Verdict}
 use Rattle.wt_seam_spec.specs.Streams.{one_more_if, peer_bi, peer_uni}
 use Rattle.wt_spec.specs.Driver.{apply_if, call_view, is_moment, stream_table, transport_view}
 use Rattle.wt_spec.specs.Scan.{Scan, SlotRule, bi_ids, bi_rule, classify, dequeue, has, scan, scan_bis, scan_order, scan_unis, stream_ids, uni_ids, uni_rule, unless_ended, visit, with_dequeued, without_stops}
-use Rattle.wt_spec.specs.StreamTable.{CallView, Classified, Ending, StreamTable, TransportView, dispatched, verdict_of}
+use Rattle.wt_spec.specs.StreamTable.{CallView, Classified, Ending, StreamTable, TransportView, dispatched_streams, verdict_of}
 use Rattle.wt_turn.specs.Log.{Entry, Log, is_open}
 use Rattle.wt_wire.specs.declared.side.Side.{Side}
 
@@ -55,7 +55,7 @@ module _ (ready : Bool) (d : CallView) (rule : SlotRule) where
 
   classify-adds : (b : Bool) (k : ℕ) (p : Scan) → VisitAdds k p.table.classified (classify b d rule k p).table.classified
   classify-adds false k p = inl refl
-  classify-adds true k p = inr (record { id = k; verdict = rule.verdict k; surplus = (rule.consequence (dispatched d p.table.classified) k (rule.verdict k)).surplus }, refl, refl)
+  classify-adds true k p = inr (record { id = k; verdict = rule.verdict k; surplus = (rule.consequence (dispatched_streams d p.table.classified) k (rule.verdict k)).surplus }, refl, refl)
 
   dequeue-adds : (b : Bool) (k : ℕ) (p : Scan) → VisitAdds k p.table.classified (dequeue b d rule k p).table.classified
   dequeue-adds false k p = inl refl
@@ -197,7 +197,7 @@ module _ (ready : Bool) (d : CallView) (rule : SlotRule) where
       taken : (b : Bool) → is_final (rule.verdict j) ≡ b → verdict_of j p.table.classified ≡ None → LookedAt ready rule j p.occupied (classify b d rule j (record p { table = with_dequeued j p.table })).table
       taken true f none = record {
         dequeues = λ r low. dequeued-here j p.table.dequeued;
-        classifies = λ h g. ap is_some (classified-here (record { id = j; verdict = rule.verdict j; surplus = (rule.consequence (dispatched d p.table.classified) j (rule.verdict j)).surplus }) p.table.classified none);
+        classifies = λ h g. ap is_some (classified-here (record { id = j; verdict = rule.verdict j; surplus = (rule.consequence (dispatched_streams d p.table.classified) j (rule.verdict j)).surplus }) p.table.classified none);
       }
       taken false f none = record { dequeues = λ r low. dequeued-here j p.table.dequeued; classifies = λ h g. absurd (true≢false (sym g ∙ f)) }
 

@@ -14,7 +14,7 @@ use Rattle.wt_proto.specs.declared.verdict.Verdict.{Verdict}
 use Rattle.wt_seam_spec.specs.Streams.{contents}
 use Rattle.wt_spec.specs.Driver.{apply_if, flush, is_moment, log_and_flush, pending_actions, transport_view}
 use Rattle.wt_spec.specs.Scan.{SlotRule, check_datagram, check_qpack}
-use Rattle.wt_spec.specs.StreamTable.{Consequence, Dispatched, Progress, TransportView, bi_consequence, uni_consequence}
+use Rattle.wt_spec.specs.StreamTable.{Consequence, Dispatched, DriverProgress, TransportView, bi_consequence, uni_consequence}
 use Rattle.wt_turn.specs.Log.{Entry, Log, Received, is_open, with_actions}
 use Rattle.wt_turn.specs.declared.action.Action.{Action}
 use Rattle.wt_wire.specs.declared.side.Side.{Side}
@@ -40,11 +40,11 @@ module _ (t : TransportView) (bytes : ℕ → List ℕ) (id : ℕ) (others : (j 
   all-rest-on n [] still r = tt
   all-rest-on n (l ∷ ls) still r = (rests-on l.place n l.id still.0 r.0, all-rest-on (suc n) ls still.1 r.1)
 
-datagrams-same : (t : TransportView) (bytes : ℕ → List ℕ) (b : Bool) (c : Progress) → check_datagram b (with_contents t bytes) c ≡ check_datagram b t c
+datagrams-same : (t : TransportView) (bytes : ℕ → List ℕ) (b : Bool) (c : DriverProgress) → check_datagram b (with_contents t bytes) c ≡ check_datagram b t c
 datagrams-same t bytes true c = refl
 datagrams-same t bytes false c = refl
 
-critical-same : (t : TransportView) (bytes : ℕ → List ℕ) (x : Option (ℕ × ℕ)) (c : Progress) → check_qpack (with_contents t bytes) x c ≡ check_qpack t x c
+critical-same : (t : TransportView) (bytes : ℕ → List ℕ) (x : Option (ℕ × ℕ)) (c : DriverProgress) → check_qpack (with_contents t bytes) x c ≡ check_qpack t x c
 critical-same t bytes None c = refl
 critical-same t bytes (Some x) c = refl
 

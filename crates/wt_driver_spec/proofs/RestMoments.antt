@@ -11,13 +11,13 @@ use Rattle.wt_driver_spec.proofs.Sending.{sent_at_once}
 use Rattle.wt_driver_spec.proofs.StreamIds.{apart-ids}
 use Rattle.wt_driver_spec.specs.AtOnce.{open_after}
 use Rattle.wt_driver_spec.specs.DriverState.{DriverState, slot_of, slots, state_by, state_of}
-use Rattle.wt_driver_spec.specs.Moment.{Fits, MayCall, MayFollow, flush_state, is_local, state_with_actions}
-use Rattle.wt_driver_spec.specs.Rest.{AtRest, RestsWhileOpen, begin_if, rested}
+use Rattle.wt_driver_spec.specs.Moment.{Fits, MayRecord, MayFollow, flush_state, has_local_kind, state_with_actions}
+use Rattle.wt_driver_spec.specs.Rest.{AtRest, RestsWhileOpen, begin_if, state_at_rest}
 use Rattle.wt_driver_spec.specs.Step.{after_call, after_entry, begin_scan, is_other, scan_state, step_actions, without_slot}
 use Rattle.wt_seam_spec.specs.Streams.{peer_bi, peer_uni}
 use Rattle.wt_spec.specs.Driver.{apply_if, call_view, control_sent, flush, is_moment, log_and_flush, pending_actions, stream_table, transport_view}
 use Rattle.wt_spec.specs.Scan.{bi_ids, has, stream_ids, uni_ids}
-use Rattle.wt_spec.specs.StreamTable.{CallView, Classified, Ending, StreamTable, TransportView, awaits_accept, dispatched, kept_if, only, verdict_of}
+use Rattle.wt_spec.specs.StreamTable.{CallView, Classified, Ending, StreamTable, TransportView, awaits_accept, dispatched_streams, kept_if, only, verdict_of}
 use Rattle.wt_turn.specs.Log.{CallRecord, Called, Entry, Event, Log, ReportedLate, StreamAccepted, ends_by, is_open, with_actions}
 use Rattle.wt_turn.specs.declared.action.Action.{Action}
 use Rattle.wt_wire.specs.declared.side.Side.{Side}
@@ -79,7 +79,7 @@ module _ (side : Side) (log : Log) (m : Entry) (may : MayFollow side log m) (fit
       ∙ (λ i. apply_if (is i && still i) (scan_state (same i)) (silent i))
 
   -- it leaves what is kept, but for the stops of the moment before
-  pub rest-state : state_of side (m ∷ log) ≡ rested (state_of side log)
+  pub rest-state : state_of side (m ∷ log) ≡ state_at_rest (state_of side log)
   rest-state = scanned-so ∙ by before.is_open refl
     where
       by : (b : Bool) → before.is_open ≡ b → apply_if b (scan_state (transport_view side log)) before ≡ begin_if b before
@@ -117,9 +117,9 @@ module _ (side : Side) (log : Log) (m : Entry) (may : MayFollow side log m) (fit
 silent-call : (t : TransportView) (r : CallRecord) (s : DriverState) → after_call r s ≡ s → after_entry t (Called r) s ≡ s
 silent-call t r s e = λ i. record (e i) { is_open = s.is_open }
 
-module _ (side : Side) (log : Log) (r : CallRecord) (may : MayCall side log r) (fits : Fits side log)
+module _ (side : Side) (log : Log) (r : CallRecord) (may : MayRecord side log r) (fits : Fits side log)
     (e : after_call r (state_of side log) ≡ state_of side log) (rests : RestsWhileOpen side log) where
-  pub quiet-call-state : state_of side (Called r ∷ log) ≡ rested (state_of side log)
+  pub quiet-call-state : state_of side (Called r ∷ log) ≡ state_at_rest (state_of side log)
   quiet-call-state = rest-state side log (Called r) may fits refl (silent-call (transport_view side log) r (state_of side log) e) refl rests
 
   -- A call record that the driver doesn't ask of is itself alone, at rest.
@@ -169,15 +169,15 @@ only-none id holds (c ∷ cs) e = by (c.id == id) refl e (only-none id holds cs)
         ∙ (λ i. kept (holds c) (turned-round c.id id f) i ++ again g i)
 
 -- no stream of this end's own is among the peer's
-local-misses : (side : Side) (id kind count : ℕ) → ArePeers (is_local side) (stream_ids kind 0 count) → is_local side id ≡ true → has id (stream_ids kind 0 count) ≡ false
+local-misses : (side : Side) (id kind count : ℕ) → ArePeers (has_local_kind side) (stream_ids kind 0 count) → has_local_kind side id ≡ true → has id (stream_ids kind 0 count) ≡ false
 local-misses side id kind count peers own = by (stream_ids kind 0 count) peers
   where
-    by : (ks : List ℕ) → ArePeers (is_local side) ks → has id ks ≡ false
+    by : (ks : List ℕ) → ArePeers (has_local_kind side) ks → has id ks ≡ false
     by [] p = refl
-    by (k ∷ ks) p = or_from (k == id) (has id ks) (false_from_ne_true (k == id) (λ e. true≢false (sym own ∙ ap (is_local side) (sym (eqb-true k id e)) ∙ p.0))) (by ks p.1)
+    by (k ∷ ks) p = or_from (k == id) (has id ks) (false_from_ne_true (k == id) (λ e. true≢false (sym own ∙ ap (has_local_kind side) (sym (eqb-true k id e)) ∙ p.0))) (by ks p.1)
 
 -- So an accept of a stream of this end's own changes nothing that a driver keeps.
-pub release-local : (side : Side) (log : Log) (id : ℕ) → Fits side log → is_local side id ≡ true → after_call (StreamAccepted id) (state_of side log) ≡ state_of side log
+pub release-local : (side : Side) (log : Log) (id : ℕ) → Fits side log → has_local_kind side id ≡ true → after_call (StreamAccepted id) (state_of side log) ≡ state_of side log
 unfolding state_of
 release-local side log id fits own =
     let t : TransportView = transport_view side log in
@@ -185,9 +185,9 @@ release-local side log id fits own =
     let none : verdict_of id (stream_table side log).classified ≡ None =
     (sound side log fits).within.classified id (local-misses side id (peer_uni side) t.unis apart.uni_peers own) (local-misses side id (peer_bi side) t.bis apart.bi_peers own) in
     λ i. record (state_by t (call_view log) (control_sent side log) (is_open log) (stream_table side log)) {
-      unis = without-none id (call_view log) (stream_table side log) (is_local side) (uni_ids t) apart.uni_peers own i;
-      bis = without-none id (call_view log) (stream_table side log) (is_local side) (bi_ids t) apart.bi_peers own i;
-      dispatched = record (dispatched (call_view log) (stream_table side log).classified) {
+      unis = without-none id (call_view log) (stream_table side log) (has_local_kind side) (uni_ids t) apart.uni_peers own i;
+      bis = without-none id (call_view log) (stream_table side log) (has_local_kind side) (bi_ids t) apart.bi_peers own i;
+      dispatched = record (dispatched_streams (call_view log) (stream_table side log).classified) {
         waiting = only-none id (awaits_accept (call_view log).released) (stream_table side log).classified none i;
       };
     }

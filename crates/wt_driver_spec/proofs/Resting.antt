@@ -13,7 +13,7 @@ use Rattle.wt_proto.specs.declared.control_walk.ControlWalk.{ControlWalk}
 use Rattle.wt_proto.specs.declared.session_walk.SessionWalk.{SessionWalk}
 use Rattle.wt_seam_spec.specs.Reports.{is_running}
 use Rattle.wt_spec.specs.Scan.{SlotRule, bi_rule, check_control, check_datagram, check_qpack, check_session, checks, control_read, critical_if, dequeued_datagram, in_order, is_released, occupied, parsed_datagram, session_ends, uni_rule, unless_ended, with_fault}
-use Rattle.wt_spec.specs.StreamTable.{Dispatched, Ending, Progress, TransportView}
+use Rattle.wt_spec.specs.StreamTable.{Dispatched, Ending, DriverProgress, TransportView}
 use Rattle.wt_wire.specs.declared.error.ErrorCode.{ErrorCode}
 use Rattle.wt_proto.specs.declared.session_walk.SessionWalk.TheVariants as walks
 use Rattle.wt_wire.specs.declared.side.StreamEnd.TheVariants as ends
@@ -88,15 +88,15 @@ module _ (ready : Bool) (rule : SlotRule) where
 -- ---- the checks behind the streams
 
 -- a check changes no datagrams, no settings
-abbrev KeepsDatagrams : (Progress → Progress) → Type 0
-KeepsDatagrams f = (c : Progress) → (f c).datagrams ≡ c.datagrams
+abbrev KeepsDatagrams : (DriverProgress → DriverProgress) → Type 0
+KeepsDatagrams f = (c : DriverProgress) → (f c).datagrams ≡ c.datagrams
 
-abbrev KeepsSettings : (Progress → Progress) → Type 0
-KeepsSettings f = (c : Progress) → (f c).settings ≡ c.settings
+abbrev KeepsSettings : (DriverProgress → DriverProgress) → Type 0
+KeepsSettings f = (c : DriverProgress) → (f c).settings ≡ c.settings
 
 -- a check that only may end the connection
-record Plain (f : Progress → Progress) : Type 0 where
-  stays : (c : Progress) → (f c).ending ≡ None → (e : Progress) → f e ≡ e
+record Plain (f : DriverProgress → DriverProgress) : Type 0 where
+  stays : (c : DriverProgress) → (f c).ending ≡ None → (e : DriverProgress) → f e ≡ e
   datagrams : KeepsDatagrams f
   settings : KeepsSettings f
 
@@ -123,27 +123,27 @@ or-again true b = refl
 or-again false true = refl
 or-again false false = refl
 
-fault-none : (o : Option ErrorCode) (c : Progress) → (with_fault o c).ending ≡ None → o ≡ None
+fault-none : (o : Option ErrorCode) (c : DriverProgress) → (with_fault o c).ending ≡ None → o ≡ None
 fault-none None c e = refl
 fault-none (Some code) c e = absurd cc
 
-fault-settings : (o : Option ErrorCode) (c : Progress) → (with_fault o c).settings ≡ c.settings
+fault-settings : (o : Option ErrorCode) (c : DriverProgress) → (with_fault o c).settings ≡ c.settings
 fault-settings None c = refl
 fault-settings (Some code) c = refl
 
-fault-datagrams : (o : Option ErrorCode) (c : Progress) → (with_fault o c).datagrams ≡ c.datagrams
+fault-datagrams : (o : Option ErrorCode) (c : DriverProgress) → (with_fault o c).datagrams ≡ c.datagrams
 fault-datagrams None c = refl
 fault-datagrams (Some code) c = refl
 
-with-settings : (e : Progress) (b : Bool) → b ≡ e.settings → record e { settings = b } ≡ e
+with-settings : (e : DriverProgress) (b : Bool) → b ≡ e.settings → record e { settings = b } ≡ e
 with-settings e b f = ap (λ (s : Bool). record e { settings = s }) f
 
 -- once SETTINGS are noted, the control stream says nothing more
-control-again : (t : TransportView) (x : Option (ℕ × ℕ)) (c e : Progress) → (check_control t x c).ending ≡ None → e.settings ≡ (check_control t x c).settings → check_control t x e ≡ e
+control-again : (t : TransportView) (x : Option (ℕ × ℕ)) (c e : DriverProgress) → (check_control t x c).ending ≡ None → e.settings ≡ (check_control t x c).settings → check_control t x e ≡ e
 control-again t None c e runs same = refl
 control-again t (Some x) c e runs same = settles (control_walk_of (drop x.1 (t.contents x.0)) (t.end x.0)) c runs e same
   where
-    settles : (w : ControlWalk) (c : Progress) → (control_read w c).ending ≡ None → (e : Progress) → e.settings ≡ (control_read w c).settings → control_read w e ≡ e
+    settles : (w : ControlWalk) (c : DriverProgress) → (control_read w c).ending ≡ None → (e : DriverProgress) → e.settings ≡ (control_read w c).settings → control_read w e ≡ e
     settles w c none e same =
         let now : e.settings ≡ (c.settings || is_some w.settings) = same ∙ fault-settings w.fault (record c { settings = c.settings || is_some w.settings }) in
         let kept : (e.settings || is_some w.settings) ≡ e.settings = ap (λ b. b || is_some w.settings) now ∙ or-again c.settings (is_some w.settings) ∙ sym now in
@@ -154,40 +154,40 @@ control-datagrams : (t : TransportView) (x : Option (ℕ × ℕ)) → KeepsDatag
 control-datagrams t None c = refl
 control-datagrams t (Some x) c = fault-datagrams (control_walk_of (drop x.1 (t.contents x.0)) (t.end x.0)).fault _
 
-read-datagrams : (r : Result (ℕ × List ℕ) ErrorCode) (c : Progress) → (parsed_datagram r c).datagrams ≡ c.datagrams
+read-datagrams : (r : Result (ℕ × List ℕ) ErrorCode) (c : DriverProgress) → (parsed_datagram r c).datagrams ≡ c.datagrams
 read-datagrams (Ok d) c = refl
 read-datagrams (Err code) c = refl
 
 -- after a datagram was dequeued no more is dequeued
 module _ (t : TransportView) (settled : ℕ) where
-  abbrev next_datagram : Progress → Progress
+  abbrev next_datagram : DriverProgress → DriverProgress
   next_datagram c = check_datagram (t.ready && settled == c.datagrams) t c
 
-  stuck : (ready : Bool) (e : Progress) → (settled == e.datagrams) ≡ false → check_datagram (ready && settled == e.datagrams) t e ≡ e
+  stuck : (ready : Bool) (e : DriverProgress) → (settled == e.datagrams) ≡ false → check_datagram (ready && settled == e.datagrams) t e ≡ e
   stuck true e f = rw f refl
   stuck false e f = refl
 
   past : (n : ℕ) → (settled == n) ≡ true → (settled == suc n) ≡ false
   past n e = false_from_ne_true (settled == suc n) (λ f. (let a = eqb-true settled n e in let b = eqb-true settled (suc n) f in omega arith))
 
-  dequeued-again : (o : Option (List ℕ)) (c e : Progress) → t.datagram c.datagrams ≡ o → (settled == c.datagrams) ≡ true → e.datagrams ≡ (dequeued_datagram o c).datagrams → t.ready ≡ true → next_datagram e ≡ e
+  dequeued-again : (o : Option (List ℕ)) (c e : DriverProgress) → t.datagram c.datagrams ≡ o → (settled == c.datagrams) ≡ true → e.datagrams ≡ (dequeued_datagram o c).datagrams → t.ready ≡ true → next_datagram e ≡ e
   dequeued-again None c e f g same ready =
       rw (ready, same, g, f) refl
   dequeued-again (Some piece) c e f g same ready =
       let more : e.datagrams ≡ suc c.datagrams = same ∙ read-datagrams (datagram_of piece) (record c { datagrams = suc c.datagrams }) in
       stuck t.ready e (ap (λ n. settled == n) more ∙ past c.datagrams g)
 
-  datagrams-again : (ready is : Bool) (c e : Progress) → t.ready ≡ ready → (settled == c.datagrams) ≡ is → e.datagrams ≡ (check_datagram (ready && is) t c).datagrams → next_datagram e ≡ e
+  datagrams-again : (ready is : Bool) (c e : DriverProgress) → t.ready ≡ ready → (settled == c.datagrams) ≡ is → e.datagrams ≡ (check_datagram (ready && is) t c).datagrams → next_datagram e ≡ e
   datagrams-again false is c e f g same = rw f refl
   datagrams-again true false c e f g same = stuck t.ready e (ap (λ n. settled == n) same ∙ g)
   datagrams-again true true c e f g same = dequeued-again (t.datagram c.datagrams) c e refl g same f
 
-  datagrams-rest : (c e : Progress) → e.datagrams ≡ (next_datagram c).datagrams → next_datagram e ≡ e
+  datagrams-rest : (c e : DriverProgress) → e.datagrams ≡ (next_datagram c).datagrams → next_datagram e ≡ e
   datagrams-rest c e same = datagrams-again t.ready (settled == c.datagrams) c e refl refl same
 
 -- ---- all checks, once more
 
-ended-before : (fs : List (Progress → Progress)) (c : Progress) → (in_order fs c).ending ≡ None → c.ending ≡ None
+ended-before : (fs : List (DriverProgress → DriverProgress)) (c : DriverProgress) → (in_order fs c).ending ≡ None → c.ending ≡ None
 ended-before [] c e = e
 ended-before (f ∷ fs) c e = by c.ending refl (ended-before fs (unless_ended c.ending f c) e)
   where
@@ -195,29 +195,29 @@ ended-before (f ∷ fs) c e = by c.ending refl (ended-before fs (unless_ended c.
     by None e g = refl
     by (Some x) e g = sym e ∙ g
 
-not-ended : (f : Progress → Progress) (c : Progress) → c.ending ≡ None → unless_ended c.ending f c ≡ f c
+not-ended : (f : DriverProgress → DriverProgress) (c : DriverProgress) → c.ending ≡ None → unless_ended c.ending f c ≡ f c
 not-ended f c e = rw e refl
 
 -- the checks, one after another, with what each leaves
-abbrev pub RunsOn : List (Progress → Progress) → Progress → Type 0
+abbrev pub RunsOn : List (DriverProgress → DriverProgress) → DriverProgress → Type 0
 RunsOn [] c = Unit {0}
 RunsOn (f ∷ fs) c = (c.ending ≡ None) × RunsOn fs (f c)
 
-runs-on : (fs : List (Progress → Progress)) (c : Progress) → (in_order fs c).ending ≡ None → RunsOn fs c
+runs-on : (fs : List (DriverProgress → DriverProgress)) (c : DriverProgress) → (in_order fs c).ending ≡ None → RunsOn fs c
 runs-on [] c e = tt
 runs-on (f ∷ fs) c e =
     let first = ended-before (f ∷ fs) c e in
-    (first, runs-on fs (f c) (ap (λ (d : Progress). (in_order fs d).ending) (sym (not-ended f c first)) ∙ e))
+    (first, runs-on fs (f c) (ap (λ (d : DriverProgress). (in_order fs d).ending) (sym (not-ended f c first)) ∙ e))
 
-abbrev each : List (Progress → Progress) → Progress → Progress
+abbrev each : List (DriverProgress → DriverProgress) → DriverProgress → DriverProgress
 each [] c = c
 each (f ∷ fs) c = each fs (f c)
 
-in-order-runs : (fs : List (Progress → Progress)) (c : Progress) → RunsOn fs c → in_order fs c ≡ each fs c
+in-order-runs : (fs : List (DriverProgress → DriverProgress)) (c : DriverProgress) → RunsOn fs c → in_order fs c ≡ each fs c
 in-order-runs [] c r = refl
 in-order-runs (f ∷ fs) c r = ap (in_order fs) (not-ended f c r.0) ∙ in-order-runs fs (f c) r.1
 
-in-order-stays : (fs : List (Progress → Progress)) (c : Progress) → AllStay fs c → in_order fs c ≡ c
+in-order-stays : (fs : List (DriverProgress → DriverProgress)) (c : DriverProgress) → AllStay fs c → in_order fs c ≡ c
 in-order-stays [] c s = refl
 in-order-stays (f ∷ fs) c s = ap (in_order fs) (by c.ending) ∙ in-order-stays fs c s.1
   where
@@ -226,25 +226,25 @@ in-order-stays (f ∷ fs) c s = ap (in_order fs) (by c.ending) ∙ in-order-stay
     by (Some x) = refl
 
 module _ (t : TransportView) (settled : ℕ) (session : Option (ℕ × ℕ)) (o : Dispatched) where
-  abbrev one : Progress → Progress
+  abbrev one : DriverProgress → DriverProgress
   one c = next_datagram t settled c
 
-  abbrev two : Progress → Progress
+  abbrev two : DriverProgress → DriverProgress
   two c = check_session t session (one c)
 
-  abbrev three : Progress → Progress
+  abbrev three : DriverProgress → DriverProgress
   three c = critical_if t.control_stopped (two c)
 
-  abbrev four : Progress → Progress
+  abbrev four : DriverProgress → DriverProgress
   four c = check_control t o.control (three c)
 
-  abbrev five : Progress → Progress
+  abbrev five : DriverProgress → DriverProgress
   five c = check_qpack t o.encoder (four c)
 
-  abbrev six : Progress → Progress
+  abbrev six : DriverProgress → DriverProgress
   six c = check_qpack t o.decoder (five c)
 
-  all-stay : (c : Progress) → RunsOn (checks t (kept_calls settled session) o) c → (six c).ending ≡ None → AllStay (checks t (kept_calls settled session) o) (with_no_stops (six c))
+  all-stay : (c : DriverProgress) → RunsOn (checks t (kept_calls settled session) o) c → (six c).ending ≡ None → AllStay (checks t (kept_calls settled session) o) (with_no_stops (six c))
   all-stay c r last =
       let s = plain-session t session in
       let w = plain-where t.control_stopped in
@@ -269,12 +269,12 @@ module _ (t : TransportView) (settled : ℕ) (session : Option (ℕ × ℕ)) (o 
       )
 
   -- after all checks, where none found an ending, none finds anything more
-  pub checks-rest : (c : Progress) → (in_order (checks t (kept_calls settled session) o) c).ending ≡ None
+  pub checks-rest : (c : DriverProgress) → (in_order (checks t (kept_calls settled session) o) c).ending ≡ None
       → AllStay (checks t (kept_calls settled session) o) (with_no_stops (in_order (checks t (kept_calls settled session) o) c))
   checks-rest c e =
       let r = runs-on (checks t (kept_calls settled session) o) c e in
       let is : in_order (checks t (kept_calls settled session) o) c ≡ six c = in-order-runs (checks t (kept_calls settled session) o) c r in
-      let last : (six c).ending ≡ None = ap (λ (d : Progress). d.ending) (sym is) ∙ e in
+      let last : (six c).ending ≡ None = ap (λ (d : DriverProgress). d.ending) (sym is) ∙ e in
       rw is (all-stay c r last)
 
 -- ---- a whole scan
@@ -298,7 +298,7 @@ rest-scanned t k r =
     let w : DriverState = begin_scan k in
     let first : scan_uni_slots t w ≡ w = ap (λ (g : Scanned). with_scanned_unis w g) (rest-stays t.ready (uni_rule t) w.unis 0 (known_of w) r.unis) in
     let second : scan_bi_slots t w ≡ w = ap (λ (g : Scanned). with_scanned_bis w g) (rest-stays t.ready (bi_rule t) w.bis 0 (known_of w) r.bis) in
-    let third : run_checks t w ≡ w = ap (λ (c : Progress). record w { progress = c }) (in-order-stays (checks t (kept_calls w.datagrams w.session) w.dispatched) w.progress r.stay) in
+    let third : run_checks t w ≡ w = ap (λ (c : DriverProgress). record w { progress = c }) (in-order-stays (checks t (kept_calls w.datagrams w.session) w.dispatched) w.progress r.stay) in
     ap (λ (j : DriverState). run_checks t (scan_bi_slots t j)) first ∙ ap (run_checks t) second ∙ third
 
 -- where a scan finds no ending, a second one leaves all as it is, and has nothing to stop

@@ -8,7 +8,7 @@ use Rattle.wt_driver_spec.specs.Step.{Known, Scanned, after_slots, classify_slot
 use Rattle.wt_proto.specs.Uni.{is_final}
 use Rattle.wt_proto.specs.declared.verdict.Verdict.{Verdict}
 use Rattle.wt_spec.specs.Scan.{Scan, SlotRule, classify, dequeue, has, is_released, occupied, scan, unless_ended, visit, with_dequeued}
-use Rattle.wt_spec.specs.StreamTable.{CallView, Classified, Consequence, Dispatched, Ending, StreamTable, awaits_accept, awaits_delivery, control_start, decoder_start, dispatched, encoder_start, first_at, is_request, is_webtransport, kept_if, only, or_later, paired, verdict_of}
+use Rattle.wt_spec.specs.StreamTable.{CallView, Classified, Consequence, Dispatched, Ending, StreamTable, awaits_accept, awaits_delivery, control_start, decoder_start, dispatched_streams, encoder_start, first_at, is_request, is_webtransport, kept_if, only, or_later, offset_with_id, verdict_of}
 use Rattle.wt_proto.specs.declared.verdict.Verdict.TheVariants as verdicts
 
 -- ---- lists of ids
@@ -123,11 +123,11 @@ or-again : (x y z : Option (ℕ × ℕ)) → or_later x (or_later y z) ≡ or_la
 or-again None y z = refl
 or-again (Some x) y z = refl
 
-first-append : (step_actions : Verdict → Option ℕ) (rs : List Classified) (r : Classified) → first_at step_actions (rs ++ r ∷ []) ≡ or_later (first_at step_actions rs) (paired r.id (step_actions r.verdict))
-first-append step_actions [] r = or-none (paired r.id (step_actions r.verdict))
+first-append : (step_actions : Verdict → Option ℕ) (rs : List Classified) (r : Classified) → first_at step_actions (rs ++ r ∷ []) ≡ or_later (first_at step_actions rs) (offset_with_id r.id (step_actions r.verdict))
+first-append step_actions [] r = or-none (offset_with_id r.id (step_actions r.verdict))
 first-append step_actions (x ∷ xs) r =
-    ap (or_later (paired x.id (step_actions x.verdict))) (first-append step_actions xs r)
-    ∙ or-again (paired x.id (step_actions x.verdict)) (first_at step_actions xs) (paired r.id (step_actions r.verdict))
+    ap (or_later (offset_with_id x.id (step_actions x.verdict))) (first-append step_actions xs r)
+    ∙ or-again (offset_with_id x.id (step_actions x.verdict)) (first_at step_actions xs) (offset_with_id r.id (step_actions r.verdict))
 
 pub only-both : (holds : Classified → Bool) (xs ys : List Classified) → only holds (xs ++ ys) ≡ only holds xs ++ only holds ys
 only-both holds [] ys = refl
@@ -143,9 +143,9 @@ is_queued c = is_request c.verdict && not c.surplus
 -- one more among those that are dispatched, whatever its verdict
 abbrev added : Dispatched → Classified → Dispatched
 added o r = record {
-  control = or_later o.control (paired r.id (control_start r.verdict));
-  encoder = or_later o.encoder (paired r.id (encoder_start r.verdict));
-  decoder = or_later o.decoder (paired r.id (decoder_start r.verdict));
+  control = or_later o.control (offset_with_id r.id (control_start r.verdict));
+  encoder = or_later o.encoder (offset_with_id r.id (encoder_start r.verdict));
+  decoder = or_later o.decoder (offset_with_id r.id (decoder_start r.verdict));
   requests = o.requests ++ kept_if (is_queued r) r;
   waiting = o.waiting ++ kept_if (is_webtransport r.verdict) r;
 }
@@ -176,8 +176,8 @@ module _ (o : Dispatched) where
       ap (λ (p : Dispatched). record p { waiting = o.waiting ++ record { id = k; verdict = verdicts.WebTransport session at; surplus = b } ∷ [] }) none-added
   added-by k _ b = none-added
 
-dispatched-append : (d : CallView) (rs : List Classified) (r : Classified) → d.released r.id ≡ false → d.delivered r.id ≡ false → dispatched d (rs ++ r ∷ []) ≡ dispatch (dispatched d rs) r
-dispatched-append d rs r l g = whole ∙ added-by (dispatched d rs) r.id r.verdict r.surplus
+dispatched-append : (d : CallView) (rs : List Classified) (r : Classified) → d.released r.id ≡ false → d.delivered r.id ≡ false → dispatched_streams d (rs ++ r ∷ []) ≡ dispatch (dispatched_streams d rs) r
+dispatched-append d rs r l g = whole ∙ added-by (dispatched_streams d rs) r.id r.verdict r.surplus
   where
     queued : only (awaits_delivery d.delivered) (rs ++ r ∷ []) ≡ only (awaits_delivery d.delivered) rs ++ kept_if (is_queued r) r
     queued = only-append (awaits_delivery d.delivered) rs r ∙ rw g refl
@@ -185,7 +185,7 @@ dispatched-append d rs r l g = whole ∙ added-by (dispatched d rs) r.id r.verdi
     waits : only (awaits_accept d.released) (rs ++ r ∷ []) ≡ only (awaits_accept d.released) rs ++ kept_if (is_webtransport r.verdict) r
     waits = only-append (awaits_accept d.released) rs r ∙ rw l refl
 
-    whole : dispatched d (rs ++ r ∷ []) ≡ added (dispatched d rs) r
+    whole : dispatched_streams d (rs ++ r ∷ []) ≡ added (dispatched_streams d rs) r
     whole = λ i. record {
       control = first-append control_start rs r i;
       encoder = first-append encoder_start rs r i;
@@ -205,7 +205,7 @@ slots-same d s u (k ∷ ks) same = λ i.
     slot-same d s u k (same k (has-here k ks)) i ++ slots-same d s u ks (λ j e. same j (or_right (k == j) (has j ks) e)) i
 
 abbrev pub known : CallView → StreamTable → Known
-known d s = record { dispatched = dispatched d s.classified; progress = s.progress }
+known d s = record { dispatched = dispatched_streams d s.classified; progress = s.progress }
 
 -- what scanning the slots of these streams leaves
 abbrev pub left : CallView → StreamTable → List ℕ → Scanned
@@ -290,7 +290,7 @@ module _ (ready : Bool) (d : CallView) (rule : SlotRule) where
         → scan_on (λ m e. scan_slots ready rule m ls e) (classify_slot b rule k p.occupied (known d p.table)) ≡ after (classify b d rule k (record p { table = with_dequeued k p.table }))
     classified-on false none = rw (dequeued-here k p.table.dequeued, none) refl
     classified-on true none =
-        let e : Consequence = rule.consequence (dispatched d p.table.classified) k (rule.verdict k) in
+        let e : Consequence = rule.consequence (dispatched_streams d p.table.classified) k (rule.verdict k) in
         let r : Classified = record { id = k; verdict = rule.verdict k; surplus = e.surplus } in
         rw (classified-here r p.table.classified none, un.released k peers none, dispatched-append d p.table.classified r (un.released k peers none) (un.delivered k none)) refl
 

@@ -4,7 +4,7 @@ use Rattle.std.specs.Prelude.{Option, Some, None, ◌==◌, ◌&&◌, not}
 use Rattle.std.proofs.lemmas.Bool.{eq-eqb}
 use Rattle.std.proofs.lemmas.List.{drop_all}
 use Rattle.wt_driver_spec.proofs.Resting.{scanned-again}
-use Rattle.wt_driver_spec.specs.AtOnce.{control_flushed, flushed, open_after}
+use Rattle.wt_driver_spec.specs.AtOnce.{control_flushed, state_after_flush, open_after}
 use Rattle.wt_driver_spec.specs.DriverState.{DriverState}
 use Rattle.wt_driver_spec.specs.Moment.{flush_state, state_with_actions}
 use Rattle.wt_driver_spec.specs.Step.{begin_scan, control_after, scan_state, step_actions}
@@ -160,7 +160,7 @@ actions-open t k =
     (open-both part (stop_actions k.progress.stops) k.is_open ∙ ap (still_open (stop_actions k.progress.stops)) (open-part t.may_open (local_uni t.side) t.credit k.control_sent k.is_open) ∙ open-stops k.progress.stops k.is_open)
     ∙ open-close (session_id k.session) k.progress.ending k.is_open
 
-pub sent_at_once : (t : TransportView) (k : DriverState) → flush_state t k ≡ flushed t k
+pub sent_at_once : (t : TransportView) (k : DriverState) → flush_state t k ≡ state_after_flush t k
 sent_at_once t k =
     sends-are t (step_actions t k) k
     ∙ (λ i. record k { control_sent = (actions-control t k ∙ control-with-after t.may_open t.side t.credit k.control_sent) i; is_open = actions-open t k i })

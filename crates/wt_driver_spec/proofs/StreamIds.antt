@@ -4,7 +4,7 @@ use Rattle.std.specs.Prelude.{◌==◌, ◌||◌}
 use Rattle.std.proofs.lemmas.Bool.{eqb-true, or_from, or_parts, false_from_ne_true}
 use Rattle.wt_driver_spec.proofs.MomentScan.{AreApart}
 use Rattle.wt_driver_spec.proofs.ScanSlots.{ArePeers, IsDistinct}
-use Rattle.wt_driver_spec.specs.Moment.{is_local}
+use Rattle.wt_driver_spec.specs.Moment.{has_local_kind}
 use Rattle.wt_driver_spec.specs.Step.{is_other}
 use Rattle.wt_seam_spec.specs.Streams.{peer_bi, peer_uni}
 use Rattle.wt_spec.specs.Scan.{has, stream_ids}
@@ -63,13 +63,13 @@ pub kinds-differ-so : (side : Side) → peer_bi side ≢ peer_uni side
 kinds-differ-so side e = kinds-differ side (sym e)
 
 -- which ids are this end's own
-not-local : (side : Side) (kind k : ℕ) → (peer_uni side ≡ kind) ⊎ (peer_bi side ≡ kind) → k % 4 ≡ kind → is_local side k ≡ false
+not-local : (side : Side) (kind k : ℕ) → (peer_uni side ≡ kind) ⊎ (peer_bi side ≡ kind) → k % 4 ≡ kind → has_local_kind side k ≡ false
 not-local Client kind k (inl a) e = rw (e, ← a) refl
 not-local Client kind k (inr a) e = rw (e, ← a) refl
 not-local Server kind k (inl a) e = rw (e, ← a) refl
 not-local Server kind k (inr a) e = rw (e, ← a) refl
 
-are-peers : (side : Side) (kind n count : ℕ) → kind < 4 → (peer_uni side ≡ kind) ⊎ (peer_bi side ≡ kind) → ArePeers (is_local side) (stream_ids kind n count)
+are-peers : (side : Side) (kind n count : ℕ) → kind < 4 → (peer_uni side ≡ kind) ⊎ (peer_bi side ≡ kind) → ArePeers (has_local_kind side) (stream_ids kind n count)
 are-peers side kind n zero low a = tt
 are-peers side kind n (suc count) low a = (not-local side kind (4 * n + kind) a (omega arith), are-peers side kind (suc n) count low a)
 

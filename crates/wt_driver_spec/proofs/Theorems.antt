@@ -12,7 +12,7 @@ use Rattle.wt_driver_spec.proofs.Stays.{by-accept-stays, entry-later, release-st
 use Rattle.wt_driver_spec.specs.Bounds.{Bounded, HasDistinctSlots}
 use Rattle.wt_driver_spec.specs.Claims.{AcceptFollows, ByteRests, DequeuedAsk, IsOnce, MomentFollows, NothingLeft, ReceiveFollows, RestsOn, StreamsStay}
 use Rattle.wt_driver_spec.specs.DriverState.{state_of}
-use Rattle.wt_driver_spec.specs.Moment.{Fits, MayCall, MayFollow}
+use Rattle.wt_driver_spec.specs.Moment.{Fits, MayRecord, MayFollow}
 use Rattle.wt_driver_spec.specs.Rest.{AtRest, FitsAndRests, IsQuiet, RestsWhileOpen}
 use Rattle.wt_driver_spec.specs.Step.{after_call}
 use Rattle.wt_seam_spec.specs.Streams.{contents}
@@ -42,7 +42,7 @@ nothing_theorem side log session facts = record {
 pub rest_theorem : (side : Side) (log : Log) (e : Entry) → MayFollow side log e → Fits side log → is_moment e ≡ true → RestsWhileOpen side (log_and_flush side log e)
 rest_theorem side log e may fits is = moment-rests-open side log e may fits is
 
-pub call_theorem : (side : Side) (log : Log) (r : CallRecord) → MayCall side log r → FitsAndRests side log → after_call r (state_of side log) ≡ state_of side log → RestsOn side log (Called r)
+pub call_theorem : (side : Side) (log : Log) (r : CallRecord) → MayRecord side log r → FitsAndRests side log → after_call r (state_of side log) ≡ state_of side log → RestsOn side log (Called r)
 call_theorem side log r may facts e = record {
   alone = quiet-call side log r may facts.fits e facts.rests;
   state = quiet-call-state side log r may facts.fits e facts.rests;

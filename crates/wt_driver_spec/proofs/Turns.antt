@@ -13,26 +13,26 @@ use Rattle.wt_driver_spec.proofs.ClassifiedOnce.{In, in-classified, only-in}
 use Rattle.wt_driver_spec.proofs.Following.{actions-fit, moment-fits, sound}
 use Rattle.wt_driver_spec.proofs.RestMoments.{moment-rests-open, start-rests}
 use Rattle.wt_driver_spec.proofs.ScanSlots.{left}
-use Rattle.wt_driver_spec.specs.Moment.{Fits, MayCall, MayFollow, is_local, names_session}
+use Rattle.wt_driver_spec.specs.Moment.{Fits, MayRecord, MayFollow, has_local_kind, names_session}
 use Rattle.wt_driver_spec.specs.Rest.{FitsAndRests}
 use Rattle.wt_message.specs.Datagram.{datagram_bytes}
 use Rattle.wt_proto.specs.ResponseWalk.{response_walk_of}
 use Rattle.wt_proto.specs.declared.response_walk.ResponseWalk.{ResponseWalk}
 use Rattle.wt_seam_spec.specs.Arrivals.{event_entry, log_event}
 use Rattle.wt_seam_spec.specs.Joined.{send_of}
-use Rattle.wt_seam_spec.specs.Outgoing.{covered, if_open, may_open, next_id, opening}
-use Rattle.wt_seam_spec.specs.Reports.{credit, datagram_fact, end_of, is_acknowledged, is_connected, stop_of}
+use Rattle.wt_seam_spec.specs.Outgoing.{bytes_within_credit, if_open, may_open, next_id, actions_to_open}
+use Rattle.wt_seam_spec.specs.Reports.{datagram_fact, end_of, is_acknowledged, is_connected, stop_of}
 use Rattle.wt_seam_spec.specs.Sent.{is_finished}
 use Rattle.wt_seam_spec.specs.Streams.{contents, local_bi, local_count, local_uni, peer_bi, peer_uni, stream_count}
 use Rattle.wt_spec.specs.Answers.{call_effect, in_session, log_after, log_from, on_receiving, on_sending, on_session, receive}
 use Rattle.wt_spec.specs.Connect.{address_of, authority_of, connect, connect_to, outcome_error, path_of, port_of, request_head, reserved_name, server_name, unless_stopped, with_address}
 use Rattle.wt_spec.specs.Connection.{accept_stream, datagram_allowed, datagram_within, ends_opening, is_opening, open_stream, poll_opening, receive_datagram, send_datagram, send_header, starts_opening, stream_header}
-use Rattle.wt_spec.specs.Driver.{call_view, established, flush, is_moment, log_and_flush, settings_came, stream_table}
-use Rattle.wt_spec.specs.Effect.{Effect, closing, driver_error, head_left, is_covered, is_empty, log_call, poll_sending, reply_with, transport_error}
-use Rattle.wt_spec.specs.Halves.{all_written_reply, exact_at_end, finishing, has_receiving_half, has_sending_half, is_done, on_half, read, read_exact, read_reply, reset, set_priority, take_bytes, unread_body, write_by, write_error, written_reply}
-use Rattle.wt_spec.specs.Handshake.{Connecting, HandshakeState, Responding, accept_response, await_or_fail, await_response, continue_by, establish, fail_handshake, handshake_state, has_success, incoming, is_refused, open_request, queued_requests, read_response, reject_response, requested, respond, send_request, start_response, unless_reserved}
-use Rattle.wt_spec.specs.StreamTable.{Classified, awaits_delivery, dispatched, verdict_of}
-use Rattle.wt_turn.specs.Log.{Acked, BytesRead, CallRecord, Called, ConnectStarted, Connected, Datagram, DatagramLimit, End, Entry, Event, HandshakeOver, Log, Loss, MaxBi, MaxData, MaxUni, OpeningFailed, OpeningStarted, PeerBi, PeerUni, Polled, PrioritySet, Received, Reported, RequestDelivered, Reset, ResetUnsent, ResponseStarted, SessionEstablished, Stop, StreamAccepted, StreamGivenUp, actions_of, calls_of, events_of, is_open, with_actions}
+use Rattle.wt_spec.specs.Driver.{call_view, established_session, flush, is_moment, log_and_flush, settings_came, stream_table}
+use Rattle.wt_spec.specs.Effect.{Effect, close_when_open, driver_error, head_left, is_covered, is_empty, log_call, poll_sending, reply_with, transport_error}
+use Rattle.wt_spec.specs.Halves.{all_written_reply, exact_at_end, finish_once, has_receiving_half, has_sending_half, is_done, on_half, read, read_exact, read_reply, reset, set_priority, take_bytes, unread_body, write_by, write_error, written_reply}
+use Rattle.wt_spec.specs.Handshake.{Connecting, HandshakeState, Responding, accept_response, await_or_fail, await_response, continue_by, establish, fail_handshake, handshake_state, has_success, incoming, is_refused, open_request, queued_requests, read_response, reject_response, requested_stream, respond, send_request, start_response, unless_reserved}
+use Rattle.wt_spec.specs.StreamTable.{Classified, awaits_delivery, dispatched_streams, verdict_of}
+use Rattle.wt_turn.specs.Log.{BytesRead, CallRecord, Called, ConnectStarted, Entry, Event, HandshakeOver, Log, OpeningFailed, OpeningStarted, Polled, PrioritySet, Received, Reported, RequestDelivered, Reset, ResetUnsent, ResponseStarted, SessionEstablished, StreamAccepted, StreamGivenUp, actions_of, calls_of, events_of, is_open, with_actions}
 use Rattle.wt_turn.specs.declared.action.Action.{Action}
 use Rattle.wt_turn.specs.declared.call.Call.{Call}
 use Rattle.wt_error.specs.declared.connecting_error.ConnectingError.{ConnectingError}
@@ -64,7 +64,7 @@ use Rattle.wt_reply.specs.declared.reply.Reply.TheVariants as replies
 pub record Leads (side : Side) (effect : Effect) : Type 0 where
   pub facts : FitsAndRests side effect.log
 
-pub called-facts : (side : Side) (log : Log) (own : List Action) (r : CallRecord) → MayCall side (with_actions own log) r → Fits side log → FitsAndRests side (log_call side log own r)
+pub called-facts : (side : Side) (log : Log) (own : List Action) (r : CallRecord) → MayRecord side (with_actions own log) r → Fits side log → FitsAndRests side (log_call side log own r)
 called-facts side log own r may fits =
     let before = actions-fit side own log fits in
     record {
@@ -72,7 +72,7 @@ called-facts side log own r may fits =
       rests = moment-rests-open side (with_actions own log) (Called r) may before refl;
     }
 
-called-leads : (side : Side) (log : Log) (own : List Action) (r : CallRecord) → {reply : Reply} → MayCall side (with_actions own log) r → Fits side log → Leads side (reply_with (log_call side log own r) reply)
+called-leads : (side : Side) (log : Log) (own : List Action) (r : CallRecord) → {reply : Reply} → MayRecord side (with_actions own log) r → Fits side log → Leads side (reply_with (log_call side log own r) reply)
 called-leads side log own r may fits = record { facts = called-facts side log own r may fits }
 
 either : (side : Side) (b : Bool) (e f : Effect) → Leads side e → Leads side f → Leads side (if b then e else f)
@@ -86,12 +86,12 @@ either-so side false e f p q = q
 
 -- ---- openings are of this end's own streams
 
-pub openings-local : (side : Side) (log : Log) (k : ℕ) → Fits side log → list_any (starts_opening k) (calls_of log) ≡ true → is_local side k ≡ true
+pub openings-local : (side : Side) (log : Log) (k : ℕ) → Fits side log → list_any (starts_opening k) (calls_of log) ≡ true → has_local_kind side k ≡ true
 openings-local side [] k fits e = absurd cc
 openings-local side (Called (OpeningStarted id session) ∷ log) k fits e = by (id == k) refl e (openings-local side log k fits.1)
   where
-    by : (b : Bool) → (id == k) ≡ b → (b || list_any (starts_opening k) (calls_of log)) ≡ true → (list_any (starts_opening k) (calls_of log) ≡ true → is_local side k ≡ true) → is_local side k ≡ true
-    by true f g again = ap (is_local side) (sym (eqb-true id k f)) ∙ fits.0
+    by : (b : Bool) → (id == k) ≡ b → (b || list_any (starts_opening k) (calls_of log)) ≡ true → (list_any (starts_opening k) (calls_of log) ≡ true → has_local_kind side k ≡ true) → has_local_kind side k ≡ true
+    by true f g again = ap (has_local_kind side) (sym (eqb-true id k f)) ∙ fits.0
     by false f g again = again g
 openings-local side (Called _ ∷ log) k fits e = openings-local side log k fits.1 e
 openings-local side (_ ∷ log) k fits e = openings-local side log k fits.1 e
@@ -106,13 +106,13 @@ module _ (side : Side) (log : Log) (held : FitsAndRests side log) where
 
   -- ---- opening
 
-  next-local : (kind : ℕ) → (kind ≡ local_uni side) ⊎ (kind ≡ local_bi side) → is_local side (next_id side log kind) ≡ true
+  next-local : (kind : ℕ) → (kind ≡ local_uni side) ⊎ (kind ≡ local_bi side) → has_local_kind side (next_id side log kind) ≡ true
   next-local kind is = by side is
     where
       n : ℕ
       n = stream_count side log kind
 
-      by : (s : Side) → (kind ≡ local_uni s) ⊎ (kind ≡ local_bi s) → is_local s (4 * n + kind) ≡ true
+      by : (s : Side) → (kind ≡ local_uni s) ⊎ (kind ≡ local_bi s) → has_local_kind s (4 * n + kind) ≡ true
       by Client (inl e) = let m : (4 * n + kind) % 4 ≡ 2 = omega arith in rw m refl
       by Client (inr e) = let m : (4 * n + kind) % 4 ≡ 0 = omega arith in rw m refl
       by Server (inl e) = let m : (4 * n + kind) % 4 ≡ 3 = omega arith in rw m refl
@@ -122,13 +122,13 @@ module _ (side : Side) (log : Log) (held : FitsAndRests side log) where
   open-leads kind s is =
       either side (not (is_open log)) _ _ (polls [] _)
       (either side (may_open side log kind) _ _
-      (called-leads side log (opening side log kind) (OpeningStarted (next_id side log kind) s) (next-local kind is) fitting) (polls [] _))
+      (called-leads side log (actions_to_open side log kind) (OpeningStarted (next_id side log kind) s) (next-local kind is) fitting) (polls [] _))
 
-  header-leads : (k : ℕ) (left : List ℕ) → is_local side k ≡ true → Leads side (send_header side log k left)
+  header-leads : (k : ℕ) (left : List ℕ) → has_local_kind side k ≡ true → Leads side (send_header side log k left)
   header-leads k left local =
       either side (is_covered log k left) _ _
-      (called-leads side log (send_of k left) (StreamAccepted k) (or_left (is_local side k) (names_session (verdict_of k (stream_table side (with_actions (send_of k left) log)).classified)) local) fitting)
-      (polls (send_of k (covered log k left)) _)
+      (called-leads side log (send_of k left) (StreamAccepted k) (or_left (has_local_kind side k) (names_session (verdict_of k (stream_table side (with_actions (send_of k left) log)).classified)) local) fitting)
+      (polls (send_of k (bytes_within_credit log k left)) _)
 
   opening-leads : (k s : ℕ) → Leads side (poll_opening side log k s)
   opening-leads k s =
@@ -154,7 +154,7 @@ module _ (side : Side) (log : Log) (held : FitsAndRests side log) where
   send-leads payload s = either side (is_open log) _ _ (allowed-leads (datagram_bytes (s / 4) payload) (datagram_fact (events_of log))) (polls [] _)
 
   session-leads : (call : ℕ → Effect) → ((s : ℕ) → Leads side (call s)) → Leads side (on_session side log call)
-  session-leads call f = by (established (calls_of log))
+  session-leads call f = by (established_session (calls_of log))
     where
       by : (o : Option (ℕ × ℕ)) → Leads side (in_session side log call o)
       by None = polls [] replies.NoSession
@@ -168,7 +168,7 @@ module _ (side : Side) (log : Log) (held : FitsAndRests side log) where
 
   write-leads : (reply : List ℕ → ℕ → Reply) (k : ℕ) (bytes : List ℕ) (o : Option StreamWriteError) → Leads side (write_by reply side log k bytes o)
   write-leads reply k bytes (Some e) = polls [] _
-  write-leads reply k bytes None = polls (send_of k (covered log k bytes)) _
+  write-leads reply k bytes None = polls (send_of k (bytes_within_credit log k bytes)) _
 
   reset-leads : (k code : ℕ) → Leads side (reset side log k code)
   reset-leads k code =
@@ -206,7 +206,7 @@ module _ (side : Side) (log : Log) (held : FitsAndRests side log) where
       let later = called-facts side log own (SessionEstablished id at) tt fitting in
       called-leads side (log_call side log own (SessionEstablished id at)) [] Polled tt later.fits
 
-  queued-there : (c : Classified) → In c (dispatched (call_view log) (stream_table side log).classified).requests → is_some (verdict_of c.id (stream_table side log).classified) ≡ true
+  queued-there : (c : Classified) → In c (dispatched_streams (call_view log) (stream_table side log).classified).requests → is_some (verdict_of c.id (stream_table side log).classified) ≡ true
   queued-there c i =
       let both = only-in (awaits_delivery (call_view log).delivered) (stream_table side log).classified c i in
       ap is_some (in-classified (stream_table side log).classified c (sound side log fitting).once both.0)
@@ -218,44 +218,44 @@ module _ (side : Side) (log : Log) (held : FitsAndRests side log) where
   incoming-leads : Leads side (incoming side log)
   incoming-leads = deliver-leads (queued_requests side log) (by (settings_came side log))
     where
-      by : (b : Bool) (c : Classified) → In c (if b then (dispatched (call_view log) (stream_table side log).classified).requests else []) → is_some (verdict_of c.id (stream_table side log).classified) ≡ true
+      by : (b : Bool) (c : Classified) → In c (if b then (dispatched_streams (call_view log) (stream_table side log).classified).requests else []) → is_some (verdict_of c.id (stream_table side log).classified) ≡ true
       by true c i = queued-there c i
       by false c i = absurd i
 
-  accept-response-leads : (id : ℕ) (left : List ℕ) (waiting : CallRecord) → ((own : List Action) → MayCall side (with_actions own log) waiting) → Leads side (accept_response side log id left waiting)
+  accept-response-leads : (id : ℕ) (left : List ℕ) (waiting : CallRecord) → ((own : List Action) → MayRecord side (with_actions own log) waiting) → Leads side (accept_response side log id left waiting)
   accept-response-leads id left waiting may =
       either side (not (is_open log)) _ _ (failed-leads [] _)
-      (either side (is_refused log id left) _ _ (failed-leads (closing log (code_of h3.ClosedCriticalStream)) _)
-      (either side (is_covered log id left) _ _ (establish-leads (send_of id left) id _) (called-leads side log (send_of id (covered log id left)) waiting (may (send_of id (covered log id left))) fitting)))
+      (either side (is_refused log id left) _ _ (failed-leads (close_when_open log (code_of h3.ClosedCriticalStream)) _)
+      (either side (is_covered log id left) _ _ (establish-leads (send_of id left) id _) (called-leads side log (send_of id (bytes_within_credit log id left)) waiting (may (send_of id (bytes_within_credit log id left))) fitting)))
 
-  reject-leads : (id : ℕ) (left : List ℕ) (waiting : CallRecord) → ((own : List Action) → MayCall side (with_actions own log) waiting) → Leads side (reject_response side log id left waiting)
+  reject-leads : (id : ℕ) (left : List ℕ) (waiting : CallRecord) → ((own : List Action) → MayRecord side (with_actions own log) waiting) → Leads side (reject_response side log id left waiting)
   reject-leads id left waiting may =
       either side (not (is_open log)) _ _ (failed-leads [] _)
-      (either side (is_refused log id left) _ _ (failed-leads (closing log (code_of h3.ClosedCriticalStream)) _)
+      (either side (is_refused log id left) _ _ (failed-leads (close_when_open log (code_of h3.ClosedCriticalStream)) _)
       (either side (is_covered log id left) _ _
       (either side (not (is_finished (actions_of log) id)) _ _ (called-leads side log (send_of id left ++ actions.Finish id ∷ []) waiting (may (send_of id left ++ actions.Finish id ∷ [])) fitting)
-      (either side (is_some (stop_of (events_of log) id) || is_acknowledged (events_of log) id) _ _ (failed-leads (closing log 0) _) (called-leads side log [] waiting (may []) fitting)))
-      (called-leads side log (send_of id (covered log id left)) waiting (may (send_of id (covered log id left))) fitting)))
+      (either side (is_some (stop_of (events_of log) id) || is_acknowledged (events_of log) id) _ _ (failed-leads (close_when_open log 0) _) (called-leads side log [] waiting (may []) fitting)))
+      (called-leads side log (send_of id (bytes_within_credit log id left)) waiting (may (send_of id (bytes_within_credit log id left))) fitting)))
 
-  respond-leads : (accepts : Bool) (head : List ℕ) (waiting : CallRecord) → ((own : List Action) → MayCall side (with_actions own log) waiting) → Leads side (respond side log accepts head waiting)
-  respond-leads true head waiting may = accept-response-leads (requested (calls_of log)) (head_left log (requested (calls_of log)) head) waiting may
-  respond-leads false head waiting may = reject-leads (requested (calls_of log)) (head_left log (requested (calls_of log)) head) waiting may
+  respond-leads : (accepts : Bool) (head : List ℕ) (waiting : CallRecord) → ((own : List Action) → MayRecord side (with_actions own log) waiting) → Leads side (respond side log accepts head waiting)
+  respond-leads true head waiting may = accept-response-leads (requested_stream (calls_of log)) (head_left log (requested_stream (calls_of log)) head) waiting may
+  respond-leads false head waiting may = reject-leads (requested_stream (calls_of log)) (head_left log (requested_stream (calls_of log)) head) waiting may
 
   -- ---- a client's
 
   response-leads : (id : ℕ) (own : List Action) (w : ResponseWalk) → Leads side (read_response side log id own w)
-  response-leads id own (responses.Fault code) = failed-leads (own ++ closing log (code_of code)) _
-  response-leads id own responses.Ended = failed-leads (own ++ closing log 0) _
+  response-leads id own (responses.Fault code) = failed-leads (own ++ close_when_open log (code_of code)) _
+  response-leads id own responses.Ended = failed-leads (own ++ close_when_open log 0) _
   response-leads id own responses.Waiting = either side (is_open log) _ _ (polls own _) (failed-leads own _)
   response-leads id own (responses.Response fields at) =
-      either side (not (has_success fields)) _ _ (failed-leads (own ++ closing log 0) _) (either side (is_open log) _ _ (establish-leads own id at) (failed-leads own _))
+      either side (not (has_success fields)) _ _ (failed-leads (own ++ close_when_open log 0) _) (either side (is_open log) _ _ (establish-leads own id at) (failed-leads own _))
 
   request-leads : (id : ℕ) (own : List Action) (left : List ℕ) → Leads side (send_request side log id own left)
   request-leads id own left =
       either side (is_empty left) _ _ (awaited own)
       (either side (not (is_open log)) _ _ (failed-leads own _)
-      (either side (is_some (stop_of (events_of log) id)) _ _ (failed-leads (own ++ closing log 0) _)
-      (either side (is_covered log id left) _ _ (awaited (own ++ send_of id left)) (polls (own ++ send_of id (covered log id left)) _))))
+      (either side (is_some (stop_of (events_of log) id)) _ _ (failed-leads (own ++ close_when_open log 0) _)
+      (either side (is_covered log id left) _ _ (awaited (own ++ send_of id left)) (polls (own ++ send_of id (bytes_within_credit log id left)) _))))
     where
       awaited : (out : List Action) → Leads side (await_response side log id out)
       awaited out = response-leads id out (response_walk_of (contents log id) (end_of (events_of log) id))
@@ -264,13 +264,13 @@ module _ (side : Side) (log : Log) (held : FitsAndRests side log) where
   open-request-leads head =
       either side (not (local_count (actions_of log) (local_bi side) == 0)) _ _ (request-leads (local_bi side) [] left)
       (either side (not (is_open log)) _ _ (failed-leads [] _)
-      (either side (may_open side log (local_bi side)) _ _ (request-leads (local_bi side) (opening side log (local_bi side)) left) (polls [] _)))
+      (either side (may_open side log (local_bi side)) _ _ (request-leads (local_bi side) (actions_to_open side log (local_bi side)) left) (polls [] _)))
     where
       left : List ℕ
       left = head_left log (local_bi side) head
 
   reserved-leads : (reserved : Option (List ℕ)) (head : List ℕ) → Leads side (unless_reserved side log reserved head)
-  reserved-leads (Some name) head = failed-leads (closing log 0) _
+  reserved-leads (Some name) head = failed-leads (close_when_open log 0) _
   reserved-leads None head = open-request-leads head
 
   await-leads : (e : ConnectionError) → Leads side (await_or_fail side log e)
@@ -321,9 +321,6 @@ module _ (side : Side) (log : Log) (held : FitsAndRests side log) where
   call-leads (calls.Connect options lookup outcome) = connect-leads options.0 options.1 lookup outcome
   call-leads calls.Incoming = incoming-leads
   call-leads (calls.Accept headers) = starting true _
-  call-leads calls.Forbidden = starting false _
-  call-leads calls.NotFound = starting false _
-  call-leads calls.TooManyRequests = starting false _
   call-leads calls.Handshake = continue-leads (handshake_state (calls_of log))
   call-leads (calls.EndpointClose code reason) = polls (if_open log (actions.Close code reason)) _
   call-leads calls.AcceptUni = session-leads _ (λ s. accepting replies.Uni (peer_uni side) s)
@@ -339,7 +336,7 @@ module _ (side : Side) (log : Log) (held : FitsAndRests side log) where
   call-leads calls.Closed = session-leads _ (λ s. polls [] _)
   call-leads (calls.Write id bytes) = sends id _ (write-leads written_reply id bytes (write_error log id))
   call-leads (calls.WriteAll id bytes) = sends id _ (write-leads all_written_reply id bytes (write_error log id))
-  call-leads (calls.Finish id) = sends id _ (polls (finishing log id) _)
+  call-leads (calls.Finish id) = sends id _ (polls (finish_once log id) _)
   call-leads (calls.Stopped id) = sends id _ (polls [] _)
   call-leads (calls.Priority id) = sends id _ (polls [] _)
   call-leads (calls.SetPriority id p) = sends id _ (set-leads id p)
@@ -347,6 +344,7 @@ module _ (side : Side) (log : Log) (held : FitsAndRests side log) where
   call-leads (calls.Read id size) = receives id _ (read-leads id size)
   call-leads (calls.ReadExact id size) = receives id _ (exact-leads id size)
   call-leads (calls.StopRecv id code) = receives id _ (called-leads side log (if_open log (actions.StopOut id code)) (StreamGivenUp id) tt fitting)
+  call-leads _ = starting false _
 
 -- ---- each turn
 
@@ -373,19 +371,7 @@ bytes-lead side (b ∷ bytes) log k facts = bytes-lead side bytes (if is_open lo
 pub turn-leads : (side : Side) (log : Log) (turn : Turn) → FitsAndRests side log → FitsAndRests side (log_after side log turn)
 turn-leads side log (turns.Bytes id piece) facts = bytes-lead side piece log id facts
 turn-leads side log (turns.Call call) facts = (call-leads side log facts call).facts
-turn-leads side log (turns.Connected uni bi credit fact) facts = event-leads side log (Connected uni bi credit fact) facts
-turn-leads side log turns.PeerUni facts = event-leads side log PeerUni facts
-turn-leads side log turns.PeerBi facts = event-leads side log PeerBi facts
-turn-leads side log (turns.End id) facts = event-leads side log (End id) facts
-turn-leads side log (turns.Reset id code) facts = event-leads side log (Reset id code) facts
-turn-leads side log (turns.Stop id code) facts = event-leads side log (Stop id code) facts
-turn-leads side log (turns.Acked id) facts = event-leads side log (Acked id) facts
-turn-leads side log (turns.Datagram piece) facts = event-leads side log (Datagram piece) facts
-turn-leads side log (turns.MaxUni total) facts = event-leads side log (MaxUni total) facts
-turn-leads side log (turns.MaxBi total) facts = event-leads side log (MaxBi total) facts
-turn-leads side log (turns.MaxData id total) facts = event-leads side log (MaxData id total) facts
-turn-leads side log (turns.DatagramLimit fact) facts = event-leads side log (DatagramLimit fact) facts
-turn-leads side log (turns.Loss reason) facts = event-leads side log (Loss reason) facts
+turn-leads side log _ facts = event-leads side log _ facts
 
 pub start-leads : (side : Side) → FitsAndRests side []
 start-leads side = record { fits = tt; rests = start-rests side }

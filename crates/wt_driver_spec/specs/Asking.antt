@@ -1,13 +1,13 @@
 -- What a driver asks of a log, and of what calls send and record.
 use Rattle.std.specs.Prelude.{List, None, Some, [], false, true, ℕ, ◌∷◌, ◌≡◌}
-use Rattle.wt_driver_spec.specs.Moment.{MayCall}
+use Rattle.wt_driver_spec.specs.Moment.{MayRecord}
 use Rattle.wt_driver_spec.specs.Step.{sent_length}
 use Rattle.wt_driver_spec.specs.Uses.{ForRequest, MayUse, role_of, use_of}
 use Rattle.wt_proto.specs.ResponseWalk.{response_offset, response_walk_of}
 use Rattle.wt_seam_spec.specs.Reports.{end_of}
 use Rattle.wt_seam_spec.specs.Sent.{finishes, is_finished, is_reset, resets}
 use Rattle.wt_seam_spec.specs.Streams.{can_send, contents, local_uni, opens}
-use Rattle.wt_spec.specs.Driver.{control_sent, established}
+use Rattle.wt_spec.specs.Driver.{control_sent, established_session}
 use Rattle.wt_spec.specs.Halves.{has_receiving_half}
 use Rattle.wt_turn.specs.Log.{BytesRead, CallRecord, Called, Log, PrioritySet, ResetUnsent, Sent, SessionEstablished, actions_of, calls_of, events_of, is_open}
 use Rattle.wt_turn.specs.declared.action.Action.{Action}
@@ -19,7 +19,7 @@ use Rattle.wt_wire.specs.declared.side.Side.TheVariants.{Client, Server}
 pub record SendFacts (side : Side) (log : Log) : Type 0 where
   pub unfinished : is_finished (actions_of log) (local_uni side) ≡ false
   pub unreset : is_reset log (local_uni side) ≡ false
-  pub session : (s : ℕ × ℕ) → established (calls_of log) ≡ Some s → can_send side log s.0 ≡ true
+  pub session : (s : ℕ × ℕ) → established_session (calls_of log) ≡ Some s → can_send side log s.0 ≡ true
 
 -- what lets a driver send, as long as the connection is open
 abbrev pub SendsWhileOpen : Side → Log → Type 0
@@ -41,7 +41,7 @@ SparesControlAll side log (a ∷ later) = SparesControl side log a × SparesCont
 -- the response to a client's request is awaited on this stream: there is no session yet, and the handshake didn't fail
 pub record AwaitsResponse (side : Side) (log : Log) (id : ℕ) : Type 0 where
   pub role : role_of side id ≡ ForRequest
-  pub unestablished : established (calls_of log) ≡ None
+  pub unestablished : established_session (calls_of log) ≡ None
   pub goes_on : (use_of id (calls_of log)).is_over ≡ false
 
 -- a client establishes its session with the response that it awaits, behind it; a server asks nothing more
@@ -60,7 +60,7 @@ HalfAsks side log _ = Unit {0}
 
 -- A call's record may come now: it may follow the log, and the driver may send on behind it.
 pub record MayBeCalled (side : Side) (log : Log) (r : CallRecord) : Type 0 where
-  pub may : MayCall side log r
+  pub may : MayRecord side log r
   pub can : MayUse side log r
   pub sends : SendsWhileOpen side (Called r ∷ log)
   pub half : HalfAsks side log r

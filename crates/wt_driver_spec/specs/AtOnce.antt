@@ -16,8 +16,8 @@ open_after None open_ = open_
 open_after (Some e) open_ = false
 
 -- the state after what goes out at a moment
-abbrev pub flushed : TransportView → DriverState → DriverState
-flushed t s = record s {
+abbrev pub state_after_flush : TransportView → DriverState → DriverState
+state_after_flush t s = record s {
   control_sent = control_flushed t.may_open t.credit s.control_sent;
   is_open = open_after s.progress.ending s.is_open;
 }

@@ -13,9 +13,9 @@ use Rattle.wt_turn.specs.Log.{Entry, Log, Received, events_of, with_actions}
 use Rattle.wt_reply.specs.declared.reply.Reply.{Reply}
 use Rattle.wt_wire.specs.declared.side.Side.{Side}
 use Rattle.wt_driver_spec.specs.DriverState.{state_of}
-use Rattle.wt_driver_spec.specs.Due.{CallFollowed, accepted, received, state_accepted, state_received}
+use Rattle.wt_driver_spec.specs.Due.{CallFollowed, accept_outcome, receive_outcome, state_accepted, state_received}
 use Rattle.wt_driver_spec.specs.Moment.{moment_actions, moment_state}
-use Rattle.wt_driver_spec.specs.Rest.{AtRest, RestsWhileOpen, rested}
+use Rattle.wt_driver_spec.specs.Rest.{AtRest, RestsWhileOpen, state_at_rest}
 use Rattle.wt_driver_spec.specs.Step.{begin_scan}
 use Rattle.wt_reply.specs.declared.reply.Reply.TheVariants as replies
 
@@ -37,14 +37,14 @@ ReceiveFollows side log session =
 
 -- a call that gives nothing leaves nothing that it could have given
 pub record NothingLeft (side : Side) (log : Log) (session : ℕ) : Type 0 where
-  pub unis : (accepted side (peer_uni side) log session).given ≡ None → next_due side (accepted side (peer_uni side) log session).state (peer_uni side) session ≡ None
-  pub bis : (accepted side (peer_bi side) log session).given ≡ None → next_due side (accepted side (peer_bi side) log session).state (peer_bi side) session ≡ None
-  pub datagrams : (received side log session).given ≡ None → next_datagram side (received side log session).state ≡ None
+  pub unis : (accept_outcome side (peer_uni side) log session).given ≡ None → next_due side (accept_outcome side (peer_uni side) log session).state (peer_uni side) session ≡ None
+  pub bis : (accept_outcome side (peer_bi side) log session).given ≡ None → next_due side (accept_outcome side (peer_bi side) log session).state (peer_bi side) session ≡ None
+  pub datagrams : (receive_outcome side log session).given ≡ None → next_datagram side (receive_outcome side log session).state ≡ None
 
 -- an entry at rest: it is itself alone, nothing goes out, and all stays at rest
 pub record RestsOn (side : Side) (log : Log) (e : Entry) : Type 0 where
   pub alone : log_and_flush side log e ≡ e ∷ log
-  pub state : state_of side (e ∷ log) ≡ rested (state_of side log)
+  pub state : state_of side (e ∷ log) ≡ state_at_rest (state_of side log)
   pub rests : RestsWhileOpen side (e ∷ log)
 
 -- a byte at rest that says nothing new: it is itself alone, and all stays at rest

@@ -6,7 +6,7 @@ use Rattle.wt_proto.specs.Uni.{is_final, uni_verdict_of}
 use Rattle.wt_proto.specs.declared.verdict.Verdict.{Verdict}
 use Rattle.wt_seam_spec.specs.Reports.{end_of}
 use Rattle.wt_seam_spec.specs.Streams.{contents, one_more_if, peer_bi, peer_count, peer_uni}
-use Rattle.wt_spec.specs.Driver.{call_view, is_ready, stream_table}
+use Rattle.wt_spec.specs.Driver.{call_view, settings_ready, stream_table}
 use Rattle.wt_spec.specs.Scan.{has, is_released}
 use Rattle.wt_spec.specs.StreamTable.{verdict_of}
 use Rattle.wt_turn.specs.Log.{Entry, Log, events_of, is_open}
@@ -41,11 +41,11 @@ unreleased_before side log kind (suc n) = one_more_if (is_unreleased side log (s
 
 -- the driver dequeues streams: the connection is open, and this end's SETTINGS are out or may go out whole
 abbrev pub may_dequeue : Side → Log → Bool
-may_dequeue side log = is_open log && is_ready side log
+may_dequeue side log = is_open log && settings_ready side log
 
 -- this end's SETTINGS were out, or could go out whole, at some moment up to the end of the log
 abbrev pub WasReady : Side → Log → Type 0
-WasReady side log = (later : List Entry) × (moment : Log) × (log ≡ later ++ moment) × (is_ready side moment ≡ true)
+WasReady side log = (later : List Entry) × (moment : Log) × (log ≡ later ++ moment) × (settings_ready side moment ≡ true)
 
 -- what came for the stream tells what it is: its verdict is final
 abbrev pub tells : Log → (List ℕ → StreamEnd → Verdict) → ℕ → Bool

@@ -4,7 +4,7 @@ use Rattle.std.specs.Prelude.{[], ◌++◌, ◌∷◌, Bool, List, None, Option,
 use Rattle.wt_proto.specs.declared.verdict.Verdict.{Verdict}
 use Rattle.wt_spec.specs.Driver.{ControlSent, call_view, control_sent, stream_table, transport_view}
 use Rattle.wt_spec.specs.Scan.{bi_ids, has, is_released, uni_ids}
-use Rattle.wt_spec.specs.StreamTable.{CallView, Classified, Dispatched, Progress, StreamTable, TransportView, dispatched, verdict_of}
+use Rattle.wt_spec.specs.StreamTable.{CallView, Classified, Dispatched, DriverProgress, StreamTable, TransportView, dispatched_streams, verdict_of}
 use Rattle.wt_turn.specs.Log.{Log, is_open}
 use Rattle.wt_wire.specs.declared.side.Side.{Side}
 
@@ -24,7 +24,7 @@ pub record DriverState : Type 0 where
   pub unis : List Slot  -- by id
   pub bis : List Slot  -- by id
   pub dispatched : Dispatched
-  pub progress : Progress
+  pub progress : DriverProgress
   pub control_sent : ControlSent
   pub datagrams : ℕ  -- so many were received or passed
   pub session : Option (ℕ × ℕ)  -- the session that is established, and where its part of the stream begins
@@ -49,7 +49,7 @@ abbrev pub state_by : TransportView → CallView → ControlSent → Bool → St
 state_by t calls sent open_ table = record {
   unis = slots calls table (uni_ids t);
   bis = slots calls table (bi_ids t);
-  dispatched = dispatched calls table.classified;
+  dispatched = dispatched_streams calls table.classified;
   progress = table.progress;
   control_sent = sent;
   datagrams = calls.datagrams;

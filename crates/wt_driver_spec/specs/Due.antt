@@ -16,7 +16,7 @@ use Rattle.wt_wire.specs.Codes.{code_of}
 use Rattle.wt_wire.specs.declared.side.Side.{Side}
 use Rattle.wt_driver_spec.specs.DriverState.{DriverState, state_of}
 use Rattle.wt_driver_spec.specs.Moment.{Fits, moment_actions, moment_state}
-use Rattle.wt_driver_spec.specs.Rest.{RestsWhileOpen, rested}
+use Rattle.wt_driver_spec.specs.Rest.{RestsWhileOpen, state_at_rest}
 use Rattle.wt_driver_spec.specs.Step.{after_entry}
 use Rattle.wt_turn.specs.declared.action.Action.TheVariants as actions
 use Rattle.wt_error.specs.declared.connection_error.ConnectionError.TheVariants as errors
@@ -87,12 +87,12 @@ log_datagrams side session = record {
 }
 
 -- the stream that an accept gives, and the log before its poll
-abbrev pub accepted : Side → ℕ → Log → ℕ → DueOutcome Log ℕ
-accepted side kind log session = take_due (log_streams side kind session) (suc (peer_count side (events_of log) kind)) log
+abbrev pub accept_outcome : Side → ℕ → Log → ℕ → DueOutcome Log ℕ
+accept_outcome side kind log session = take_due (log_streams side kind session) (suc (peer_count side (events_of log) kind)) log
 
 -- the payload that a receive gives, and the log before its poll
-abbrev pub received : Side → Log → ℕ → DueOutcome Log (List ℕ)
-received side log session = take_due (log_datagrams side session) (suc (length (datagrams_of (events_of log)))) log
+abbrev pub receive_outcome : Side → Log → ℕ → DueOutcome Log (List ℕ)
+receive_outcome side log session = take_due (log_datagrams side session) (suc (length (datagrams_of (events_of log)))) log
 
 -- the reply to what was given, or else this one
 abbrev pub reply_or : {T : Type 0} → (T → Reply) → Reply → Option T → Reply
@@ -135,8 +135,8 @@ abbrev pub run_moment : TransportView → Entry → DriverRun → DriverRun
 run_moment t e x = record { state = moment_state t t e x.state; actions = x.actions ++ moment_actions t t e x.state }
 
 -- what stops a stream that is passed
-abbrev pub passing : ℕ → Action
-passing k = actions.StopOut k (code_of h3.BufferedStreamRejected)
+abbrev pub passing_stop : ℕ → Action
+passing_stop k = actions.StopOut k (code_of h3.BufferedStreamRejected)
 
 -- the stream that is next, by what is kept
 abbrev pub state_next_due : DriverState → ℕ → ℕ → Option Classified
@@ -150,7 +150,7 @@ state_next_datagram t s = if nat_lt s.datagrams s.progress.datagrams then read_d
 abbrev pub state_streams : TransportView → ℕ → ℕ → DueRule DriverRun ℕ
 state_streams t kind session = record {
   next = λ x. due_stream session (state_next_due x.state kind session);
-  pass = λ k x. run_moment t (Called (StreamPassed k)) (run_action t (passing k) x);
+  pass = λ k x. run_moment t (Called (StreamPassed k)) (run_action t (passing_stop k) x);
   give = λ k x. run_moment t (Called (StreamAccepted k)) x;
 }
 
@@ -182,7 +182,7 @@ state_reply reply error x = reply_or reply (state_pending_or_failed error x.stat
 
 -- after a log: what is kept of the later log, what went out since, and the reply
 pub record CallFollowed {T : Type 0} (side : Side) (log : Log) (effect : Effect) (reply : T → Reply) (x : DueOutcome DriverRun T) : Type 0 where
-  pub state : state_of side effect.log ≡ rested x.state.state
+  pub state : state_of side effect.log ≡ state_at_rest x.state.state
   pub actions : actions_of effect.log ≡ newest_first x.state.actions (actions_of log)
   pub reply_is : effect.reply ≡ state_reply reply (transport_error log) x
   pub view : transport_view side effect.log ≡ transport_view side log

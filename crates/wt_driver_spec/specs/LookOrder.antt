@@ -6,7 +6,7 @@ use Rattle.wt_proto.specs.Bi.{bi_verdict_of}
 use Rattle.wt_proto.specs.Uni.{uni_verdict_of}
 use Rattle.wt_proto.specs.declared.verdict.Verdict.{Verdict}
 use Rattle.wt_seam_spec.specs.Streams.{peer_bi, peer_count, peer_uni}
-use Rattle.wt_spec.specs.Driver.{is_ready, stream_table}
+use Rattle.wt_spec.specs.Driver.{settings_ready, stream_table}
 use Rattle.wt_spec.specs.StreamTable.{Classified}
 use Rattle.wt_turn.specs.Log.{Entry, Log, events_of}
 use Rattle.wt_wire.specs.declared.side.Side.{Side}
@@ -34,7 +34,7 @@ pub record ClassifiesNow (side : Side) (e : Entry) (log : Log) (k : ℕ) : Type 
 -- Of one kind of the peer's streams, with so many slots and this verdict over what came for a stream: where the entry classifies
 -- stream k, it passed over none of those that are looked at before it.
 pub record PassesOverNone (side : Side) (e : Entry) (log : Log) (kind slots : ℕ) (verdict : List ℕ → StreamEnd → Verdict) : Type 0 where
-  pub dequeued : (k n : ℕ) → ClassifiesNow side e log k → looks_before side (stream_id kind n) k ≡ true → n < peer_count side (events_of (e ∷ log)) kind → is_ready side (e ∷ log) ≡ true
+  pub dequeued : (k n : ℕ) → ClassifiesNow side e log k → looks_before side (stream_id kind n) k ≡ true → n < peer_count side (events_of (e ∷ log)) kind → settings_ready side (e ∷ log) ≡ true
       → unreleased_before side (e ∷ log) kind n < slots → is_dequeued side (e ∷ log) (stream_id kind n) ≡ true  -- each that is behind fewer than so many unreleased ones is dequeued, where this end is ready
   pub classified : (k n : ℕ) → ClassifiesNow side e log k → looks_before side (stream_id kind n) k ≡ true → n < peer_count side (events_of (e ∷ log)) kind → is_dequeued side (e ∷ log) (stream_id kind n) ≡ true
       → tells (e ∷ log) verdict (stream_id kind n) ≡ true → is_classified side (e ∷ log) (stream_id kind n) ≡ true  -- each dequeued one that tells what it is is classified

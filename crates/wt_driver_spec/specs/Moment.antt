@@ -13,8 +13,8 @@ use Rattle.wt_driver_spec.specs.Step.{after_entry, scan_state, step_actions}
 -- ---- what may follow
 
 -- this end opens these streams
-abbrev pub is_local : Side → ℕ → Bool
-is_local side k = k % 4 == local_uni side || k % 4 == local_bi side
+abbrev pub has_local_kind : Side → ℕ → Bool
+has_local_kind side k = k % 4 == local_uni side || k % 4 == local_bi side
 
 -- the verdict is there, and names a session
 abbrev pub names_session : Option Verdict → Bool
@@ -23,19 +23,19 @@ names_session (Some v) = is_webtransport v
 
 -- the stream may be released: it is this end's own, or classified as a session's
 abbrev pub may_release : Side → List Classified → ℕ → Bool
-may_release side cs k = is_local side k || names_session (verdict_of k cs)
+may_release side cs k = has_local_kind side k || names_session (verdict_of k cs)
 
 -- a stream of a session is released once it is classified, a request is delivered once it is, and this end opens its own streams
-abbrev pub MayCall : Side → Log → CallRecord → Type 0
-MayCall side log (StreamAccepted id) = may_release side (stream_table side log).classified id ≡ true
-MayCall side log (StreamPassed id) = may_release side (stream_table side log).classified id ≡ true
-MayCall side log (RequestDelivered id) = is_some (verdict_of id (stream_table side log).classified) ≡ true
-MayCall side log (OpeningStarted id session) = is_local side id ≡ true
-MayCall side log _ = Unit {0}
+abbrev pub MayRecord : Side → Log → CallRecord → Type 0
+MayRecord side log (StreamAccepted id) = may_release side (stream_table side log).classified id ≡ true
+MayRecord side log (StreamPassed id) = may_release side (stream_table side log).classified id ≡ true
+MayRecord side log (RequestDelivered id) = is_some (verdict_of id (stream_table side log).classified) ≡ true
+MayRecord side log (OpeningStarted id session) = has_local_kind side id ≡ true
+MayRecord side log _ = Unit {0}
 
 -- the entry may follow the log, as far as a driver is concerned
 abbrev pub MayFollow : Side → Log → Entry → Type 0
-MayFollow side log (Called r) = MayCall side log r
+MayFollow side log (Called r) = MayRecord side log r
 MayFollow side log _ = Unit {0}
 
 -- each entry of a log might follow those before it

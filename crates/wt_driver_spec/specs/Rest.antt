@@ -3,7 +3,7 @@ use Rattle.std.specs.Prelude.{[], ◌&&◌, ◌==◌, ◌∷◌, ◌≡◌, Bool
 use Rattle.wt_proto.specs.Uni.{is_final}
 use Rattle.wt_spec.specs.Driver.{transport_view}
 use Rattle.wt_spec.specs.Scan.{SlotRule, bi_rule, check_control, check_session, checks, uni_rule}
-use Rattle.wt_spec.specs.StreamTable.{Progress, TransportView}
+use Rattle.wt_spec.specs.StreamTable.{DriverProgress, TransportView}
 use Rattle.wt_turn.specs.Log.{Log, is_open}
 use Rattle.wt_wire.specs.declared.side.Side.{Side}
 use Rattle.wt_driver_spec.specs.DriverState.{Arrived, Dequeued, DriverState, Held, Slot, SlotPlace, state_of}
@@ -22,7 +22,7 @@ Rests ready rule n [] = Unit {0}
 Rests ready rule n (slot ∷ slots) = RestsAt ready rule n slot.id slot.place × Rests ready rule (suc n) slots
 
 -- each check finds nothing new
-abbrev pub AllStay : List (Progress → Progress) → Progress → Type 0
+abbrev pub AllStay : List (DriverProgress → DriverProgress) → DriverProgress → Type 0
 AllStay [] p = Unit {0}
 AllStay (check ∷ later) p = (check p ≡ p) × AllStay later p
 
@@ -52,8 +52,8 @@ begin_if true s = begin_scan s
 begin_if false s = s
 
 -- the state after a moment that finds nothing new
-abbrev pub rested : DriverState → DriverState
-rested s = begin_if s.is_open s
+abbrev pub state_at_rest : DriverState → DriverState
+state_at_rest s = begin_if s.is_open s
 
 -- ---- more bytes of one stream
 

@@ -6,7 +6,7 @@ use Rattle.wt_proto.specs.declared.verdict.Verdict.{Verdict}
 use Rattle.wt_seam_spec.specs.Streams.{local_uni, opens, peer_bi, peer_uni}
 use Rattle.wt_spec.specs.Driver.{ControlSent, actions_after}
 use Rattle.wt_spec.specs.Scan.{SlotRule, bi_rule, checks, in_order, is_released, occupied, uni_rule, with_consequence}
-use Rattle.wt_spec.specs.StreamTable.{CallView, Classified, Consequence, Dispatched, Ending, Progress, TransportView, kept_if, only, or_later}
+use Rattle.wt_spec.specs.StreamTable.{CallView, Classified, Consequence, Dispatched, Ending, DriverProgress, TransportView, kept_if, only, or_later}
 use Rattle.wt_turn.specs.Log.{CallRecord, Called, DatagramPassed, DatagramReceived, Entry, Event, PeerBi, PeerUni, Reported, RequestDelivered, Sent, SessionEstablished, StreamAccepted, StreamPassed, ends_by}
 use Rattle.wt_turn.specs.declared.action.Action.{Action}
 use Rattle.wt_driver_spec.specs.DriverState.{Arrived, Dequeued, DriverState, Held, Slot, SlotPlace, slot_by}
@@ -31,7 +31,7 @@ dispatch d c = dispatch_by c.verdict c d
 -- what is carried from slot to slot
 pub record Known : Type 0 where
   pub dispatched : Dispatched
-  pub progress : Progress
+  pub progress : DriverProgress
 
 -- one slot was visited: what is left of it, how many slots are occupied up to it, and what is known
 pub record Visited : Type 0 where
@@ -135,7 +135,7 @@ abbrev pub run_checks : TransportView → DriverState → DriverState
 run_checks t s = record s { progress = in_order (checks t (kept_calls s.datagrams s.session) s.dispatched) s.progress }
 
 -- a moment begins with no stops
-abbrev pub with_no_stops : Progress → Progress
+abbrev pub with_no_stops : DriverProgress → DriverProgress
 with_no_stops p = record p { stops = [] }
 
 -- the scan begins

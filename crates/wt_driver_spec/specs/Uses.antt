@@ -4,7 +4,7 @@ use Rattle.std.specs.Prelude.{Bool, List, None, Option, Some, [], false, if◌th
 use Rattle.wt_proto.specs.declared.verdict.Verdict.{Verdict}
 use Rattle.wt_seam_spec.specs.Reports.{datagrams_of}
 use Rattle.wt_seam_spec.specs.Streams.{local_bi, local_count, peer_bi, peer_uni}
-use Rattle.wt_spec.specs.Driver.{established, settled_datagrams, stream_table}
+use Rattle.wt_spec.specs.Driver.{established_session, settled_datagrams, stream_table}
 use Rattle.wt_spec.specs.Halves.{is_accepted, unread_body}
 use Rattle.wt_spec.specs.Handshake.{awaits_answer, handshake_state}
 use Rattle.wt_spec.specs.StreamTable.{Classified, is_webtransport}
@@ -124,7 +124,7 @@ RequestOpened Server log = Unit {0}
 -- the request; streams of sessions are given or passed; what the application reads of its streams came, and so did each
 -- datagram that a call settles
 abbrev pub MayUse : Side → Log → CallRecord → Type 0
-MayUse side log (ConnectStarted reserved head) = (side ≡ Client) × (established (calls_of log) ≡ None) × ((use_of 0 (calls_of log)).is_over ≡ false)
+MayUse side log (ConnectStarted reserved head) = (side ≡ Client) × (established_session (calls_of log) ≡ None) × ((use_of 0 (calls_of log)).is_over ≡ false)
 MayUse side log (RequestDelivered id) = is_some (queued_at (classified_of id (stream_table side log).classified)) ≡ true
 MayUse side log (ResponseStarted accepts head) = (side ≡ Server) × (awaits_answer (handshake_state (calls_of log)) ≡ true)
 MayUse side log (SessionEstablished id at) = (session_at side (role_of side id) (classified_of id (stream_table side log).classified) at ≡ Some at) × RequestOpened side log

@@ -5,7 +5,7 @@ ghost use Rattle.wt_driver_spec.specs.Claims.{AcceptFollows, ByteRests, Dequeued
 ghost use Rattle.wt_driver_spec.specs.Dequeued.{StreamsDequeued};
 ghost use Rattle.wt_driver_spec.specs.DriverState.{state_of};
 ghost use Rattle.wt_driver_spec.specs.LookOrder.{LooksInOrder};
-ghost use Rattle.wt_driver_spec.specs.Moment.{Fits, MayCall, MayFollow};
+ghost use Rattle.wt_driver_spec.specs.Moment.{Fits, MayRecord, MayFollow};
 ghost use Rattle.wt_driver_spec.specs.Rest.{AtRest, FitsAndRests, IsQuiet, RestsWhileOpen};
 ghost use Rattle.wt_driver_spec.specs.Step.{after_call};
 ghost use Rattle.wt_seam_spec.specs.Streams.{contents};
@@ -48,7 +48,7 @@ pub fn accepts_and_receives_are_followed()
 #[tactic(auto, using(crate::proofs::Theorems::rest_theorem, crate::proofs::Theorems::call_theorem, crate::proofs::Theorems::byte_theorem))]
 pub fn one_scan_brings_to_rest()
     ensures rest { (side : Side) (log : Log) (e : Entry) → MayFollow side log e → Fits side log → is_moment e ≡ true → RestsWhileOpen side (log_and_flush side log e) }
-    ensures call { (side : Side) (log : Log) (r : CallRecord) → MayCall side log r → FitsAndRests side log → after_call r (state_of side log) ≡ state_of side log
+    ensures call { (side : Side) (log : Log) (r : CallRecord) → MayRecord side log r → FitsAndRests side log → after_call r (state_of side log) ≡ state_of side log
         → RestsOn side log (Called r) }
     ensures byte { (side : Side) (log : Log) (id byte : ℕ) → Fits side log → is_open log ≡ true → AtRest side log
         → IsQuiet (transport_view side log) (contents (Received id byte ∷ log)) id (state_of side log) → ByteRests side log id byte }

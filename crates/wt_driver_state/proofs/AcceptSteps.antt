@@ -8,9 +8,9 @@ use Rattle.wt_driver_state.specs.DriverValue.{DriverValue}
 use Rattle.wt_dispatch.specs.Found.{due_as}
 use Rattle.wt_driver_state.specs.Given.{ended_or_pending, given_by, is_own, next_datagram_now, payload_by, payload_in}
 use Rattle.wt_driver_state.specs.Moving.{front_of}
-use Rattle.wt_driver_state.specs.Tie.{Follows, unsettled}
+use Rattle.wt_driver_state.specs.Tie.{Follows, unsettled_datagrams}
 use Rattle.wt_driver_spec.specs.Asking.{MayBeCalled}
-use Rattle.wt_driver_spec.specs.Due.{Due, DueRule, DueOutcome, accepted, due_datagram, due_stream, log_datagrams, log_streams, received, state_next_due, take_due}
+use Rattle.wt_driver_spec.specs.Due.{Due, DueRule, DueOutcome, accept_outcome, due_datagram, due_stream, log_datagrams, log_streams, receive_outcome, state_next_due, take_due}
 use Rattle.wt_seam_spec.specs.Reports.{datagrams_of}
 use Rattle.wt_seam_spec.specs.Streams.{peer_count}
 use Rattle.wt_spec.specs.Connection.{is_for_session, next_datagram, next_due, pass_stream, read_datagram}
@@ -48,7 +48,7 @@ module _ {T : Type 0} (side : Side) (taken : ℕ) (rule : DueRule Log T) (whole 
 
 -- how many looks there are
 pub accepted-is : (side : Side) (log : Log) (kind of_kind session looks : ℕ) → kind ≡ of_kind → (is_open log ≡ true → looks ≡ peer_count side (events_of log) of_kind)
-    → take_due (log_streams side kind session) (suc looks) log ≡ accepted side of_kind log session
+    → take_due (log_streams side kind session) (suc looks) log ≡ accept_outcome side of_kind log session
 accepted-is side log kind of_kind session looks same count =
     ap (λ k. take_due (log_streams side k session) (suc looks) log) same ∙ by (is_open log) refl
   where
@@ -60,7 +60,7 @@ accepted-is side log kind of_kind session looks same count =
         is-so true h = h
         is-so false h = absurd (true≢false (sym (other-open side log of_kind session c e h) ∙ shut))
 
-    by : (b : Bool) → is_open log ≡ b → take_due (log_streams side of_kind session) (suc looks) log ≡ accepted side of_kind log session
+    by : (b : Bool) → is_open log ≡ b → take_due (log_streams side of_kind session) (suc looks) log ≡ accept_outcome side of_kind log session
     by true o = ap (λ n. take_due (log_streams side of_kind session) (suc n) log) (count o)
     by false o = one-look (log_streams side of_kind session) log looks (peer_count side (events_of log) of_kind) (own-only o (next_due side log of_kind session) refl)
 
@@ -114,12 +114,12 @@ unfolding truth
 same-own a b e = ap truth e
 
 -- how many looks there are
-pub received-is : (side : Side) (log : Log) (taken session looks : ℕ) (d : DriverValue) → Follows side d log taken → looks ≡ length d.queue → received side log session ≡ take_due (log_datagrams side session) (suc looks) log
+pub received-is : (side : Side) (log : Log) (taken session looks : ℕ) (d : DriverValue) → Follows side d log taken → looks ≡ length d.queue → receive_outcome side log session ≡ take_due (log_datagrams side session) (suc looks) log
 received-is side log taken session looks d f all =
-    enough-looks (log_datagrams side session) (λ g. length (unsettled g)) (λ g x e. passed-less side session g x e)
+    enough-looks (log_datagrams side session) (λ g. length (unsettled_datagrams g)) (λ g x e. passed-less side session g x e)
     (suc (length (datagrams_of (events_of log)))) (suc looks) log
     (omega (arith, length-drop (settled_datagrams (calls_of log)) (datagrams_of (events_of log))))
-    (let same : length d.queue ≡ length (unsettled log) = ap (λ (q : List (List ℕ)). length q) f.refines.queue_is in omega arith)
+    (let same : length d.queue ≡ length (unsettled_datagrams log) = ap (λ (q : List (List ℕ)). length q) f.refines.queue_is in omega arith)
 
 -- one that is due has a payload
 pub front-paid : (session : ℕ) (d : DriverValue) (o : Option Bool) (own : Bool) (piece : Option (List ℕ)) → o ≡ is_own session (next_datagram_now d) → o ≡ Some own → piece ≡ front_of d.queue

@@ -10,12 +10,12 @@ use Rattle.wt_driver_state.proofs.StageWork.{passed-waits, slice-front, unsettle
 use Rattle.wt_driver_state.specs.DriverValue.{DriverValue, without_first}
 use Rattle.wt_driver_state.specs.Given.{next_datagram_now}
 use Rattle.wt_driver_state.specs.Moving.{front_of}
-use Rattle.wt_driver_state.specs.Tie.{Follows, TakenIn, unsettled}
+use Rattle.wt_driver_state.specs.Tie.{Follows, TakenIn, unsettled_datagrams}
 use Rattle.wt_driver_spec.proofs.Accepting.{due-named, may-release}
 use Rattle.wt_driver_spec.proofs.Following.{sound}
 use Rattle.wt_driver_spec.specs.Asking.{MayBeCalled, SendsWhileOpen, SparesControl}
 use Rattle.wt_driver_spec.specs.DriverState.{DriverState, state_of}
-use Rattle.wt_driver_spec.specs.Due.{Due, due_datagram, due_stream, passing, state_next_due}
+use Rattle.wt_driver_spec.specs.Due.{Due, due_datagram, due_stream, passing_stop, state_next_due}
 use Rattle.wt_driver_spec.specs.Moment.{may_release, names_session}
 use Rattle.wt_driver_spec.specs.Uses.{MayUse, classified_of, is_sessions}
 use Rattle.wt_seam_spec.specs.Acting.{MayAct}
@@ -23,8 +23,8 @@ use Rattle.wt_seam_spec.specs.Reports.{datagrams_of}
 use Rattle.wt_seam_spec.specs.Sent.{resets}
 use Rattle.wt_seam_spec.specs.Streams.{local_uni}
 use Rattle.wt_spec.specs.Connection.{first_of, is_due, is_for_session, next_datagram, next_due, read_datagram}
-use Rattle.wt_spec.specs.Driver.{apply_if, call_view, established, establishes, flush, is_moment, log_and_flush, or_earlier, pending_actions, settled_datagrams, settles_datagram, stream_table}
-use Rattle.wt_spec.specs.StreamTable.{Classified, StreamTable, dispatched, verdict_of}
+use Rattle.wt_spec.specs.Driver.{apply_if, call_view, established_session, establishes, flush, is_moment, log_and_flush, or_earlier, pending_actions, settled_datagrams, settles_datagram, stream_table}
+use Rattle.wt_spec.specs.StreamTable.{Classified, StreamTable, dispatched_streams, verdict_of}
 use Rattle.wt_turn.specs.Log.{CallRecord, Called, DatagramPassed, DatagramReceived, Log, Polled, Sent, StreamAccepted, StreamPassed, calls_of, events_of, is_open, with_actions}
 use Rattle.wt_wire.specs.declared.side.Side.{Side}
 
@@ -35,7 +35,7 @@ call-sends : (side : Side) (log : Log) (r : CallRecord) → establishes r ≡ No
 call-sends side log r none spares sends o = record {
   unfinished = (sends o).unfinished;
   unreset = λ i. spares (local_uni side) i || (sends o).unreset i;
-  session = λ s e. (sends o).session s (sym (ap (λ (x : Option (ℕ × ℕ)). or_earlier x (established (calls_of log))) none) ∙ e);
+  session = λ s e. (sends o).session s (sym (ap (λ (x : Option (ℕ × ℕ)). or_earlier x (established_session (calls_of log))) none) ∙ e);
 }
 
 -- a call that records nothing else may come behind each log
@@ -43,7 +43,7 @@ pub may-poll : (side : Side) (log : Log) (taken : ℕ) (d : DriverValue) → Fol
 may-poll side log taken d f = record { may = tt; can = tt; sends = call-sends side log Polled refl (λ k. refl) f.sends; half = tt }
 
 -- a stop leaves this end's control stream alone
-pub passing-spares : (side : Side) (log : Log) (id : ℕ) → SparesControl side log (passing id)
+pub passing-spares : (side : Side) (log : Log) (id : ℕ) → SparesControl side log (passing_stop id)
 passing-spares side log id = record { opens = λ e. absurd (true≢false (sym e)); sent = refl; finishes = refl; resets = refl }
 
 -- ---- a stream that is due
@@ -65,7 +65,7 @@ first-holds holds (x ∷ xs) c e = by (holds x) refl e (first-holds holds xs c)
 -- one of another session is due only while the connection is open
 pub other-open : (side : Side) (log : Log) (kind session : ℕ) (c : Classified) → next_due side log kind session ≡ Some c → is_for_session session c.verdict ≡ false → is_open log ≡ true
 other-open side log kind session c e other =
-    let due = first-holds (is_due (is_open log) kind session) (dispatched (call_view log) (stream_table side log).classified).waiting c e in
+    let due = first-holds (is_due (is_open log) kind session) (dispatched_streams (call_view log) (stream_table side log).classified).waiting c e in
     by (is_open log) (is_for_session session c.verdict) other (and_parts (c.id % 4 == kind) (is_open log || is_for_session session c.verdict) due).1
   where
     by : (b own : Bool) → own ≡ false → (b || own) ≡ true → b ≡ true
@@ -87,8 +87,8 @@ due-parts session c x e = (ap item-in e, ap own-in e)
 
 -- A stream of another session may be stopped, then passed.
 pub record MayPass (side : Side) (log : Log) (id : ℕ) : Type 0 where
-  pub act : MayAct side log (passing id)
-  pub called : MayBeCalled side (Sent (passing id) ∷ log) (StreamPassed id)
+  pub act : MayAct side log (passing_stop id)
+  pub called : MayBeCalled side (Sent (passing_stop id) ∷ log) (StreamPassed id)
 
 module _ (side : Side) (log : Log) (taken : ℕ) (d : DriverValue) (f : Follows side d log taken) (kind session id : ℕ) where
   named : (own : Bool) → due_stream session (next_due side log kind session) ≡ Some (record { item = id; is_own = own }) → names_session (verdict_of id (stream_table side log).classified) ≡ true
@@ -119,9 +119,9 @@ module _ (side : Side) (log : Log) (taken : ℕ) (d : DriverValue) (f : Follows 
           record {
             act = (other-open side log kind session c g parts.1, named-receives side log id f.refines.fits (named false e));
             called = record {
-              may = ap (λ (t : StreamTable). may_release side t.classified id) (table-with side (passing id ∷ []) log) ∙ may-release side log log id (named false e);
-              can = (ap (λ (t : StreamTable). is_sessions (classified_of id t.classified)) (table-with side (passing id ∷ []) log) ∙ uses.0, uses.1);
-              sends = call-sends side (Sent (passing id) ∷ log) (StreamPassed id) refl (λ k. refl) (acted-sends side log (passing id) (passing-spares side log id) f.sends);
+              may = ap (λ (t : StreamTable). may_release side t.classified id) (table-with side (passing_stop id ∷ []) log) ∙ may-release side log log id (named false e);
+              can = (ap (λ (t : StreamTable). is_sessions (classified_of id t.classified)) (table-with side (passing_stop id ∷ []) log) ∙ uses.0, uses.1);
+              sends = call-sends side (Sent (passing_stop id) ∷ log) (StreamPassed id) refl (λ k. refl) (acted-sends side log (passing_stop id) (passing-spares side log id) f.sends);
               half = tt;
             };
           }
@@ -137,9 +137,9 @@ datagram-kept side log taken d f =
     ∙ ap (λ (s : DriverState). if nat_lt s.datagrams s.progress.datagrams then read_datagram (front_of d.queue) else None) (sym f.refines.state_is)
 
 -- one waits where one is next
-datagram-waits : (side : Side) (log : Log) (session : ℕ) (x : Due (List ℕ)) → due_datagram session (next_datagram side log) ≡ Some x → 0 < length (unsettled log)
+datagram-waits : (side : Side) (log : Log) (session : ℕ) (x : Due (List ℕ)) → due_datagram session (next_datagram side log) ≡ Some x → 0 < length (unsettled_datagrams log)
 datagram-waits side log session x e =
-    by (nat_lt (settled_datagrams (calls_of log)) (stream_table side log).progress.datagrams) (unsettled log)
+    by (nat_lt (settled_datagrams (calls_of log)) (stream_table side log).progress.datagrams) (unsettled_datagrams log)
     (ap (λ (o : Option (List ℕ)). due_datagram session (if nat_lt (settled_datagrams (calls_of log)) (stream_table side log).progress.datagrams then read_datagram o else None))
     (sym (slice-front (datagrams_of (events_of log)) (settled_datagrams (calls_of log)))) ∙ e)
   where
@@ -148,7 +148,7 @@ datagram-waits side log session x e =
     by true [] g = absurd cc
     by true (piece ∷ q) g = omega arith
 
-came-more : (log : Log) → 0 < length (unsettled log) → settled_datagrams (calls_of log) < length (datagrams_of (events_of log))
+came-more : (log : Log) → 0 < length (unsettled_datagrams log) → settled_datagrams (calls_of log) < length (datagrams_of (events_of log))
 came-more log lt = omega (arith, length-drop (settled_datagrams (calls_of log)) (datagrams_of (events_of log)))
 
 -- The datagram that is next may be settled.
@@ -173,19 +173,19 @@ settled-taken side log taken d f new e DatagramPassed is a = skipped-taken side 
 settled-taken side log taken d f new e _ is a = absurd (true≢false (sym is))
 
 -- the work of the moment settles no other one
-settled-once : (side : Side) (log : Log) → unsettled (log_and_flush side log (Called DatagramPassed)) ≡ unsettled (Called DatagramPassed ∷ log)
+settled-once : (side : Side) (log : Log) → unsettled_datagrams (log_and_flush side log (Called DatagramPassed)) ≡ unsettled_datagrams (Called DatagramPassed ∷ log)
 unfolding flush
 settled-once side log = by (is_moment (Called DatagramPassed) && is_open (Called DatagramPassed ∷ log))
   where
-    by : (b : Bool) → unsettled (apply_if b (with_actions (pending_actions side (Called DatagramPassed ∷ log))) (Called DatagramPassed ∷ log)) ≡ unsettled (Called DatagramPassed ∷ log)
+    by : (b : Bool) → unsettled_datagrams (apply_if b (with_actions (pending_actions side (Called DatagramPassed ∷ log))) (Called DatagramPassed ∷ log)) ≡ unsettled_datagrams (Called DatagramPassed ∷ log)
     by true = unsettled-with (pending_actions side (Called DatagramPassed ∷ log)) (Called DatagramPassed ∷ log)
     by false = refl
 
 -- each pass leaves fewer
 pub passed-less : (side : Side) (session : ℕ) (log : Log) (x : Due (List ℕ)) → due_datagram session (next_datagram side log) ≡ Some x
-    → length (unsettled (log_and_flush side log (Called DatagramPassed))) < length (unsettled log)
+    → length (unsettled_datagrams (log_and_flush side log (Called DatagramPassed))) < length (unsettled_datagrams log)
 passed-less side session log x e =
-    subst (λ (q : List (List ℕ)). length q < length (unsettled log)) (sym (settled-once side log ∙ passed-waits log)) (shorter (unsettled log) (datagram-waits side log session x e))
+    subst (λ (q : List (List ℕ)). length q < length (unsettled_datagrams log)) (sym (settled-once side log ∙ passed-waits log)) (shorter (unsettled_datagrams log) (datagram-waits side log session x e))
   where
     shorter : (q : List (List ℕ)) → 0 < length q → length (without_first q) < length q
     shorter [] lt = absurd (omega arith)

@@ -4,7 +4,7 @@ use Rattle.std.specs.Prelude.{◌&&◌, ◌||◌, Option, Some, None, if◌then�
 use Rattle.wt_driver_state.specs.Calling.{leaves_at_rest}
 use Rattle.wt_driver_state.specs.DriverValue.{DriverValue, with_state}
 use Rattle.wt_driver_state.specs.PeerSettings.{KeepsSettings, settings_read}
-use Rattle.wt_driver_state.specs.Stages.{StageSays, StagesFit, stream_use}
+use Rattle.wt_driver_state.specs.Stages.{StageSays, StagesFit, call_use}
 use Rattle.wt_driver_state.specs.Tie.{Follows, TakenIn}
 use Rattle.wt_driver_spec.proofs.RestMoments.{open-says, quiet-call, quiet-call-rests, quiet-call-state}
 use Rattle.wt_driver_spec.proofs.ScanSlots.{slots-same}
@@ -15,7 +15,7 @@ use Rattle.wt_driver_spec.specs.Uses.{classified_of, role_of}
 use Rattle.wt_proto.specs.declared.verdict.Verdict.{Verdict}
 use Rattle.wt_spec.specs.Driver.{apply_if, call_view, log_and_flush, stream_table, transport_view}
 use Rattle.wt_spec.specs.Scan.{Scan, SlotRule, bi_ids, bi_rule, dequeue, has, is_released, occupied, scan, scan_bis, scan_order, scan_unis, uni_ids, uni_rule, unless_ended, visit, without_stops}
-use Rattle.wt_spec.specs.StreamTable.{CallView, Classified, Ending, Progress, StreamTable, TransportView, control_start, first_at, verdict_of}
+use Rattle.wt_spec.specs.StreamTable.{CallView, Classified, Ending, DriverProgress, StreamTable, TransportView, control_start, first_at, verdict_of}
 use Rattle.wt_turn.specs.Log.{BytesRead, CallRecord, Called, ConnectStarted, HandshakeOver, Log, OpeningFailed, OpeningStarted, Polled, PrioritySet, ResponseStarted, is_open}
 use Rattle.wt_wire.specs.declared.side.Side.{Side}
 
@@ -124,16 +124,16 @@ module _ (side : Side) (log : Log) (r : CallRecord) (taken : ℕ) (d : DriverVal
 
   ending-same : (stream_table side (Called r ∷ log)).progress.ending ≡ table.progress.ending
   unfolding state_of
-  ending-same = ap (λ (x : Progress). x.ending) progress-behind
+  ending-same = ap (λ (x : DriverProgress). x.ending) progress-behind
 
   came-same : (stream_table side (Called r ∷ log)).progress.settings ≡ table.progress.settings
   unfolding state_of
-  came-same = ap (λ (x : Progress). x.settings) progress-behind
+  came-same = ap (λ (x : DriverProgress). x.settings) progress-behind
 
   staged : StagesFit side (Called r ∷ log) in_.stage
   staged = λ k.
-      subst (λ (cs : List Classified). StageSays (role_of side k) (stream_use side (Called r ∷ log) k) (stream_table side (Called r ∷ log)).progress.ending (classified_of k cs) (in_.stage k)) (sym classified-same)
-      (subst (λ (e : Option Ending). StageSays (role_of side k) (stream_use side (Called r ∷ log) k) e (classified_of k table.classified) (in_.stage k)) (sym ending-same) (in_.fit k))
+      subst (λ (cs : List Classified). StageSays (role_of side k) (call_use side (Called r ∷ log) k) (stream_table side (Called r ∷ log)).progress.ending (classified_of k cs) (in_.stage k)) (sym classified-same)
+      (subst (λ (e : Option Ending). StageSays (role_of side k) (call_use side (Called r ∷ log) k) e (classified_of k table.classified) (in_.stage k)) (sym ending-same) (in_.fit k))
 
   settings : KeepsSettings side (Called r ∷ log) d.settings
   settings = record {

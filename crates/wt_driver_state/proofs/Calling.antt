@@ -17,7 +17,7 @@ use Rattle.wt_turn.specs.declared.record.Record.{Record}
 use Rattle.wt_turn.specs.declared.record.Record.TheVariants as records
 use Rattle.wt_scan.specs.Scanning.{unless_given_up}
 use Rattle.wt_driver_state.specs.Stages.{called_stages, established_stages, is_there}
-use Rattle.wt_driver_state.specs.Tie.{Follows, TakenIn, unsettled, untaken_since}
+use Rattle.wt_driver_state.specs.Tie.{Follows, TakenIn, unsettled_datagrams, untaken_since}
 use Rattle.wt_driver_spec.proofs.RestMoments.{open-says}
 use Rattle.wt_driver_spec.specs.DriverState.{DriverState, state_of}
 use Rattle.wt_driver_spec.specs.Moment.{may_release}
@@ -79,7 +79,7 @@ inbox-kept side x log stage untaken r n s = passes side x log stage untaken s x.
 
 -- ---- a record taken in
 
-queue-so : (r : CallRecord) (log : Log) → unsettled (Called r ∷ log) ≡ called_queue r (unsettled log)
+queue-so : (r : CallRecord) (log : Log) → unsettled_datagrams (Called r ∷ log) ≡ called_queue r (unsettled_datagrams log)
 queue-so DatagramReceived log = received-waits log
 queue-so DatagramPassed log = passed-waits log
 queue-so _ log = refl
@@ -158,16 +158,7 @@ module _ (side : Side) (log : Log) (taken : ℕ) (d : DriverValue) (f : Follows 
   nothing-taken (OpeningStarted id session) n a = call-taken side log taken d f (OpeningStarted id session) a d d.state.is_open (kept (OpeningStarted id session) tt) refl opened refl refl
   nothing-taken (OpeningFailed id) n a = call-taken side log taken d f (OpeningFailed id) a d d.state.is_open (kept (OpeningFailed id) tt) refl opened refl refl
   nothing-taken Polled n a = call-taken side log taken d f Polled a d d.state.is_open (kept Polled tt) refl opened refl refl
-  nothing-taken (RequestDelivered id) n a = absurd n
-  nothing-taken (SessionEstablished id at) n a = absurd n
-  nothing-taken (StreamAccepted id) n a = absurd n
-  nothing-taken (StreamPassed id) n a = absurd n
-  nothing-taken (BytesRead id count) n a = absurd n
-  nothing-taken (StreamGivenUp id) n a = absurd n
-  nothing-taken (ResetUnsent id code) n a = absurd n
-  nothing-taken (PrioritySet id priority) n a = absurd n
-  nothing-taken DatagramReceived n a = absurd n
-  nothing-taken DatagramPassed n a = absurd n
+  nothing-taken _ n a = absurd n
 
   first : (id : ℕ) → may_release side (stream_table side log).classified id ≡ true → IsEarly d id
   first id may = early side log id f.refines.fits may d f.refines.state_is

@@ -11,7 +11,7 @@ use Rattle.wt_driver_spec.proofs.ScanSlots.{ArePeers}
 use Rattle.wt_driver_spec.proofs.StreamIds.{apart-ids}
 use Rattle.wt_driver_spec.specs.Bounds.{IsBounded, has_slot}
 use Rattle.wt_driver_spec.specs.DriverState.{Arrived, DriverState, Held, Slot, slot_by, slots, state_of}
-use Rattle.wt_driver_spec.specs.Moment.{Fits, is_local, may_release, names_session}
+use Rattle.wt_driver_spec.specs.Moment.{Fits, has_local_kind, may_release, names_session}
 use Rattle.wt_proto.specs.declared.verdict.Verdict.{Verdict}
 use Rattle.wt_spec.specs.Driver.{call_view, stream_table, transport_view}
 use Rattle.wt_spec.specs.Scan.{bi_ids, has, is_released, uni_ids}
@@ -65,7 +65,7 @@ some-named None e = e
 some-named (Some v) e = refl
 
 module _ (side : Side) (log : Log) (id : ℕ) (fits : Fits side log) (may : may_release side (stream_table side log).classified id ≡ true) where
-  held : (k : ℕ) → (k == id) ≡ true → is_local side k ≡ false → is_some (verdict_of k (stream_table side log).classified) ≡ true
+  held : (k : ℕ) → (k == id) ≡ true → has_local_kind side k ≡ false → is_some (verdict_of k (stream_table side log).classified) ≡ true
   held k e local =
       some-named (verdict_of k (stream_table side log).classified)
       (named-peer side (stream_table side log).classified k (subst (λ (j : ℕ). may_release side (stream_table side log).classified j ≡ true) (sym (eqb-true k id e)) may) local)
@@ -74,7 +74,7 @@ module _ (side : Side) (log : Log) (id : ℕ) (fits : Fits side log) (may : may_
   unfolding state_of
   early-unis = record {
     early = not-behind id 4 4 0 (state_of side log).unis (omega arith) (log-bounded side log fits).unis
-        (held-slots id (call_view log) (stream_table side log) (is_local side) (uni_ids (transport_view side log)) (apart-ids (transport_view side log)).uni_peers held);
+        (held-slots id (call_view log) (stream_table side log) (has_local_kind side) (uni_ids (transport_view side log)) (apart-ids (transport_view side log)).uni_peers held);
     distinct = (log-distinct side log).unis;
   }
 
@@ -82,7 +82,7 @@ module _ (side : Side) (log : Log) (id : ℕ) (fits : Fits side log) (may : may_
   unfolding state_of
   early-bis = record {
     early = not-behind id 1 1 0 (state_of side log).bis (omega arith) (log-bounded side log fits).bis
-        (held-slots id (call_view log) (stream_table side log) (is_local side) (bi_ids (transport_view side log)) (apart-ids (transport_view side log)).bi_peers held);
+        (held-slots id (call_view log) (stream_table side log) (has_local_kind side) (bi_ids (transport_view side log)) (apart-ids (transport_view side log)).bi_peers held);
     distinct = (log-distinct side log).bis;
   }
 

@@ -1,6 +1,6 @@
 -- What a driver follows behind its calls for a session.
-use Rattle.std.proofs.Common.{arith, ◌≡◌, ℕ, ◌+◌, ◌*◌, ◌%◌, Bool, true, false, List, [], ◌∷◌, ◌⊎◌, inl, inr, refl, sym, ap, subst, ◌∙◌}
-use Rattle.std.specs.Prelude.{◌&&◌, ◌==◌, Option, Some, None, Result, Ok, Err, OnOk, if◌then◌else◌, is_some, not}
+use Rattle.std.proofs.Common.{arith, ◌≡◌, ℕ, ◌+◌, ◌*◌, ◌%◌, Bool, true, false, List, [], ◌∷◌, ◌⊎◌, inl, refl, sym, ap, subst, ◌∙◌}
+use Rattle.std.specs.Prelude.{◌&&◌, ◌==◌, Option, Some, None, Result, OnOk, if◌then◌else◌, is_some, not}
 use Rattle.std.proofs.lemmas.Bool.{true≢false}
 use Rattle.wt_dispatch.specs.Requests.{first_request, request_in}
 use Rattle.wt_driver_state.proofs.Acting.{acted-follows}
@@ -10,24 +10,23 @@ use Rattle.wt_driver_state.proofs.StageUses.{queued-found}
 use Rattle.wt_driver_state.proofs.Turning.{unchanged-follows}
 use Rattle.wt_driver_state.specs.DriverValue.{DriverValue}
 use Rattle.wt_driver_state.specs.Results.{result_of}
-use Rattle.wt_driver_state.specs.Sessions.{first_given, may_register, opened_answer, queued, registered}
+use Rattle.wt_driver_state.specs.Sessions.{first_given, may_register, opened_answer, waiting_requests, log_once_registered}
 use Rattle.wt_driver_state.specs.Tie.{Follows, untaken_since}
 use Rattle.wt_driver_spec.proofs.ClassifiedOnce.{In}
 use Rattle.wt_driver_spec.proofs.RestMoments.{open-says}
 use Rattle.wt_driver_spec.specs.Asking.{MayBeCalled, SparesControl}
 use Rattle.wt_driver_spec.specs.DriverState.{DriverState, state_of}
-use Rattle.wt_driver_spec.specs.Uses.{classified_of, queued_at}
+use Rattle.wt_driver_spec.specs.Uses.{queued_at}
 use Rattle.wt_error.specs.declared.driver_error.DriverError.{DriverError}
 use Rattle.wt_inbox.specs.Stage as inboxes
 use Rattle.wt_proto.specs.declared.verdict.Verdict.{Verdict}
 use Rattle.wt_proto.specs.declared.verdict.Verdict.TheVariants as verdicts
 use Rattle.wt_seam_spec.specs.Joined.{newest_first}
-use Rattle.wt_seam_spec.specs.Outgoing.{may_open, next_id, opening}
+use Rattle.wt_seam_spec.specs.Outgoing.{may_open, next_id, actions_to_open}
 use Rattle.wt_seam_spec.specs.Streams.{local_bi, local_uni, stream_count}
-use Rattle.wt_spec.specs.Driver.{call_view, established, log_and_flush, stream_table}
+use Rattle.wt_spec.specs.Driver.{call_view, established_session, log_and_flush, stream_table}
 use Rattle.wt_spec.specs.StreamTable.{Classified, Ending}
 use Rattle.wt_turn.specs.Log.{Called, Log, RequestDelivered, SessionEstablished, calls_of, is_open, with_actions}
-use Rattle.wt_turn.specs.declared.action.Action.{Action}
 use Rattle.wt_turn.specs.declared.action.Action.TheVariants as actions
 use Rattle.wt_wire.specs.HeaderList.{Fields}
 use Rattle.wt_wire.specs.declared.side.Side.{Side}
@@ -43,12 +42,12 @@ request-id : (id : ℕ) (v : Verdict) (asked : ℕ × Fields × ℕ) → Some as
 request-id id (verdicts.Request fields at) asked e = ap told-id e
 request-id id _ asked e = absurd cc
 
-requests-are : (side : Side) (log : Log) → (state_of side log).dispatched.requests ≡ queued side log
+requests-are : (side : Side) (log : Log) → (state_of side log).dispatched.requests ≡ waiting_requests side log
 unfolding state_of
 requests-are side log = refl
 
 -- a queued request may be given
-may-deliver : (side : Side) (log : Log) (taken : ℕ) (d : DriverValue) → Follows side d log taken → (c : Classified) → In c (queued side log) → MayBeCalled side log (RequestDelivered c.id)
+may-deliver : (side : Side) (log : Log) (taken : ℕ) (d : DriverValue) → Follows side d log taken → (c : Classified) → In c (waiting_requests side log) → MayBeCalled side log (RequestDelivered c.id)
 may-deliver side log taken d f c i =
     let found = queued-found side log c f.refines.fits i in
     record {
@@ -59,26 +58,26 @@ may-deliver side log taken d f c i =
     }
 
 module _ (side : Side) (log : Log) (taken : ℕ) (d new : DriverValue) (f : Follows side d log taken) where
-  queued-now : d.state.dispatched.requests ≡ queued side log
+  queued-now : d.state.dispatched.requests ≡ waiting_requests side log
   queued-now = ap (λ (s : DriverState). s.dispatched.requests) f.refines.state_is ∙ requests-are side log
 
   pub request-follows : (asked : ℕ × Fields × ℕ) → Some asked ≡ first_request d.state.dispatched.requests
-      → (MayBeCalled side log (RequestDelivered asked.0) → Follows side new (log_and_flush side log (Called (RequestDelivered asked.0))) taken) → Follows side new (first_given side log (queued side log)) taken
-  request-follows asked e work = by (queued side log) refl (e ∙ ap (λ (cs : List Classified). first_request cs) queued-now)
+      → (MayBeCalled side log (RequestDelivered asked.0) → Follows side new (log_and_flush side log (Called (RequestDelivered asked.0))) taken) → Follows side new (first_given side log (waiting_requests side log)) taken
+  request-follows asked e work = by (waiting_requests side log) refl (e ∙ ap (λ (cs : List Classified). first_request cs) queued-now)
     where
-      by : (cs : List Classified) → queued side log ≡ cs → Some asked ≡ first_request cs → Follows side new (first_given side log cs) taken
+      by : (cs : List Classified) → waiting_requests side log ≡ cs → Some asked ≡ first_request cs → Follows side new (first_given side log cs) taken
       by [] g h = absurd cc
       by (c ∷ later) g h =
           let same : asked.0 ≡ c.id = request-id c.id c.verdict asked h in
-          let inside : In c (queued side log) = subst (λ (cs : List Classified). In c cs) (sym g) (inl refl) in
+          let inside : In c (waiting_requests side log) = subst (λ (cs : List Classified). In c cs) (sym g) (inl refl) in
           subst (λ (k : ℕ). Follows side new (log_and_flush side log (Called (RequestDelivered k))) taken) same
           (work (subst (λ (k : ℕ). MayBeCalled side log (RequestDelivered k)) (sym same) (may-deliver side log taken d f c inside)))
 
   -- without one the log stays
-  pub none-follows : None ≡ first_request d.state.dispatched.requests → Follows side d (first_given side log (queued side log)) taken
+  pub none-follows : None ≡ first_request d.state.dispatched.requests → Follows side d (first_given side log (waiting_requests side log)) taken
   none-follows e = subst (λ (cs : List Classified). Follows side d (first_given side log cs) taken) (sym none) f
     where
-      none : queued side log ≡ []
+      none : waiting_requests side log ≡ []
       none = requests-told (call_view log).delivered (stream_table side log).classified (ap (λ (cs : List Classified). first_request cs) (sym queued-now) ∙ sym e)
 
 -- ---- a stream
@@ -91,8 +90,8 @@ opening-spares : (side : Side) (log : Log) → SparesControl side log (actions.O
 opening-spares side log = record { opens = λ e. absurd (true≢false (sym e ∙ not-control side (stream_count side log (local_bi side)))); sent = refl; finishes = refl; resets = refl }
 
 pub opened-follows : (side : Side) (log : Log) (taken : ℕ) (d new : DriverValue) (f : Follows side d log taken)
-    → inboxes.Refines side new.inbox (with_actions (opening side log (local_bi side)) log) f.refines.stage (newest_first (opening side log (local_bi side)) (untaken_since taken log))
-    → new.state ≡ record d.state { is_open = new.inbox.transport.is_open } → new.queue ≡ d.queue → new.settings ≡ d.settings → Follows side new (with_actions (opening side log (local_bi side)) log) taken
+    → inboxes.Refines side new.inbox (with_actions (actions_to_open side log (local_bi side)) log) f.refines.stage (newest_first (actions_to_open side log (local_bi side)) (untaken_since taken log))
+    → new.state ≡ record d.state { is_open = new.inbox.transport.is_open } → new.queue ≡ d.queue → new.settings ≡ d.settings → Follows side new (with_actions (actions_to_open side log (local_bi side)) log) taken
 opened-follows side log taken d new f x k q h = by (may_open side log (local_bi side)) x
   where
     by : (b : Bool) → inboxes.Refines side new.inbox (with_actions (if b then actions.Opened (next_id side log (local_bi side)) ∷ [] else []) log) f.refines.stage (newest_first (if b then actions.Opened (next_id side log (local_bi side)) ∷ [] else []) (untaken_since taken log))
@@ -111,11 +110,11 @@ stands-open side log taken d f = ap (λ (s : DriverState). s.is_open) f.refines.
 
 -- ---- the session
 
-session-says : (side : Side) (log : Log) → (state_of side log).session ≡ established (calls_of log)
+session-says : (side : Side) (log : Log) → (state_of side log).session ≡ established_session (calls_of log)
 unfolding state_of
 session-says side log = refl
 
-pub session-now : (side : Side) (log : Log) (taken : ℕ) (d : DriverValue) → Follows side d log taken → d.state.session ≡ established (calls_of log)
+pub session-now : (side : Side) (log : Log) (taken : ℕ) (d : DriverValue) → Follows side d log taken → d.state.session ≡ established_session (calls_of log)
 session-now side log taken d f = ap (λ (s : DriverState). s.session) f.refines.state_is ∙ session-says side log
 
 registers : (a : Bool) (o : Option (ℕ × ℕ)) → a ≡ true → o ≡ None → (a && not (is_some o)) ≡ true
@@ -134,19 +133,19 @@ shut-out false b e = refl
 
 module _ (side : Side) (log : Log) (taken : ℕ) (d new : DriverValue) (f : Follows side d log taken) (id at : ℕ) where
   pub registered-done : {T E : Type 0} (r : Result T E) → is_open log ≡ true → d.state.session ≡ None → (may_register log ≡ true → MayBeCalled side log (SessionEstablished id at))
-      → (MayBeCalled side log (SessionEstablished id at) → OnOk r (Follows side new (log_and_flush side log (Called (SessionEstablished id at))) taken)) → OnOk r (Follows side new (registered side log id at) taken)
+      → (MayBeCalled side log (SessionEstablished id at) → OnOk r (Follows side new (log_and_flush side log (Called (SessionEstablished id at))) taken)) → OnOk r (Follows side new (log_once_registered side log id at) taken)
   registered-done r o none may work =
-      let can : may_register log ≡ true = registers (is_open log) (established (calls_of log)) o (sym (session-now side log taken d f) ∙ none) in
+      let can : may_register log ≡ true = registers (is_open log) (established_session (calls_of log)) o (sym (session-now side log taken d f) ∙ none) in
       subst (λ (b : Bool). OnOk r (Follows side new (if b then log_and_flush side log (Called (SessionEstablished id at)) else log) taken)) (sym can) (work (may can))
 
-  pub registered-before : (s : ℕ × ℕ) → d.state.session ≡ Some s → Follows side d (registered side log id at) taken
+  pub registered-before : (s : ℕ × ℕ) → d.state.session ≡ Some s → Follows side d (log_once_registered side log id at) taken
   registered-before s some =
-      let not_ : may_register log ≡ false = keeps-out (is_open log) (established (calls_of log)) (ap (λ (o : Option (ℕ × ℕ)). is_some o) (sym (session-now side log taken d f) ∙ some)) in
+      let not_ : may_register log ≡ false = keeps-out (is_open log) (established_session (calls_of log)) (ap (λ (o : Option (ℕ × ℕ)). is_some o) (sym (session-now side log taken d f) ∙ some)) in
       subst (λ (b : Bool). Follows side d (if b then log_and_flush side log (Called (SessionEstablished id at)) else log) taken) (sym not_) f
 
-  pub registered-late : is_open log ≡ false → Follows side d (registered side log id at) taken
+  pub registered-late : is_open log ≡ false → Follows side d (log_once_registered side log id at) taken
   registered-late shut =
-      subst (λ (b : Bool). Follows side d (if b then log_and_flush side log (Called (SessionEstablished id at)) else log) taken) (sym (shut-out (is_open log) (not (is_some (established (calls_of log)))) shut)) f
+      subst (λ (b : Bool). Follows side d (if b then log_and_flush side log (Called (SessionEstablished id at)) else log) taken) (sym (shut-out (is_open log) (not (is_some (established_session (calls_of log)))) shut)) f
 
 ended-shut : (b : Bool) (e : Option Ending) (error : DriverError) → result_of b e ≡ Some error → b ≡ false
 ended-shut true e error h = absurd cc

@@ -4,11 +4,11 @@ use Rattle.std.specs.Prelude.{◌==◌, ◌&&◌, ◌+◌, ◌||◌, Option, Som
 use Rattle.std.proofs.lemmas.Bool.{eqb-true}
 use Rattle.wt_driver_state.proofs.StageAnswers.{own-unclassified}
 use Rattle.wt_driver_state.proofs.StageTables.{entry-found}
-use Rattle.wt_driver_state.specs.Stages.{BodySays, ClassifiedSays, FirstSays, ReadUpTo, StageSays, StagesFit, is_let_go, is_there, is_unwanted, stream_use}
-use Rattle.wt_driver_spec.specs.Moment.{Fits, is_local}
+use Rattle.wt_driver_state.specs.Stages.{BodySays, ClassifiedSays, FirstSays, ReadUpTo, StageSays, StagesFit, is_let_go, is_there, is_unwanted, call_use}
+use Rattle.wt_driver_spec.specs.Moment.{Fits, has_local_kind}
 use Rattle.wt_driver_spec.specs.Uses.{CallUse, OfLocalBi, OfLocalUni, StreamRole, Uses, classified_of, is_for_application, is_sessions, may_give, role_of, use_of}
 use Rattle.wt_inbox.specs.Stage.{GivenUp, Stage}
-use Rattle.wt_dispatch.specs.Rules.{is_given_up}
+use Rattle.wt_dispatch.specs.Rules.{reads_no_more}
 use Rattle.wt_proto.specs.declared.verdict.Verdict.{Verdict}
 use Rattle.wt_proto.specs.declared.verdict.Verdict.TheVariants as verdicts
 use Rattle.wt_seam_spec.specs.Streams.{can_receive}
@@ -71,17 +71,17 @@ let-go-gone side log stage k fits uses f went = by (let-go-named side log k uses
     ending : Option Ending
     ending = (stream_table side log).progress.ending
 
-    says : (o : Option Classified) → classified_of k cs ≡ o → StageSays (role_of side k) (stream_use side log k) ending o (stage k)
-    says o e = subst (λ (o : Option Classified). StageSays (role_of side k) (stream_use side log k) ending o (stage k)) e (f k)
+    says : (o : Option Classified) → classified_of k cs ≡ o → StageSays (role_of side k) (call_use side log k) ending o (stage k)
+    says o e = subst (λ (o : Option Classified). StageSays (role_of side k) (call_use side log k) ending o (stage k)) e (f k)
 
-    body : (at : ℕ) → BodySays (stream_use side log k) at (stage k) → stage k ≡ GivenUp
+    body : (at : ℕ) → BodySays (call_use side log k) at (stage k) → stage k ≡ GivenUp
     body at g = gone (is_let_go side log k) (at + (use_of k (calls_of log)).read) (stage k) went g
 
-    local : (role : StreamRole) → is_for_application role None ≡ true → FirstSays role (stream_use side log k) ending (stage k) → stage k ≡ GivenUp
+    local : (role : StreamRole) → is_for_application role None ≡ true → FirstSays role (call_use side log k) ending (stage k) → stage k ≡ GivenUp
     local OfLocalBi e g = body 0 g
     local _ e g = absurd cc
 
-    named : (surplus : Bool) (v : Verdict) → is_webtransport v ≡ true → ClassifiedSays surplus v (stream_use side log k) ending (stage k) → stage k ≡ GivenUp
+    named : (surplus : Bool) (v : Verdict) → is_webtransport v ≡ true → ClassifiedSays surplus v (call_use side log k) ending (stage k) → stage k ≡ GivenUp
     named surplus (verdicts.WebTransport session at) e g = body at g
     named surplus _ e g = absurd cc
 
@@ -97,7 +97,7 @@ let-go-gone side log stage k fits uses f went = by (let-go-named side log k uses
 pub unwanted-gone : (side : Side) (log : Log) (stage : ℕ → Stage) (k : ℕ) → StagesFit side log stage → is_unwanted (classified_of k (stream_table side log).classified) ≡ true → stage k ≡ GivenUp
 unwanted-gone side log stage k f e = by (classified_of k (stream_table side log).classified) e (f k)
   where
-    said : (surplus : Bool) (v : Verdict) (done : CallUse) (ending : Option Ending) → (is_given_up v || (is_request v && surplus)) ≡ true → ClassifiedSays surplus v done ending (stage k) → stage k ≡ GivenUp
+    said : (surplus : Bool) (v : Verdict) (done : CallUse) (ending : Option Ending) → (reads_no_more v || (is_request v && surplus)) ≡ true → ClassifiedSays surplus v done ending (stage k) → stage k ≡ GivenUp
     said surplus verdicts.Dropped done ending g h = h
     said surplus (verdicts.Refused code) done ending g h = h
     said surplus (verdicts.Encoder at) done ending g h = h
@@ -106,21 +106,21 @@ unwanted-gone side log stage k f e = by (classified_of k (stream_table side log)
     said false (verdicts.Request request at) done ending g h = absurd cc
     said surplus _ done ending g h = absurd cc
 
-    by : (o : Option Classified) → is_unwanted o ≡ true → StageSays (role_of side k) (stream_use side log k) (stream_table side log).progress.ending o (stage k) → stage k ≡ GivenUp
+    by : (o : Option Classified) → is_unwanted o ≡ true → StageSays (role_of side k) (call_use side log k) (stream_table side log).progress.ending o (stage k) → stage k ≡ GivenUp
     by None g h = absurd cc
-    by (Some c) g h = said c.surplus c.verdict (stream_use side log k) (stream_table side log).progress.ending g h
+    by (Some c) g h = said c.surplus c.verdict (call_use side log k) (stream_table side log).progress.ending g h
 
 -- ---- the peer's streams
 
 -- Each stream of the peer's that a call passed or gave up was let go.
-pub peers-let-go : (side : Side) (log : Log) (k : ℕ) → is_local side k ≡ false → (use_of k (calls_of log)).is_dropped ≡ true → is_let_go side log k ≡ true
+pub peers-let-go : (side : Side) (log : Log) (k : ℕ) → has_local_kind side k ≡ false → (use_of k (calls_of log)).is_dropped ≡ true → is_let_go side log k ≡ true
 peers-let-go side [] k peers e = absurd cc
 peers-let-go side (Called (StreamGivenUp id) ∷ log) k peers e = by (id == k) refl e (λ g. peers-let-go side log k peers g)
   where
     by : (b : Bool) → (id == k) ≡ b → (b || (use_of k (calls_of log)).is_dropped) ≡ true → ((use_of k (calls_of log)).is_dropped ≡ true → is_let_go side log k ≡ true)
         → ((b && is_there side log id) || is_let_go side log k) ≡ true
     by true f g again =
-        let other : is_local side id ≡ false = subst (λ (i : ℕ). is_local side i ≡ false) (sym (eqb-true id k f)) peers in
+        let other : has_local_kind side id ≡ false = subst (λ (i : ℕ). has_local_kind side i ≡ false) (sym (eqb-true id k f)) peers in
         λ i. (not (other i) || can_receive side log id) || is_let_go side log k
     by false f g again = again g
 peers-let-go side (Called (StreamPassed id) ∷ log) k peers e = by (id == k) e (λ g. peers-let-go side log k peers g)

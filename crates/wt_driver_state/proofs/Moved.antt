@@ -17,8 +17,8 @@ use Rattle.wt_proto.specs.declared.session_walk.SessionWalk.TheVariants as walks
 use Rattle.wt_spec.specs.Scan.{check_datagram, dequeued_datagram, session_ends, unless_ended}
 use Rattle.wt_inbox.specs.State.{InboxState}
 use Rattle.wt_seam.specs.State.{TransportState}
-use Rattle.wt_spec.specs.Driver.{is_ready, transport_view}
-use Rattle.wt_spec.specs.StreamTable.{Dispatched, Ending, Progress, TransportView}
+use Rattle.wt_spec.specs.Driver.{settings_ready, transport_view}
+use Rattle.wt_spec.specs.StreamTable.{Dispatched, Ending, DriverProgress, TransportView}
 use Rattle.wt_turn.specs.Log.{Log, is_open}
 use Rattle.wt_turn.specs.declared.action.Action.{Action}
 use Rattle.wt_wire.specs.declared.side.Side.{Side}
@@ -35,8 +35,8 @@ module _ (side : Side) (log : Log) (untaken : List Action) where
   pub same-open : (x y : InboxState) (stage later : ℕ → Stage) → Refines side x log stage untaken → Refines side y log later untaken → y.transport.is_open ≡ x.transport.is_open
   same-open x y stage later r q = open-is y later q ∙ sym (open-is x stage r)
 
-  module _ (d : DriverValue) (x : InboxState) (stage : ℕ → Stage) (new : List Slot) (disp : Dispatched) (prog : Progress) (r : Refines side d.inbox log stage untaken) (o : d.state.is_open ≡ d.inbox.transport.is_open) where
-    pub unis-moved : Scans side log untaken (is_ready side log) Uni (rule_of Uni (transport_view side log)) stage d.state.unis new (known_by d.state.dispatched d.state.progress) (known_by disp prog) x
+  module _ (d : DriverValue) (x : InboxState) (stage : ℕ → Stage) (new : List Slot) (disp : Dispatched) (prog : DriverProgress) (r : Refines side d.inbox log stage untaken) (o : d.state.is_open ≡ d.inbox.transport.is_open) where
+    pub unis-moved : Scans side log untaken (settings_ready side log) Uni (rule_of Uni (transport_view side log)) stage d.state.unis new (known_by d.state.dispatched d.state.progress) (known_by disp prog) x
         → Moves side log untaken d (record d { inbox = x; state = record d.state { unis = new; dispatched = disp; progress = prog; is_open = x.transport.is_open } }) (uni_stages (transport_view side log) d.state stage)
         (scan_uni_slots (transport_view side log) d.state) d.settings
     unis-moved s = record {
@@ -48,7 +48,7 @@ module _ (side : Side) (log : Log) (untaken : List Action) where
       settings_are = refl;
     }
 
-    pub bis-moved : Scans side log untaken (is_ready side log) Bi (rule_of Bi (transport_view side log)) stage d.state.bis new (known_by d.state.dispatched d.state.progress) (known_by disp prog) x
+    pub bis-moved : Scans side log untaken (settings_ready side log) Bi (rule_of Bi (transport_view side log)) stage d.state.bis new (known_by d.state.dispatched d.state.progress) (known_by disp prog) x
         → Moves side log untaken d (record d { inbox = x; state = record d.state { bis = new; dispatched = disp; progress = prog; is_open = x.transport.is_open } }) (bi_stages (transport_view side log) d.state stage)
         (scan_bi_slots (transport_view side log) d.state) d.settings
     bis-moved s = record {
@@ -61,7 +61,7 @@ module _ (side : Side) (log : Log) (untaken : List Action) where
     }
 
   -- a step on the progress alone, with a reader's stage
-  pub progress-moved : (d : DriverValue) (x : InboxState) (stage later : ℕ → Stage) (p : Progress) → Refines side d.inbox log stage untaken → Refines side x log later untaken → d.state.is_open ≡ d.inbox.transport.is_open
+  pub progress-moved : (d : DriverValue) (x : InboxState) (stage later : ℕ → Stage) (p : DriverProgress) → Refines side d.inbox log stage untaken → Refines side x log later untaken → d.state.is_open ≡ d.inbox.transport.is_open
       → Moves side log untaken d (record d { inbox = x; state = record d.state { progress = p; is_open = x.transport.is_open } }) later (record d.state { progress = p }) d.settings
   progress-moved d x stage later p r q o = record {
     inbox = q;
@@ -71,7 +71,7 @@ module _ (side : Side) (log : Log) (untaken : List Action) where
   }
 
   -- the same, where the progress was noted later
-  pub noted : (d new : DriverValue) (x : InboxState) (stage later : ℕ → Stage) (p q : Progress) (k : Option Settings) → Refines side d.inbox log stage untaken → Refines side x log later untaken → d.state.is_open ≡ d.inbox.transport.is_open
+  pub noted : (d new : DriverValue) (x : InboxState) (stage later : ℕ → Stage) (p q : DriverProgress) (k : Option Settings) → Refines side d.inbox log stage untaken → Refines side x log later untaken → d.state.is_open ≡ d.inbox.transport.is_open
       → new.inbox ≡ x → new.state ≡ record d.state { progress = p; is_open = x.transport.is_open } → new.queue ≡ d.queue → new.settings ≡ k → p ≡ q → Moves side log untaken d new later (record d.state { progress = q }) k
   noted d new x stage later p q k r f o e g h kept same = record {
     inbox = subst (λ (y : InboxState). Refines side y log later untaken) (sym e) f;
@@ -112,23 +112,23 @@ module _ (side : Side) (log : Log) (untaken : List Action) where
 
 module _ (side : Side) (log : Log) (untaken : List Action) where
   -- a check is made where no ending came before
-  pub open-moves : (e : Option Ending) (d new : DriverValue) (stage to : ℕ → Stage) (f : Progress → Progress) (k : Option Settings) → e ≡ None → Moves side log untaken d new to (record d.state { progress = f d.state.progress }) k
+  pub open-moves : (e : Option Ending) (d new : DriverValue) (stage to : ℕ → Stage) (f : DriverProgress → DriverProgress) (k : Option Settings) → e ≡ None → Moves side log untaken d new to (record d.state { progress = f d.state.progress }) k
       → Moves side log untaken d new (unless_ended_stage e to stage) (record d.state { progress = unless_ended e f d.state.progress }) k
   open-moves None d new stage to f k g m = m
   open-moves (Some x) d new stage to f k g m = absurd cc
 
-  pub ended-moves : (e : Option Ending) (d : DriverValue) (stage to : ℕ → Stage) (f : Progress → Progress) → (e ≡ None → ⊥) → Refines side d.inbox log stage untaken
+  pub ended-moves : (e : Option Ending) (d : DriverValue) (stage to : ℕ → Stage) (f : DriverProgress → DriverProgress) → (e ≡ None → ⊥) → Refines side d.inbox log stage untaken
       → Moves side log untaken d d (unless_ended_stage e to stage) (record d.state { progress = unless_ended e f d.state.progress }) d.settings
   ended-moves None d stage to f g r = absurd (g refl)
   ended-moves (Some x) d stage to f g r = record { inbox = r; state_is = refl; queue = refl; settings_are = refl }
 
 -- nothing is checked
-pub unless-same : (e : Option Ending) (p : Progress) → unless_ended e (λ q. q) p ≡ p
+pub unless-same : (e : Option Ending) (p : DriverProgress) → unless_ended e (λ q. q) p ≡ p
 unless-same None p = refl
 unless-same (Some x) p = refl
 
 -- a walk that isn't over says nothing
-pub not-over : (w : SessionWalk) (by : Bool) (p : Progress) → is_over w ≡ false → session_ends w by p ≡ p
+pub not-over : (w : SessionWalk) (by : Bool) (p : DriverProgress) → is_over w ≡ false → session_ends w by p ≡ p
 not-over walks.Running by p e = refl
 not-over (walks.Closed code reason) by p e = absurd cc
 not-over (walks.Fault code) by p e = absurd cc
@@ -144,13 +144,13 @@ unless-over None f s g = absurd (g refl)
 unless-over (Some x) f s g = refl
 
 -- a datagram that is due is dequeued
-pub datagram-due : (t : TransportView) (settled : ℕ) (p : Progress) (front : Option (List ℕ)) → p.ending ≡ None → (t.ready && settled == p.datagrams) ≡ true → t.datagram settled ≡ front
+pub datagram-due : (t : TransportView) (settled : ℕ) (p : DriverProgress) (front : Option (List ℕ)) → p.ending ≡ None → (t.ready && settled == p.datagrams) ≡ true → t.datagram settled ≡ front
     → datagram_checked t settled p ≡ dequeued_datagram front p
 datagram-due t settled p front e m f =
     unless-open p.ending (λ q. check_datagram (t.ready && settled == q.datagrams) t q) p e
     ∙ ap (λ (b : Bool). check_datagram b t p) m
     ∙ ap (λ (o : Option (List ℕ)). dequeued_datagram o p) (ap t.datagram (sym (eqb-true settled p.datagrams (and_parts_right t.ready (settled == p.datagrams) m))) ∙ f)
 
-pub datagram-not-due : (t : TransportView) (settled : ℕ) (p : Progress) → p.ending ≡ None → (t.ready && settled == p.datagrams) ≡ false → datagram_checked t settled p ≡ p
+pub datagram-not-due : (t : TransportView) (settled : ℕ) (p : DriverProgress) → p.ending ≡ None → (t.ready && settled == p.datagrams) ≡ false → datagram_checked t settled p ≡ p
 datagram-not-due t settled p e m =
     unless-open p.ending (λ q. check_datagram (t.ready && settled == q.datagrams) t q) p e ∙ ap (λ (b : Bool). check_datagram b t p) m

@@ -10,7 +10,7 @@ use Rattle.wt_driver_state.specs.Stages.{is_there}
 use Rattle.wt_driver_spec.proofs.Following.{before_scan, sound, taken-in}
 use Rattle.wt_driver_spec.proofs.StreamIds.{bi-low, uni-low}
 use Rattle.wt_driver_spec.specs.DriverState.{DriverState, Held, Slot, slot_by, slots, state_of}
-use Rattle.wt_driver_spec.specs.Moment.{Fits, MayFollow, is_local, names_session}
+use Rattle.wt_driver_spec.specs.Moment.{Fits, MayFollow, has_local_kind, names_session}
 use Rattle.wt_driver_spec.specs.Step.{after_entry}
 use Rattle.wt_driver_spec.specs.Uses.{classified_of, is_for_application, is_request_stream, is_sessions, role_by, role_of}
 use Rattle.wt_proto.specs.declared.verdict.Verdict.{Verdict}
@@ -109,7 +109,7 @@ pub there-is : (side : Side) (log : Log) (k : ℕ) → Fits side log → is_for_
 there-is side log k fits e = by (classified_of k (stream_table side log).classified) refl e
   where
     by : (o : Option Classified) → classified_of k (stream_table side log).classified ≡ o → is_for_application (role_of side k) o ≡ true → can_receive side log k ≡ is_there side log k
-    by (Some c) f g = there-classified (is_local side k) (can_receive side log k) (sessions-receive side log k fits (ap is_sessions f ∙ g))
+    by (Some c) f g = there-classified (has_local_kind side k) (can_receive side log k) (sessions-receive side log k fits (ap is_sessions f ∙ g))
     by None f g =
-        there-own (is_local side k) (can_receive side log k)
+        there-own (has_local_kind side k) (can_receive side log k)
         (or_right (k % 4 == local_uni side) (k % 4 == local_bi side) (local-bi (k % 4 == peer_uni side) (k % 4 == peer_bi side) (is_request_stream side k) (k % 4 == local_bi side) g))

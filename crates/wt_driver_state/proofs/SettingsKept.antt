@@ -8,7 +8,7 @@ use Rattle.wt_driver_state.specs.PeerSettings.{KeepsSettings, peer_control, peer
 use Rattle.wt_driver_state.specs.Results.{due_settings}
 use Rattle.wt_driver_state.specs.Stages.{datagram_checked, session_checked}
 use Rattle.wt_driver_spec.specs.DriverState.{Arrived, Dequeued, DriverState, Held, Slot, SlotPlace, state_of}
-use Rattle.wt_driver_spec.specs.Step.{Known, Visited, after_entry, begin_scan, classify_slot, dequeue_slot, dispatch_by, known_of, run_checks, scan_bi_slots, scan_on, scan_slots, scan_state, scan_uni_slots, unless_ended_slots, visit_slot}
+use Rattle.wt_driver_spec.specs.Step.{Known, after_entry, begin_scan, classify_slot, dequeue_slot, dispatch_by, known_of, run_checks, scan_bi_slots, scan_on, scan_slots, scan_state, scan_uni_slots, unless_ended_slots, visit_slot}
 use Rattle.wt_message.specs.Datagram.{datagram_of}
 use Rattle.wt_message.specs.declared.settings.Settings.{Settings}
 use Rattle.wt_proto.proofs.ControlLaws.{settings_stay}
@@ -23,8 +23,8 @@ use Rattle.wt_seam_spec.specs.Reports.{end_of, is_running}
 use Rattle.wt_seam_spec.specs.Streams.{contents, with_byte}
 use Rattle.wt_spec.specs.Driver.{apply_if, call_view, is_moment, settings_came, stream_table, transport_view}
 use Rattle.wt_spec.specs.Scan.{SlotRule, bi_rule, check_control, check_datagram, check_qpack, check_session, critical_if, dequeued_datagram, parsed_datagram, scan_order, session_ends, uni_rule, unless_ended, with_fault}
-use Rattle.wt_spec.specs.StreamTable.{Classified, Dispatched, Ending, Progress, StreamTable, TransportView, control_start, first_at, or_later}
-use Rattle.wt_turn.specs.Log.{Called, DatagramPassed, DatagramReceived, Entry, Log, PeerBi, PeerUni, Received, Reported, RequestDelivered, Sent, SessionEstablished, StreamAccepted, StreamPassed, events_of, is_open, with_actions}
+use Rattle.wt_spec.specs.StreamTable.{Classified, Dispatched, Ending, DriverProgress, StreamTable, TransportView, control_start, first_at, or_later}
+use Rattle.wt_turn.specs.Log.{Called, Entry, Log, PeerUni, Received, Reported, Sent, StreamAccepted, events_of, is_open, with_actions}
 use Rattle.wt_turn.specs.declared.action.Action.{Action}
 use Rattle.wt_wire.specs.declared.error.ErrorCode.{ErrorCode}
 use Rattle.wt_wire.specs.declared.side.Side.{Side}
@@ -105,10 +105,6 @@ goes-then c d e a b = record { came = b.came ∙ a.came; control = λ x i. b.con
 
 control-stays : (v : Verdict) (r : Classified) (d : Dispatched) (x : ℕ × ℕ) → d.control ≡ Some x → (dispatch_by v r d).control ≡ Some x
 control-stays (verdicts.Control at) r d x e = ap (λ (o : Option (ℕ × ℕ)). or_later o (Some (r.id, at))) e
-control-stays (verdicts.Encoder at) r d x e = e
-control-stays (verdicts.Decoder at) r d x e = e
-control-stays (verdicts.Request headers at) r d x e = e
-control-stays (verdicts.WebTransport session at) r d x e = e
 control-stays _ r d x e = e
 
 module _ (ready : Bool) (rule : SlotRule) where
@@ -150,65 +146,65 @@ or-true : (b : Bool) → (b || true) ≡ true
 or-true true = refl
 or-true false = refl
 
-unless-came : (e : Option Ending) (f : Progress → Progress) (p : Progress) → (f p).settings ≡ p.settings → (unless_ended e f p).settings ≡ p.settings
+unless-came : (e : Option Ending) (f : DriverProgress → DriverProgress) (p : DriverProgress) → (f p).settings ≡ p.settings → (unless_ended e f p).settings ≡ p.settings
 unless-came None f p g = g
 unless-came (Some x) f p g = refl
 
-parsed-came : (r : Result (ℕ × List ℕ) ErrorCode) (p : Progress) → (parsed_datagram r p).settings ≡ p.settings
+parsed-came : (r : Result (ℕ × List ℕ) ErrorCode) (p : DriverProgress) → (parsed_datagram r p).settings ≡ p.settings
 parsed-came (Ok datagram) p = refl
 parsed-came (Err code) p = refl
 
-dequeued-came : (o : Option (List ℕ)) (p : Progress) → (dequeued_datagram o p).settings ≡ p.settings
+dequeued-came : (o : Option (List ℕ)) (p : DriverProgress) → (dequeued_datagram o p).settings ≡ p.settings
 dequeued-came None p = refl
 dequeued-came (Some piece) p = parsed-came (datagram_of piece) (record p { datagrams = suc p.datagrams })
 
-datagram-came : (b : Bool) (t : TransportView) (p : Progress) → (check_datagram b t p).settings ≡ p.settings
+datagram-came : (b : Bool) (t : TransportView) (p : DriverProgress) → (check_datagram b t p).settings ≡ p.settings
 datagram-came false t p = refl
 datagram-came true t p = dequeued-came (t.datagram p.datagrams) p
 
-critical-came : (b : Bool) (p : Progress) → (critical_if b p).settings ≡ p.settings
+critical-came : (b : Bool) (p : DriverProgress) → (critical_if b p).settings ≡ p.settings
 critical-came false p = refl
 critical-came true p = refl
 
-qpack-came : (t : TransportView) (o : Option (ℕ × ℕ)) (p : Progress) → (check_qpack t o p).settings ≡ p.settings
+qpack-came : (t : TransportView) (o : Option (ℕ × ℕ)) (p : DriverProgress) → (check_qpack t o p).settings ≡ p.settings
 qpack-came t None p = refl
 qpack-came t (Some c) p = critical-came (not (is_running (t.end c.0))) p
 
-ends-came : (w : SessionWalk) (by_capsule : Bool) (p : Progress) → (session_ends w by_capsule p).settings ≡ p.settings
+ends-came : (w : SessionWalk) (by_capsule : Bool) (p : DriverProgress) → (session_ends w by_capsule p).settings ≡ p.settings
 ends-came walks.Running by_capsule p = refl
 ends-came (walks.Closed code reason) by_capsule p = refl
 ends-came (walks.Fault code) by_capsule p = refl
 
-session-came : (t : TransportView) (o : Option (ℕ × ℕ)) (p : Progress) → (check_session t o p).settings ≡ p.settings
+session-came : (t : TransportView) (o : Option (ℕ × ℕ)) (p : DriverProgress) → (check_session t o p).settings ≡ p.settings
 session-came t None p = refl
 session-came t (Some s) p = ends-came (session_walk_of (drop s.1 (t.contents s.0)) (t.end s.0)) (is_over (session_walk_of (drop s.1 (t.contents s.0)) ends.Running)) p
 
-fault-came : (o : Option ErrorCode) (p : Progress) → (with_fault o p).settings ≡ p.settings
+fault-came : (o : Option ErrorCode) (p : DriverProgress) → (with_fault o p).settings ≡ p.settings
 fault-came None p = refl
 fault-came (Some code) p = refl
 
-control-came : (t : TransportView) (o : Option (ℕ × ℕ)) (p : Progress) → (check_control t o p).settings ≡ (p.settings || is_some (settings_read t o))
+control-came : (t : TransportView) (o : Option (ℕ × ℕ)) (p : DriverProgress) → (check_control t o p).settings ≡ (p.settings || is_some (settings_read t o))
 control-came t None p = sym (or-false p.settings)
 control-came t (Some c) p =
     fault-came (control_walk_of (drop c.1 (t.contents c.0)) (t.end c.0)).fault (record p { settings = p.settings || is_some (control_walk_of (drop c.1 (t.contents c.0)) (t.end c.0)).settings })
 
 three-came : (t : TransportView) (s : DriverState) → (session_checked t s.session (datagram_checked t s.datagrams s.progress)).settings ≡ s.progress.settings
 three-came t s =
-    let p : Progress = datagram_checked t s.datagrams s.progress in
-    let q : Progress = unless_ended p.ending (check_session t s.session) p in
+    let p : DriverProgress = datagram_checked t s.datagrams s.progress in
+    let q : DriverProgress = unless_ended p.ending (check_session t s.session) p in
     unless-came q.ending (critical_if t.control_stopped) q (critical-came t.control_stopped q)
     ∙ unless-came p.ending (check_session t s.session) p (session-came t s.session p)
     ∙ unless-came s.progress.ending (λ c. check_datagram (t.ready && s.datagrams == c.datagrams) t c) s.progress (datagram-came (t.ready && s.datagrams == s.progress.datagrams) t s.progress)
 
-last-came : (t : TransportView) (s : DriverState) (p : Progress) → p ≡ session_checked t s.session (datagram_checked t s.datagrams s.progress)
+last-came : (t : TransportView) (s : DriverState) (p : DriverProgress) → p ≡ session_checked t s.session (datagram_checked t s.datagrams s.progress)
     → (run_checks t s).progress.settings ≡ (unless_ended p.ending (check_control t s.dispatched.control) p).settings
 last-came t s p is =
-    let r : Progress = session_checked t s.session (datagram_checked t s.datagrams s.progress) in
-    let c : Progress = unless_ended r.ending (check_control t s.dispatched.control) r in
-    let d : Progress = unless_ended c.ending (check_qpack t s.dispatched.encoder) c in
+    let r : DriverProgress = session_checked t s.session (datagram_checked t s.datagrams s.progress) in
+    let c : DriverProgress = unless_ended r.ending (check_control t s.dispatched.control) r in
+    let d : DriverProgress = unless_ended c.ending (check_qpack t s.dispatched.encoder) c in
     unless-came d.ending (check_qpack t s.dispatched.decoder) d (qpack-came t s.dispatched.decoder d)
     ∙ unless-came c.ending (check_qpack t s.dispatched.encoder) c (qpack-came t s.dispatched.encoder c)
-    ∙ ap (λ (x : Progress). (unless_ended x.ending (check_control t s.dispatched.control) x).settings) (sym is)
+    ∙ ap (λ (x : DriverProgress). (unless_ended x.ending (check_control t s.dispatched.control) x).settings) (sym is)
 
 -- ---- in the middle of a moment
 
@@ -225,9 +221,9 @@ agrees-on t s u kept came control k = record { came = k.came ∙ sym came; read 
     by x None e r = absurd cc
     by x (Some c) e r = ap (λ (o : Option (ℕ × ℕ)). settings_read t o) (control c e) ∙ r
 
-module _ (t : TransportView) (s : DriverState) (kept : Option Settings) (k : Agrees t s kept) (p : Progress) (is : p ≡ session_checked t s.session (datagram_checked t s.datagrams s.progress)) where
+module _ (t : TransportView) (s : DriverState) (kept : Option Settings) (k : Agrees t s kept) (p : DriverProgress) (is : p ≡ session_checked t s.session (datagram_checked t s.datagrams s.progress)) where
   before-came : is_some kept ≡ p.settings
-  before-came = k.came ∙ sym (three-came t s) ∙ ap (λ (x : Progress). x.settings) (sym is)
+  before-came = k.came ∙ sym (three-came t s) ∙ ap (λ (x : DriverProgress). x.settings) (sym is)
 
   noted-came : (e : Option Ending) (o : Option Settings) → settings_read t s.dispatched.control ≡ o → is_some (unless_ended e (λ x. option_or o x) kept) ≡ (unless_ended e (check_control t s.dispatched.control) p).settings
   noted-came (Some x) o f = before-came
@@ -241,7 +237,7 @@ module _ (t : TransportView) (s : DriverState) (kept : Option Settings) (k : Agr
 
 checked-agrees : (t : TransportView) (s : DriverState) (kept : Option Settings) → Agrees t s kept → Agrees t (run_checks t s) (settings_checked t s kept)
 checked-agrees t s kept k =
-    let p : Progress = session_checked t s.session (datagram_checked t s.datagrams s.progress) in
+    let p : DriverProgress = session_checked t s.session (datagram_checked t s.datagrams s.progress) in
     record {
       came = noted-came t s kept k p refl p.ending (settings_read t s.dispatched.control) refl ∙ sym (last-came t s p refl);
       read = λ x g. noted-read t s kept k p refl p.ending (settings_read t s.dispatched.control) refl x g;
@@ -261,16 +257,9 @@ scanned-agrees t s kept k =
 -- an entry changes neither whether SETTINGS came nor which stream is the control stream
 entry-keeps : (t : TransportView) (m : Entry) (s : DriverState) → ((after_entry t m s).progress.settings ≡ s.progress.settings) × ((after_entry t m s).dispatched.control ≡ s.dispatched.control)
 entry-keeps t (Reported PeerUni) s = (refl, refl)
-entry-keeps t (Reported PeerBi) s = (refl, refl)
 entry-keeps t (Reported _) s = (refl, refl)
 entry-keeps t (Called (StreamAccepted id)) s = (refl, refl)
-entry-keeps t (Called (StreamPassed id)) s = (refl, refl)
-entry-keeps t (Called DatagramReceived) s = (refl, refl)
-entry-keeps t (Called DatagramPassed) s = (refl, refl)
-entry-keeps t (Called (RequestDelivered id)) s = (refl, refl)
-entry-keeps t (Called (SessionEstablished id at)) s = (refl, refl)
 entry-keeps t (Called _) s = (refl, refl)
-entry-keeps t (Sent a) s = (refl, refl)
 entry-keeps t _ s = (refl, refl)
 
 came-says : (side : Side) (log : Log) → (state_of side log).progress.settings ≡ settings_came side log

@@ -8,7 +8,7 @@ use Rattle.wt_driver_state.proofs.StageScans.{AreOf, none-found, verdict-found}
 use Rattle.std.proofs.lemmas.Bool.Decides.{nat_tests}
 use Rattle.wt_driver_state.proofs.StageTables.{entry-found, is-own, use-session}
 use Rattle.wt_scan.specs.Scanning.{AllAwait}
-use Rattle.wt_driver_state.specs.Stages.{BodySays, ClassifiedSays, FirstSays, ResponseSays, StageFits, StageSays, StagesFit, TableFits, is_let_go, is_there, peer_role, stream_use}
+use Rattle.wt_driver_state.specs.Stages.{BodySays, ClassifiedSays, FirstSays, ResponseSays, StageFits, StageSays, StagesFit, TableFits, is_let_go, is_there, peer_role, call_use}
 use Rattle.wt_driver_spec.specs.Asking.{AwaitsResponse}
 use Rattle.wt_driver_spec.specs.Uses.{CallUse, ForRequest, OfLocalBi, OfLocalUni, StreamRole, Uses, classified_of, is_sessions, may_give, passes, response_at, role_by, role_of, use_of}
 use Rattle.wt_dispatch.specs.declared.slot.Half.{Half}
@@ -179,16 +179,16 @@ read-staged side log stage k fits uses f half =
     ending : Option Ending
     ending = (stream_table side log).progress.ending
 
-    says : (o : Option Classified) → classified_of k cs ≡ o → StageSays (role_of side k) (stream_use side log k) ending o (stage k)
-    says o e = subst (λ (o : Option Classified). StageSays (role_of side k) (stream_use side log k) ending o (stage k)) e (f k)
+    says : (o : Option Classified) → classified_of k cs ≡ o → StageSays (role_of side k) (call_use side log k) ending o (stage k)
+    says o e = subst (λ (o : Option Classified). StageSays (role_of side k) (call_use side log k) ending o (stage k)) e (f k)
 
-    read-up-to : (at : ℕ) → is_let_go side log k ≡ false → BodySays (stream_use side log k) at (stage k) → body_offset (stage k) ≡ Some (at + total_read k (calls_of log))
+    read-up-to : (at : ℕ) → is_let_go side log k ≡ false → BodySays (call_use side log k) at (stage k) → body_offset (stage k) ≡ Some (at + total_read k (calls_of log))
     read-up-to at kept g = up-to-says (is_let_go side log k) (at + (use_of k (calls_of log)).read) (stage k) kept g ∙ ap (λ n. Some (at + n)) (use-read k (calls_of log))
 
-    local : (role : StreamRole) → role ≡ OfLocalBi → FirstSays role (stream_use side log k) ending (stage k) → is_let_go side log k ≡ false → body_offset (stage k) ≡ Some (0 + total_read k (calls_of log))
-    local role e g kept = read-up-to 0 kept (subst (λ (r : StreamRole). FirstSays r (stream_use side log k) ending (stage k)) e g)
+    local : (role : StreamRole) → role ≡ OfLocalBi → FirstSays role (call_use side log k) ending (stage k) → is_let_go side log k ≡ false → body_offset (stage k) ≡ Some (0 + total_read k (calls_of log))
+    local role e g kept = read-up-to 0 kept (subst (λ (r : StreamRole). FirstSays r (call_use side log k) ending (stage k)) e g)
 
-    named : (surplus : Bool) (v : Verdict) → is_webtransport v ≡ true → ClassifiedSays surplus v (stream_use side log k) ending (stage k) → is_let_go side log k ≡ false
+    named : (surplus : Bool) (v : Verdict) → is_webtransport v ≡ true → ClassifiedSays surplus v (call_use side log k) ending (stage k) → is_let_go side log k ≡ false
         → body_offset (stage k) ≡ Some (halves.body_start (Some v) + total_read k (calls_of log))
     named surplus (verdicts.WebTransport session at) e g kept = read-up-to at kept g
     named surplus _ e g kept = absurd cc
@@ -241,10 +241,10 @@ module _ (side : Side) (log : Log) (stage : ℕ → Stage) (id : ℕ) (fits : Fi
   -- a response that is awaited can be read
   pub response-staged : awaits_response (stage id) ≡ true
   response-staged =
-      says-awaits (role_of side id) (stream_use side log id) (stream_table side log).progress.ending (classified_of id (stream_table side log).classified) (stage id) a.role none (use-session id (calls_of log) ∙ a.unestablished) a.goes_on (f id)
+      says-awaits (role_of side id) (call_use side log id) (stream_table side log).progress.ending (classified_of id (stream_table side log).classified) (stage id) a.role none (use-session id (calls_of log) ∙ a.unestablished) a.goes_on (f id)
 
   -- the stages fit once it is being read
   pub response-fits : StagesFit side log (with_stage stage id ResponseHead)
   response-fits =
-      with-fits (StageFits side (stream_use side log) (stream_table side log)) stage id ResponseHead (λ k e. f k)
-      (awaits-says (role_of side id) (stream_use side log id) (stream_table side log).progress.ending (classified_of id (stream_table side log).classified) ResponseHead a.role none (use-session id (calls_of log) ∙ a.unestablished) a.goes_on refl)
+      with-fits (StageFits side (call_use side log) (stream_table side log)) stage id ResponseHead (λ k e. f k)
+      (awaits-says (role_of side id) (call_use side log id) (stream_table side log).progress.ending (classified_of id (stream_table side log).classified) ResponseHead a.role none (use-session id (calls_of log) ∙ a.unestablished) a.goes_on refl)

@@ -7,7 +7,7 @@ use Rattle.wt_driver_state.proofs.StageEntries.{IsOwn}
 use Rattle.wt_driver_state.proofs.StageMoments.{after-bis, after-unis, bis-fit, bis-of, entry-fits, unis-fit, unis-of}
 use Rattle.wt_driver_state.proofs.StageScans.{verdict-found, verdict_in}
 use Rattle.wt_scan.specs.Scanning.{AllAwait}
-use Rattle.wt_driver_state.specs.Stages.{ClassifiedSays, StageSays, StagesFit, TableFits, bi_stages, datagram_checked, entry_stages, session_stages, stream_use, uni_stages, unless_ended_stage}
+use Rattle.wt_driver_state.specs.Stages.{ClassifiedSays, StageSays, StagesFit, TableFits, bi_stages, datagram_checked, entry_stages, session_stages, call_use, uni_stages, unless_ended_stage}
 use Rattle.wt_driver_spec.specs.Uses.{CallUse, ForRequest, MayUseBy, StreamRole, Uses, classified_of, request_at, response_at, role_of, session_at}
 use Rattle.wt_dispatch.specs.declared.slot.Half.TheVariants.{Bi, Uni}
 use Rattle.wt_driver_state.proofs.StageTables.{is-own, session-is, use-session}
@@ -19,12 +19,12 @@ use Rattle.wt_driver_spec.proofs.StreamIds.{apart-ids}
 use Rattle.wt_driver_spec.specs.Bounds.{Bounded, HasDistinctSlots}
 use Rattle.wt_driver_spec.specs.Claims.{IsOnce}
 use Rattle.wt_driver_spec.specs.DriverState.{DriverState, slots, state_by, state_of}
-use Rattle.wt_driver_spec.specs.Moment.{Fits, MayFollow, is_local}
+use Rattle.wt_driver_spec.specs.Moment.{Fits, MayFollow, has_local_kind}
 use Rattle.wt_driver_spec.specs.Step.{after_entry, begin_scan, scan_bi_slots, scan_uni_slots}
 use Rattle.wt_inbox.specs.Stage.{Stage, control_offset, session_offset}
 use Rattle.wt_proto.specs.declared.verdict.Verdict.{Verdict}
 use Rattle.wt_proto.specs.declared.verdict.Verdict.TheVariants as verdicts
-use Rattle.wt_spec.specs.Driver.{ControlSent, apply_if, call_view, control_sent, established, is_moment, stream_table, transport_view}
+use Rattle.wt_spec.specs.Driver.{ControlSent, apply_if, call_view, control_sent, established_session, is_moment, stream_table, transport_view}
 use Rattle.wt_spec.specs.Scan.{bi_ids, check_datagram, scan_bis, scan_order, scan_unis, uni_ids, uni_rule, without_stops}
 use Rattle.wt_spec.specs.StreamTable.{CallView, Classified, Ending, StreamTable, TransportView}
 use Rattle.wt_turn.specs.Log.{Entry, Log, calls_of, is_open}
@@ -79,7 +79,7 @@ pub record ScanAsks (t : TransportView) (s : DriverState) (stage : ℕ → Stage
   pub bounded : Bounded s
   pub checks : ChecksAsk t (scan_bi_slots t (scan_uni_slots t s)) (bi_stages t (scan_uni_slots t s) (uni_stages t s stage))
 
-module _ (t : TransportView) (d : CallView) (sent : ControlSent) (open_ : Bool) (did : ℕ → CallUse) (s : StreamTable) (un : Untouched (is_local t.side) d s) (stage : ℕ → Stage) (f : TableFits t.side did s stage) where
+module _ (t : TransportView) (d : CallView) (sent : ControlSent) (open_ : Bool) (did : ℕ → CallUse) (s : StreamTable) (un : Untouched (has_local_kind t.side) d s) (stage : ℕ → Stage) (f : TableFits t.side did s stage) where
   -- the tables after each part of the scan
   abbrev begun : StreamTable
   begun = without_stops s
@@ -108,20 +108,20 @@ module _ (t : TransportView) (d : CallView) (sent : ControlSent) (open_ : Bool) 
       others : slots d unis (bi_ids t) ≡ slots d begun (bi_ids t)
       others = slots-same d begun unis (bi_ids t) (λ j e. scan-same t.ready d (uni_rule t) j (uni_ids t) (record { occupied = 0; table = begun }) ((apart-ids t).uni_misses j e))
 
-asked-where : (b : Bool) (side : Side) (log : Log) (m : Entry) (stage : ℕ → Stage) → b ≡ true → Untouched (is_local side) (call_view (m ∷ log)) (stream_table side log)
+asked-where : (b : Bool) (side : Side) (log : Log) (m : Entry) (stage : ℕ → Stage) → b ≡ true → Untouched (has_local_kind side) (call_view (m ∷ log)) (stream_table side log)
     → IsOwn side (apply_if b (scan_order (transport_view side (m ∷ log)) (call_view (m ∷ log))) (stream_table side log)).classified
     → IsOnce (apply_if b (scan_order (transport_view side (m ∷ log)) (call_view (m ∷ log))) (stream_table side log)).classified
-    → ((x : ℕ × ℕ) → established (calls_of (m ∷ log)) ≡ Some x
+    → ((x : ℕ × ℕ) → established_session (calls_of (m ∷ log)) ≡ Some x
     → session_at side (role_of side x.0) (classified_of x.0 (apply_if b (scan_order (transport_view side (m ∷ log)) (call_view (m ∷ log))) (stream_table side log)).classified) x.1 ≡ Some x.1)
-    → Bounded (begin_scan (before_scan side log m)) → TableFits side (stream_use side (m ∷ log)) (stream_table side log) stage
+    → Bounded (begin_scan (before_scan side log m)) → TableFits side (call_use side (m ∷ log)) (stream_table side log) stage
     → ScanAsks (transport_view side (m ∷ log)) (begin_scan (before_scan side log m)) stage
 asked-where false side log m stage e un own once placed bounded f = absurd cc
 asked-where true side log m stage e un own once placed bounded f =
-    table-asks (transport_view side (m ∷ log)) (call_view (m ∷ log)) (control_sent side (m ∷ log)) (is_open (m ∷ log)) (stream_use side (m ∷ log)) (stream_table side log) un stage f own once (λ k. use-session k (calls_of (m ∷ log))) placed bounded
+    table-asks (transport_view side (m ∷ log)) (call_view (m ∷ log)) (control_sent side (m ∷ log)) (is_open (m ∷ log)) (call_use side (m ∷ log)) (stream_table side log) un stage f own once (λ k. use-session k (calls_of (m ∷ log))) placed bounded
 
 -- The scan of each moment finds what it asks, where the stages fit behind the entry.
 pub scan-asked : (side : Side) (log : Log) (m : Entry) (stage : ℕ → Stage) → MayFollow side log m → MayUseBy side log m → Fits side log → Uses side log → (is_moment m && is_open (m ∷ log)) ≡ true
-    → TableFits side (stream_use side (m ∷ log)) (stream_table side log) stage → ScanAsks (transport_view side (m ∷ log)) (begin_scan (after_entry (transport_view side log) m (state_of side log))) stage
+    → TableFits side (call_use side (m ∷ log)) (stream_table side log) stage → ScanAsks (transport_view side (m ∷ log)) (begin_scan (after_entry (transport_view side log) m (state_of side log))) stage
 unfolding state_of stream_table
 scan-asked side log m stage may can fits uses moment f =
     let same = taken-in side log m may (sound side log fits) in

@@ -15,8 +15,8 @@ use Rattle.wt_proto.specs.declared.session_walk.SessionWalk.TheVariants as walks
 use Rattle.wt_proto.specs.declared.verdict.Verdict.{Verdict}
 use Rattle.wt_proto.specs.declared.verdict.Verdict.TheVariants as verdicts
 use Rattle.wt_spec.specs.Driver.{ControlSent}
-use Rattle.wt_spec.specs.Scan.{check_control, check_datagram, check_qpack, check_session, checked, critical_if, session_ends, unless_ended}
-use Rattle.wt_spec.specs.StreamTable.{CallView, Classified, Ending, Progress, StreamTable, TransportView, control_start, decoder_start, encoder_start, first_at, or_later, paired, verdict_of}
+use Rattle.wt_spec.specs.Scan.{check_control, check_datagram, check_qpack, check_session, table_after_checks, critical_if, session_ends, unless_ended}
+use Rattle.wt_spec.specs.StreamTable.{CallView, Classified, Ending, DriverProgress, StreamTable, TransportView, control_start, decoder_start, encoder_start, first_at, or_later, offset_with_id, verdict_of}
 use Rattle.wt_wire.specs.declared.side.StreamEnd.TheVariants as ends
 use Rattle.wt_wire.specs.declared.side.Side.{Side}
 use Rattle.wt_wire.specs.declared.side.Side.TheVariants.{Client, Server}
@@ -34,7 +34,7 @@ control-found k at (c ∷ cs) once e = by c.verdict refl e (control-found k at c
     here : (n : ℕ) → c.verdict ≡ verdicts.Control n → c.id ≡ k → n ≡ at → (if c.id == k then Some c.verdict else verdict_of k cs) ≡ Some (verdicts.Control at)
     here n v same place = rw (eq-eqb c.id k same, v, place) refl
 
-    by : (v : Verdict) → c.verdict ≡ v → or_later (paired c.id (control_start v)) (first_at control_start cs) ≡ Some (k, at) → (first_at control_start cs ≡ Some (k, at) → verdict_of k cs ≡ Some (verdicts.Control at))
+    by : (v : Verdict) → c.verdict ≡ v → or_later (offset_with_id c.id (control_start v)) (first_at control_start cs) ≡ Some (k, at) → (first_at control_start cs ≡ Some (k, at) → verdict_of k cs ≡ Some (verdicts.Control at))
         → (if c.id == k then Some c.verdict else verdict_of k cs) ≡ Some (verdicts.Control at)
     by (verdicts.Control n) f g again =
         let pair : (c.id, n) ≡ (k, at) = cc in
@@ -71,7 +71,7 @@ control-says role (Some c) done ending at e = let same : c.verdict ≡ verdicts.
 -- ---- each check
 
 -- what goes on after a check went on before it
-pub went-on : (f : Progress → Progress) (p : Progress) → (unless_ended p.ending f p).ending ≡ None → p.ending ≡ None
+pub went-on : (f : DriverProgress → DriverProgress) (p : DriverProgress) → (unless_ended p.ending f p).ending ≡ None → p.ending ≡ None
 went-on f p e = by p.ending refl e
   where
     by : (o : Option Ending) → p.ending ≡ o → (unless_ended o f p).ending ≡ None → p.ending ≡ None
@@ -79,7 +79,7 @@ went-on f p e = by p.ending refl e
     by (Some x) g h = h
 
 -- a walk that goes on changes nothing, and one that is over ends the connection
-over-ends : (w : SessionWalk) (b : Bool) (p : Progress) → is_over w ≡ true → (session_ends w b p).ending ≡ None → ⊥
+over-ends : (w : SessionWalk) (b : Bool) (p : DriverProgress) → is_over w ≡ true → (session_ends w b p).ending ≡ None → ⊥
 over-ends walks.Running b p e f = cc
 over-ends (walks.Closed code reason) b p e f = cc
 over-ends (walks.Fault code) b p e f = cc
@@ -94,7 +94,7 @@ module _ (side : Side) (did : ℕ → CallUse) (cs : List Classified) (t : Trans
 
   module _ (own : IsOwn side cs) (session : Option (ℕ × ℕ)) (kept : (k : ℕ) → (did k).session ≡ session)
       (placed : (s : ℕ × ℕ) → session ≡ Some s → session_at side (role_of side s.0) (classified_of s.0 cs) s.1 ≡ Some s.1) where
-    session-fits : (p : Progress) (stage : ℕ → Stage) → p.ending ≡ None → FitAt p.ending stage → FitAt (check_session t session p).ending (session_stages t session stage)
+    session-fits : (p : DriverProgress) (stage : ℕ → Stage) → p.ending ≡ None → FitAt p.ending stage → FitAt (check_session t session p).ending (session_stages t session stage)
     session-fits p stage runs f = by session refl
       where
         here : (s : ℕ × ℕ) → session ≡ Some s → (over : Bool) → is_session_over t s ≡ over → StageSays (role_of side s.0) (did s.0) (check_session t (Some s) p).ending (classified_of s.0 cs) (session_stage over s.1)
@@ -121,25 +121,25 @@ module _ (side : Side) (did : ℕ → CallUse) (cs : List Classified) (t : Trans
               (λ k ne. weaker ending later stage w f k)
               (control-says (role_of side c.0) (classified_of c.0 cs) (did c.0) later c.1 (sym (verdict-found c.0 cs) ∙ control-found c.0 c.1 cs once e))
 
-      module _ (d : CallView) (sent : ControlSent) (open_ : Bool) (here : d.session ≡ session) (p : Progress) (stage : ℕ → Stage) (f : FitAt p.ending stage) where
+      module _ (d : CallView) (sent : ControlSent) (open_ : Bool) (here : d.session ≡ session) (p : DriverProgress) (stage : ℕ → Stage) (f : FitAt p.ending stage) where
         -- what is known after the check of the datagrams
-        abbrev pub first : Progress
+        abbrev pub first : DriverProgress
         first = datagram_checked t d.datagrams p
 
         -- what is known after the check of the session
-        abbrev pub second : Progress
+        abbrev pub second : DriverProgress
         second = unless_ended first.ending (check_session t session) first
 
         -- what is known after the check of this end's control stream
-        abbrev third : Progress
+        abbrev third : DriverProgress
         third = unless_ended second.ending (critical_if t.control_stopped) second
 
         -- what is known after the check of the peer's
-        abbrev fourth : Progress
+        abbrev fourth : DriverProgress
         fourth = unless_ended third.ending (check_control t (first_at control_start cs)) third
 
         -- what is known after the check of the QPACK encoder's stream
-        abbrev fifth : Progress
+        abbrev fifth : DriverProgress
         fifth = unless_ended fourth.ending (check_qpack t (first_at encoder_start cs)) fourth
 
         -- the stages once the session was checked
@@ -168,5 +168,5 @@ module _ (side : Side) (did : ℕ → CallUse) (cs : List Classified) (t : Trans
 pub checks-fit : (side : Side) (did : ℕ → CallUse) (t : TransportView) (d : CallView) (sent : ControlSent) (open_ : Bool) (table : StreamTable) (stage : ℕ → Stage) → IsOwn side table.classified → IsOnce table.classified
     → ((k : ℕ) → (did k).session ≡ d.session)
     → ((s : ℕ × ℕ) → d.session ≡ Some s → session_at side (role_of side s.0) (classified_of s.0 table.classified) s.1 ≡ Some s.1)
-    → TableFits side did table stage → TableFits side did (checked t d table) (check_stages t (state_by t d sent open_ table) stage)
+    → TableFits side did table stage → TableFits side did (table_after_checks t d table) (check_stages t (state_by t d sent open_ table) stage)
 checks-fit side did t d sent open_ table stage own once kept placed f = last-fits side did table.classified t own d.session kept placed once d sent open_ refl table.progress stage f

@@ -4,7 +4,7 @@ use Rattle.std.specs.Prelude.{Option, Some, None, ◌==◌, ◌||◌, if◌then�
 use Rattle.std.proofs.lemmas.Bool.{eq-eqb, eqb-true}
 use Rattle.wt_driver_spec.proofs.ClassifiedOnce.{turned-round}
 use Rattle.wt_scan.specs.Scanning.{unless_given_up}
-use Rattle.wt_driver_state.specs.Stages.{BodySays, ClassifiedSays, ReadUpTo, ResponseSays, StageFits, StageSays, StagesFit, TableFits, called_stages, established_stages, is_there, read_stage, stream_use}
+use Rattle.wt_driver_state.specs.Stages.{BodySays, ClassifiedSays, ReadUpTo, ResponseSays, StageFits, StageSays, StagesFit, TableFits, called_stages, established_stages, is_there, read_stage, call_use}
 use Rattle.wt_driver_spec.specs.Uses.{CallUse, ForRequest, MayUse, OfLocalBi, StreamRole, classified_of, is_for_application, is_sessions, response_at, role_by, role_of, session_at}
 use Rattle.wt_inbox.specs.Stage.{Body, GivenUp, Stage, Untouched, body_offset, session_offset, with_stage}
 use Rattle.wt_proto.specs.declared.verdict.Verdict.{Verdict}
@@ -123,27 +123,27 @@ request-id false false false false at e = absurd cc
 
 module _ (log : Log) (table : StreamTable) (stage : ℕ → Stage) where
   -- a session is established: a client reads the request's stream behind the response
-  pub client-established : (id at : ℕ) → id ≡ 0 → ((k : ℕ) → (id == k) ≡ false → StageFits Client (stream_use Client log) table k (stage k)) → session_offset (stage id) ≡ Some at → classified_of id table.classified ≡ None
-      → TableFits Client (stream_use Client (Called (SessionEstablished id at) ∷ log)) table stage
+  pub client-established : (id at : ℕ) → id ≡ 0 → ((k : ℕ) → (id == k) ≡ false → StageFits Client (call_use Client log) table k (stage k)) → session_offset (stage id) ≡ Some at → classified_of id table.classified ≡ None
+      → TableFits Client (call_use Client (Called (SessionEstablished id at) ∷ log)) table stage
   client-established id at zero-id f read none k = by (id == k) refl
     where
-      unclassified : (o : Option Classified) → o ≡ None → session_offset (stage 0) ≡ Some at → StageSays ForRequest (stream_use Client (Called (SessionEstablished id at) ∷ log) 0) table.progress.ending o (stage 0)
+      unclassified : (o : Option Classified) → o ≡ None → session_offset (stage 0) ≡ Some at → StageSays ForRequest (call_use Client (Called (SessionEstablished id at) ∷ log) 0) table.progress.ending o (stage 0)
       unclassified None e g = λ _. g
       unclassified (Some c) e g = absurd cc
 
-      front : StageFits Client (stream_use Client (Called (SessionEstablished id at) ∷ log)) table 0 (stage 0)
+      front : StageFits Client (call_use Client (Called (SessionEstablished id at) ∷ log)) table 0 (stage 0)
       front =
           unclassified (classified_of 0 table.classified) (subst (λ (i : ℕ). classified_of i table.classified ≡ None) zero-id none)
           (subst (λ (i : ℕ). session_offset (stage i) ≡ Some at) zero-id read)
 
-      by : (e : Bool) → (id == k) ≡ e → StageFits Client (stream_use Client (Called (SessionEstablished id at) ∷ log)) table k (stage k)
-      by true e = subst (λ i. StageFits Client (stream_use Client (Called (SessionEstablished id at) ∷ log)) table i (stage i)) (sym zero-id ∙ eqb-true id k e) front
+      by : (e : Bool) → (id == k) ≡ e → StageFits Client (call_use Client (Called (SessionEstablished id at) ∷ log)) table k (stage k)
+      by true e = subst (λ i. StageFits Client (call_use Client (Called (SessionEstablished id at) ∷ log)) table i (stage i)) (sym zero-id ∙ eqb-true id k e) front
       by false e =
-          not-request (k % 4 == 3) (k % 4 == 1) (k == 0) (k % 4 == 0) (stream_use Client log k) (Some (id, at)) table.progress.ending (classified_of k table.classified) (stage k)
+          not-request (k % 4 == 3) (k % 4 == 1) (k == 0) (k % 4 == 0) (call_use Client log k) (Some (id, at)) table.progress.ending (classified_of k table.classified) (stage k)
           (turned-round 0 k (ap (λ i. i == k) (sym zero-id) ∙ e)) (f k e)
 
-  server-established : (id at : ℕ) → TableFits Server (stream_use Server log) table stage → TableFits Server (stream_use Server (Called (SessionEstablished id at) ∷ log)) table stage
-  server-established id at f k = other-role (k % 4 == 2) (k % 4 == 0) (k % 4 == 1) (stream_use Server log k) (Some (id, at)) table.progress.ending (classified_of k table.classified) (stage k) (f k)
+  server-established : (id at : ℕ) → TableFits Server (call_use Server log) table stage → TableFits Server (call_use Server (Called (SessionEstablished id at) ∷ log)) table stage
+  server-established id at f k = other-role (k % 4 == 2) (k % 4 == 0) (k % 4 == 1) (call_use Server log k) (Some (id, at)) table.progress.ending (classified_of k table.classified) (stage k) (f k)
 
 -- a client's session is on the stream for its request
 pub client-id : (id at : ℕ) (o : Option Classified) → session_at Client (role_of Client id) o at ≡ Some at → id ≡ 0
@@ -156,30 +156,30 @@ IsOwn Server cs = Unit {0}
 
 module _ (side : Side) (log : Log) (table : StreamTable) (stage : ℕ → Stage) where
   -- what the calls did to another stream stays
-  same-use : (k : ℕ) (r : CallRecord) → stream_use side (Called r ∷ log) k ≡ stream_use side log k → StageFits side (stream_use side log) table k (stage k) → StageFits side (stream_use side (Called r ∷ log)) table k (stage k)
-  same-use k r same f = says-so (role_of side k) (stream_use side log k) (stream_use side (Called r ∷ log) k) table.progress.ending (classified_of k table.classified) (stage k) (sym same) f
+  same-use : (k : ℕ) (r : CallRecord) → call_use side (Called r ∷ log) k ≡ call_use side log k → StageFits side (call_use side log) table k (stage k) → StageFits side (call_use side (Called r ∷ log)) table k (stage k)
+  same-use k r same f = says-so (role_of side k) (call_use side log k) (call_use side (Called r ∷ log) k) table.progress.ending (classified_of k table.classified) (stage k) (sym same) f
 
-  read-fits : (id count : ℕ) → is_for_application (role_of side id) (classified_of id table.classified) ≡ true → TableFits side (stream_use side log) table stage
-      → TableFits side (stream_use side (Called (BytesRead id count) ∷ log)) table (called_stages side log (BytesRead id count) stage)
-  read-fits id count may f = with-fits (StageFits side (stream_use side (Called (BytesRead id count) ∷ log)) table) stage id (read_stage count (stage id)) (λ k e. same-use k (BytesRead id count) (rw e refl) (f k))
-      (says-so (role_of side id) _ (stream_use side (Called (BytesRead id count) ∷ log) id) table.progress.ending (classified_of id table.classified) _ (sym same) (read-says (role_of side id) (stream_use side log id) count table.progress.ending (classified_of id table.classified) (stage id) may (f id)))
+  read-fits : (id count : ℕ) → is_for_application (role_of side id) (classified_of id table.classified) ≡ true → TableFits side (call_use side log) table stage
+      → TableFits side (call_use side (Called (BytesRead id count) ∷ log)) table (called_stages side log (BytesRead id count) stage)
+  read-fits id count may f = with-fits (StageFits side (call_use side (Called (BytesRead id count) ∷ log)) table) stage id (read_stage count (stage id)) (λ k e. same-use k (BytesRead id count) (rw e refl) (f k))
+      (says-so (role_of side id) _ (call_use side (Called (BytesRead id count) ∷ log) id) table.progress.ending (classified_of id table.classified) _ (sym same) (read-says (role_of side id) (call_use side log id) count table.progress.ending (classified_of id table.classified) (stage id) may (f id)))
     where
-      same : stream_use side (Called (BytesRead id count) ∷ log) id ≡ record (stream_use side log id) { read = count + (stream_use side log id).read }
+      same : call_use side (Called (BytesRead id count) ∷ log) id ≡ record (call_use side log id) { read = count + (call_use side log id).read }
       same = rw (eq-eqb id id refl) refl
 
   -- a call lets a stream go where it is there
   drop-fits : (id : ℕ) (r : CallRecord) (there : Bool) → is_for_application (role_of side id) (classified_of id table.classified) ≡ true
-      → ((k : ℕ) → (id == k) ≡ false → stream_use side (Called r ∷ log) k ≡ stream_use side log k)
-      → stream_use side (Called r ∷ log) id ≡ record (stream_use side log id) { is_dropped = there || (stream_use side log id).is_dropped }
-      → TableFits side (stream_use side log) table stage → TableFits side (stream_use side (Called r ∷ log)) table (with_stage stage id (unless_given_up there (stage id)))
-  drop-fits id r there may others so f = with-fits (StageFits side (stream_use side (Called r ∷ log)) table) stage id (unless_given_up there (stage id)) (λ k e. same-use k r (others k e) (f k))
-      (says-so (role_of side id) _ (stream_use side (Called r ∷ log) id) table.progress.ending (classified_of id table.classified) (unless_given_up there (stage id)) (sym so)
-      (dropped-says (role_of side id) (stream_use side log id) there table.progress.ending (classified_of id table.classified) (stage id) may (f id)))
+      → ((k : ℕ) → (id == k) ≡ false → call_use side (Called r ∷ log) k ≡ call_use side log k)
+      → call_use side (Called r ∷ log) id ≡ record (call_use side log id) { is_dropped = there || (call_use side log id).is_dropped }
+      → TableFits side (call_use side log) table stage → TableFits side (call_use side (Called r ∷ log)) table (with_stage stage id (unless_given_up there (stage id)))
+  drop-fits id r there may others so f = with-fits (StageFits side (call_use side (Called r ∷ log)) table) stage id (unless_given_up there (stage id)) (λ k e. same-use k r (others k e) (f k))
+      (says-so (role_of side id) _ (call_use side (Called r ∷ log) id) table.progress.ending (classified_of id table.classified) (unless_given_up there (stage id)) (sym so)
+      (dropped-says (role_of side id) (call_use side log id) there table.progress.ending (classified_of id table.classified) (stage id) may (f id)))
 
 -- a session is established
 established-fits : (side : Side) (log : Log) (table : StreamTable) (stage : ℕ → Stage) (id at : ℕ) → IsOwn side table.classified
-    → session_at side (role_of side id) (classified_of id table.classified) at ≡ Some at → TableFits side (stream_use side log) table stage
-    → TableFits side (stream_use side (Called (SessionEstablished id at) ∷ log)) table (established_stages side id at stage)
+    → session_at side (role_of side id) (classified_of id table.classified) at ≡ Some at → TableFits side (call_use side log) table stage
+    → TableFits side (call_use side (Called (SessionEstablished id at) ∷ log)) table (established_stages side id at stage)
 established-fits Client log table stage id at own may f =
     let zero-id = client-id id at (classified_of id table.classified) may in
     client-established log table (with_stage stage id (Body at)) id at zero-id (λ k e. rw e (f k)) (rw (eq-eqb id id refl) refl) (ap (λ i. classified_of i table.classified) zero-id ∙ own)
@@ -191,12 +191,12 @@ named-for role (Some c) e = e
 
 -- each call leaves each stream at a stage that fits
 pub called-fits : (side : Side) (log : Log) (stage : ℕ → Stage) (r : CallRecord) → IsOwn side (stream_table side log).classified → MayUse side log r → StagesFit side log stage
-    → TableFits side (stream_use side (Called r ∷ log)) (stream_table side log) (called_stages side log r stage)
+    → TableFits side (call_use side (Called r ∷ log)) (stream_table side log) (called_stages side log r stage)
 called-fits side log stage (BytesRead id count) own may f = read-fits side log (stream_table side log) stage id count may.0 f
 called-fits side log stage (StreamGivenUp id) own may f =
     drop-fits side log (stream_table side log) stage id (StreamGivenUp id) (is_there side log id) may (λ k e. rw e refl) (rw (eq-eqb id id refl) refl) f
 called-fits side log stage (StreamPassed id) own may f =
     drop-fits side log (stream_table side log) stage id (StreamPassed id) true (named-for (role_of side id) (classified_of id (stream_table side log).classified) may.0) (λ k e. rw e refl) (rw (eq-eqb id id refl) refl) f
 called-fits side log stage (SessionEstablished id at) own may f = established-fits side log (stream_table side log) stage id at own may.0 f
-called-fits side log stage HandshakeOver own may f = λ k. over-says (role_of side k) (stream_use side log k) (stream_table side log).progress.ending (classified_of k (stream_table side log).classified) (stage k) (f k)
+called-fits side log stage HandshakeOver own may f = λ k. over-says (role_of side k) (call_use side log k) (stream_table side log).progress.ending (classified_of k (stream_table side log).classified) (stage k) (f k)
 called-fits side log stage _ own may f = f

@@ -5,7 +5,7 @@ use Rattle.wt_driver_state.proofs.StageChecks.{checks-fit}
 use Rattle.wt_driver_state.proofs.StageEntries.{IsOwn, called-fits}
 use Rattle.wt_driver_state.proofs.StageScans.{AreOf, scan-fits}
 use Rattle.wt_driver_state.proofs.StageTables.{is-own, session-is, use-session}
-use Rattle.wt_driver_state.specs.Stages.{StageSays, StagesFit, TableFits, bi_stages, check_stages, entry_stages, moment_stages, scanned_stages, stream_use, uni_stages}
+use Rattle.wt_driver_state.specs.Stages.{StageSays, StagesFit, TableFits, bi_stages, check_stages, entry_stages, moment_stages, scanned_stages, call_use, uni_stages}
 use Rattle.wt_driver_spec.specs.Uses.{CallUse, ForRequest, MayUseBy, OfLocalBi, OfLocalUni, OfPeerBi, OfPeerUni, StreamRole, no_use, Uses, role_of, session_at, classified_of}
 use Rattle.wt_dispatch.specs.declared.slot.Half.TheVariants.{Bi, Uni}
 use Rattle.wt_driver_spec.proofs.Following.{Sound, before_scan, open-more, sound, taken-in, untouched-entry}
@@ -14,10 +14,10 @@ use Rattle.wt_driver_spec.proofs.StreamIds.{apart-ids, bi-low, uni-low}
 use Rattle.wt_driver_spec.specs.Claims.{IsOnce}
 use Rattle.wt_inbox.specs.Stage.{Stage, all_untouched}
 use Rattle.wt_driver_spec.specs.DriverState.{DriverState, Slot, slots, state_by, state_of}
-use Rattle.wt_driver_spec.specs.Moment.{Fits, MayFollow, is_local, scans}
+use Rattle.wt_driver_spec.specs.Moment.{Fits, MayFollow, has_local_kind, scans}
 use Rattle.wt_driver_spec.specs.Step.{after_entry, scan_bi_slots, scan_uni_slots, with_scanned_bis, with_scanned_unis}
 use Rattle.wt_seam_spec.specs.Streams.{peer_bi, peer_uni}
-use Rattle.wt_spec.specs.Driver.{ControlSent, apply_if, call_view, control_sent, established, flush, is_moment, log_and_flush, pending_actions, stream_table, transport_view}
+use Rattle.wt_spec.specs.Driver.{ControlSent, apply_if, call_view, control_sent, established_session, flush, is_moment, log_and_flush, pending_actions, stream_table, transport_view}
 use Rattle.wt_spec.specs.Scan.{bi_ids, bi_rule, scan_bis, scan_order, scan_unis, stream_ids, uni_ids, uni_rule, without_stops}
 use Rattle.wt_spec.specs.StreamTable.{CallView, StreamTable, TransportView}
 use Rattle.wt_turn.specs.Log.{Called, Entry, Event, Log, ReportedLate, Sent, calls_of, is_open, with_actions}
@@ -45,7 +45,7 @@ bis-of side n (suc count) = (bi-role side (4 * n + peer_bi side) (let low = bi-l
 
 -- ---- the scan of a moment
 
-module _ (t : TransportView) (d : CallView) (sent : ControlSent) (open_ : Bool) (did : ℕ → CallUse) (s : StreamTable) (un : Untouched (is_local t.side) d s) where
+module _ (t : TransportView) (d : CallView) (sent : ControlSent) (open_ : Bool) (did : ℕ → CallUse) (s : StreamTable) (un : Untouched (has_local_kind t.side) d s) where
   -- the tables after each part of the scan
   abbrev pub begun : StreamTable
   begun = without_stops s
@@ -62,32 +62,32 @@ module _ (t : TransportView) (d : CallView) (sent : ControlSent) (open_ : Bool) 
   abbrev pub kept : StreamTable → DriverState
   kept table = state_by t d sent open_ table
 
-  pub untouched-begun : Untouched (is_local t.side) d begun
+  pub untouched-begun : Untouched (has_local_kind t.side) d begun
   untouched-begun = record { released = un.released; delivered = un.delivered }
 
-  pub untouched-unis : Untouched (is_local t.side) d unis
-  untouched-unis = untouched-later (is_local t.side) d begun unis (scan-later t.ready d (uni_rule t) (uni_ids t) (record { occupied = 0; table = begun })) untouched-begun
+  pub untouched-unis : Untouched (has_local_kind t.side) d unis
+  untouched-unis = untouched-later (has_local_kind t.side) d begun unis (scan-later t.ready d (uni_rule t) (uni_ids t) (record { occupied = 0; table = begun })) untouched-begun
 
   pub after-unis : scan_uni_slots t (kept begun) ≡ kept unis
   after-unis =
-      let gone = scan-slots t.ready d (uni_rule t) (is_local t.side) (uni_ids t) (record { occupied = 0; table = begun }) (apart-ids t).unis (apart-ids t).uni_peers untouched-begun in
+      let gone = scan-slots t.ready d (uni_rule t) (has_local_kind t.side) (uni_ids t) (record { occupied = 0; table = begun }) (apart-ids t).unis (apart-ids t).uni_peers untouched-begun in
       let others : slots d unis (bi_ids t) ≡ slots d begun (bi_ids t) =
       slots-same d begun unis (bi_ids t) (λ j e. scan-same t.ready d (uni_rule t) j (uni_ids t) (record { occupied = 0; table = begun }) ((apart-ids t).uni_misses j e)) in
       ap (with_scanned_unis (kept begun)) gone ∙ ap (λ (ls : List Slot). record (kept unis) { bis = ls }) (sym others)
 
   pub after-bis : scan_bi_slots t (kept unis) ≡ kept bis
   after-bis =
-      let gone = scan-slots t.ready d (bi_rule t) (is_local t.side) (bi_ids t) (record { occupied = 0; table = unis }) (apart-ids t).bis (apart-ids t).bi_peers untouched-unis in
+      let gone = scan-slots t.ready d (bi_rule t) (has_local_kind t.side) (bi_ids t) (record { occupied = 0; table = unis }) (apart-ids t).bis (apart-ids t).bi_peers untouched-unis in
       let others : slots d bis (uni_ids t) ≡ slots d unis (uni_ids t) =
       slots-same d unis bis (uni_ids t) (λ j e. scan-same t.ready d (bi_rule t) j (bi_ids t) (record { occupied = 0; table = unis }) ((apart-ids t).bi_misses j e)) in
       ap (with_scanned_bis (kept unis)) gone ∙ ap (λ (ls : List Slot). record (kept bis) { unis = ls }) (sym others)
 
   module _ (stage : ℕ → Stage) (f : TableFits t.side did s stage) where
     pub unis-fit : TableFits t.side did unis (uni_stages t (kept begun) stage)
-    unis-fit = scan-fits t.side did t.ready Uni t d (is_local t.side) (uni_ids t) (record { occupied = 0; table = begun }) stage (apart-ids t).unis (apart-ids t).uni_peers (unis-of t.side 0 t.unis) untouched-begun f
+    unis-fit = scan-fits t.side did t.ready Uni t d (has_local_kind t.side) (uni_ids t) (record { occupied = 0; table = begun }) stage (apart-ids t).unis (apart-ids t).uni_peers (unis-of t.side 0 t.unis) untouched-begun f
 
     pub bis-fit : TableFits t.side did bis (bi_stages t (kept unis) (uni_stages t (kept begun) stage))
-    bis-fit = scan-fits t.side did t.ready Bi t d (is_local t.side) (bi_ids t) (record { occupied = 0; table = unis }) (uni_stages t (kept begun) stage) (apart-ids t).bis (apart-ids t).bi_peers (bis-of t.side 0 t.bis) untouched-unis unis-fit
+    bis-fit = scan-fits t.side did t.ready Bi t d (has_local_kind t.side) (bi_ids t) (record { occupied = 0; table = unis }) (uni_stages t (kept begun) stage) (apart-ids t).bis (apart-ids t).bi_peers (bis-of t.side 0 t.bis) untouched-unis unis-fit
 
     pub scanned-fits : IsOwn t.side bis.classified → IsOnce bis.classified → ((k : ℕ) → (did k).session ≡ d.session)
         → ((x : ℕ × ℕ) → d.session ≡ Some x → session_at t.side (role_of t.side x.0) (classified_of x.0 bis.classified) x.1 ≡ Some x.1)
@@ -103,22 +103,22 @@ module _ (t : TransportView) (d : CallView) (sent : ControlSent) (open_ : Bool) 
 
 -- an entry leaves what is known of the calls to a stream, and its stages fit the table before its scan
 pub entry-fits : (side : Side) (log : Log) (stage : ℕ → Stage) (m : Entry) → IsOwn side (stream_table side log).classified → MayUseBy side log m → StagesFit side log stage
-    → TableFits side (stream_use side (m ∷ log)) (stream_table side log) (entry_stages side log m stage)
+    → TableFits side (call_use side (m ∷ log)) (stream_table side log) (entry_stages side log m stage)
 entry-fits side log stage (Called r) own may f = called-fits side log stage r own may f
 entry-fits side log stage _ own may f = f
 
 -- the scan of a moment, where it is one
-scanned-where : (b : Bool) (side : Side) (log : Log) (m : Entry) (stage : ℕ → Stage) → Untouched (is_local side) (call_view (m ∷ log)) (stream_table side log)
+scanned-where : (b : Bool) (side : Side) (log : Log) (m : Entry) (stage : ℕ → Stage) → Untouched (has_local_kind side) (call_view (m ∷ log)) (stream_table side log)
     → IsOwn side (apply_if b (scan_order (transport_view side (m ∷ log)) (call_view (m ∷ log))) (stream_table side log)).classified
     → IsOnce (apply_if b (scan_order (transport_view side (m ∷ log)) (call_view (m ∷ log))) (stream_table side log)).classified
-    → ((x : ℕ × ℕ) → established (calls_of (m ∷ log)) ≡ Some x
+    → ((x : ℕ × ℕ) → established_session (calls_of (m ∷ log)) ≡ Some x
     → session_at side (role_of side x.0) (classified_of x.0 (apply_if b (scan_order (transport_view side (m ∷ log)) (call_view (m ∷ log))) (stream_table side log)).classified) x.1 ≡ Some x.1)
-    → TableFits side (stream_use side (m ∷ log)) (stream_table side log) stage
-    → TableFits side (stream_use side (m ∷ log)) (apply_if b (scan_order (transport_view side (m ∷ log)) (call_view (m ∷ log))) (stream_table side log))
+    → TableFits side (call_use side (m ∷ log)) (stream_table side log) stage
+    → TableFits side (call_use side (m ∷ log)) (apply_if b (scan_order (transport_view side (m ∷ log)) (call_view (m ∷ log))) (stream_table side log))
     (apply_if b (scanned_stages (transport_view side (m ∷ log)) (before_scan side log m)) stage)
 scanned-where false side log m stage un own once placed f = f
 scanned-where true side log m stage un own once placed f =
-    scanned-fits (transport_view side (m ∷ log)) (call_view (m ∷ log)) (control_sent side (m ∷ log)) (is_open (m ∷ log)) (stream_use side (m ∷ log)) (stream_table side log) un stage f own once (λ k. use-session k (calls_of (m ∷ log))) placed
+    scanned-fits (transport_view side (m ∷ log)) (call_view (m ∷ log)) (control_sent side (m ∷ log)) (is_open (m ∷ log)) (call_use side (m ∷ log)) (stream_table side log) un stage f own once (λ k. use-session k (calls_of (m ∷ log))) placed
 
 -- the state as the scan begins, by the entry before it
 pub same-stages : (side : Side) (log : Log) (m : Entry) (stage : ℕ → Stage) → MayFollow side log m → Sound side log
@@ -128,7 +128,7 @@ unfolding state_of
 same-stages side log m stage may s = λ i. apply_if (is_moment m && open-more m log i) (scanned_stages (transport_view side (m ∷ log)) (taken-in side log m may s i)) stage
 
 -- where the stages fit behind the entry, they do behind its scan
-pub scan-staged : (side : Side) (log : Log) (m : Entry) (stage : ℕ → Stage) → MayFollow side log m → MayUseBy side log m → Fits side log → Uses side log → TableFits side (stream_use side (m ∷ log)) (stream_table side log) stage
+pub scan-staged : (side : Side) (log : Log) (m : Entry) (stage : ℕ → Stage) → MayFollow side log m → MayUseBy side log m → Fits side log → Uses side log → TableFits side (call_use side (m ∷ log)) (stream_table side log) stage
     → StagesFit side (m ∷ log) (apply_if (scans m (after_entry (transport_view side log) m (state_of side log))) (scanned_stages (transport_view side (m ∷ log)) (after_entry (transport_view side log) m (state_of side log))) stage)
 unfolding stream_table
 scan-staged side log m stage may can fits uses f =

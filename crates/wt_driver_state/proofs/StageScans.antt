@@ -5,7 +5,7 @@ use Rattle.std.proofs.lemmas.Bool.{eq-eqb}
 use Rattle.wt_driver_state.proofs.StageEntries.{up-to, with-fits}
 use Rattle.wt_scan.specs.Scanning.{awaits, classified_stage, dequeue_stage, header_stage, rule_of, scan_stages, stages_on, unless_given_up, visit_stage}
 use Rattle.wt_driver_state.specs.Stages.{BodySays, ClassifiedSays, FirstSays, RequestSays, ResponseSays, StageFits, StageSays, TableFits, peer_role}
-use Rattle.wt_driver_spec.specs.Uses.{CallUse, ForRequest, OfLocalBi, OfLocalUni, OfPeerBi, OfPeerUni, StreamRole, classified_of, role_of}
+use Rattle.wt_driver_spec.specs.Uses.{CallUse, ForRequest, OfLocalUni, StreamRole, classified_of, role_of}
 use Rattle.wt_dispatch.specs.declared.slot.Half.{Half}
 use Rattle.wt_dispatch.specs.declared.slot.Half.TheVariants.{Bi, Uni}
 use Rattle.wt_driver_spec.proofs.ScanSlots.{ArePeers, IsDistinct, Same, Untouched, apart, has-here, known, scan-same, scan-slots, slots-same, untouched-later, visit-later}
@@ -16,7 +16,7 @@ use Rattle.wt_proto.specs.Uni.{is_final}
 use Rattle.wt_proto.specs.declared.verdict.Verdict.{Verdict}
 use Rattle.wt_proto.specs.declared.verdict.Verdict.TheVariants as verdicts
 use Rattle.wt_spec.specs.Scan.{Scan, SlotRule, classify, dequeue, fault_ending, has, is_released, occupied, scan, unless_ended, visit, with_classified, with_dequeued}
-use Rattle.wt_spec.specs.StreamTable.{CallView, Classified, Consequence, Dispatched, Ending, TransportView, dispatched, only_once, verdict_of}
+use Rattle.wt_spec.specs.StreamTable.{CallView, Classified, Consequence, Dispatched, Ending, TransportView, dispatched_streams, only_once, verdict_of}
 use Rattle.wt_wire.specs.declared.side.Side.{Side}
 
 -- ---- one more classified stream
@@ -128,10 +128,8 @@ weaker-says ForRequest done ending later None stage runs f = by done.session don
     by (Some s) over f = λ g. f (runs g)
     by None true f = tt
     by None false f = f
-weaker-says OfPeerUni done ending later None stage runs f = f
-weaker-says OfPeerBi done ending later None stage runs f = f
-weaker-says OfLocalBi done ending later None stage runs f = f
 weaker-says OfLocalUni done ending later None stage runs f = tt
+weaker-says _ done ending later None stage runs f = f
 
 -- ---- the scan
 
@@ -182,7 +180,7 @@ module _ (side : Side) (did : ℕ → CallUse) (ready : Bool) (half : Half) (t :
 
       -- what follows from the verdict
       abbrev leads : Consequence
-      leads = rule.consequence (dispatched d p.table.classified) k (rule.verdict k)
+      leads = rule.consequence (dispatched_streams d p.table.classified) k (rule.verdict k)
 
       -- the stream with its verdict
       abbrev found : Classified
@@ -192,7 +190,7 @@ module _ (side : Side) (did : ℕ → CallUse) (ready : Bool) (half : Half) (t :
       settled =
           with-fits (StageFits side did (with_classified k (rule.verdict k) leads (with_dequeued k p.table))) stage k (classified_stage leads.surplus (rule.verdict k))
           (λ j e. rw (added-other found j p.table.classified e) (weaker-says (role_of side j) (did j) p.table.progress.ending (fault_ending leads.fault) (classified_of j p.table.classified) (stage j) (λ g. runs) (f j)))
-          (rw (added-here found p.table.classified no-classified) (newly half t (dispatched d p.table.classified) k (rule.verdict k) (did k) (fault_ending leads.fault) untouched.1 untouched.2))
+          (rw (added-here found p.table.classified no-classified) (newly half t (dispatched_streams d p.table.classified) k (rule.verdict k) (did k) (fault_ending leads.fault) untouched.1 untouched.2))
 
       added-known : is_final (rule.verdict k) ≡ true → known_after k (rule.verdict k) leads (known d p.table) ≡ known d (with_classified k (rule.verdict k) leads (with_dequeued k p.table))
       added-known final = sym before ∙ ap (λ (x : Scanned). x.known) (scan-slots ready d rule local (k ∷ []) alone (refl, tt) (peers, tt) (record { released = un.released; delivered = un.delivered })) ∙ after

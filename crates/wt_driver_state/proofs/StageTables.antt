@@ -10,7 +10,7 @@ use Rattle.wt_driver_spec.specs.Moment.{Fits}
 use Rattle.wt_proto.specs.Uni.{is_final}
 use Rattle.wt_proto.specs.declared.verdict.Verdict.{Verdict}
 use Rattle.wt_seam_spec.specs.Streams.{peer_count}
-use Rattle.wt_spec.specs.Driver.{apply_if, call_view, established, is_moment, stream_table, transport_view}
+use Rattle.wt_spec.specs.Driver.{apply_if, call_view, established_session, is_moment, stream_table, transport_view}
 use Rattle.wt_spec.specs.Scan.{Scan, SlotRule, bi_ids, bi_rule, classify, dequeue, has, scan, scan_order, scan_unis, uni_ids, uni_rule, unless_ended, visit, with_dequeued, without_stops}
 use Rattle.wt_spec.specs.StreamTable.{CallView, Classified, Ending, StreamTable, TransportView, verdict_of}
 use Rattle.wt_turn.specs.Log.{CallRecord, Called, Entry, Log, SessionEstablished, calls_of, events_of, is_open}
@@ -67,7 +67,7 @@ session-stays Server log m id at e = by (classified_of id (stream_table Server l
     by (Some c) f g = ap queued_at (entry-found Server log m id c f) ∙ g
 
 -- the established session is on such a stream
-pub session-is : (side : Side) (log : Log) (s : ℕ × ℕ) → Uses side log → established (calls_of log) ≡ Some s → session_at side (role_of side s.0) (classified_of s.0 (stream_table side log).classified) s.1 ≡ Some s.1
+pub session-is : (side : Side) (log : Log) (s : ℕ × ℕ) → Uses side log → established_session (calls_of log) ≡ Some s → session_at side (role_of side s.0) (classified_of s.0 (stream_table side log).classified) s.1 ≡ Some s.1
 session-is side [] s uses e = absurd cc
 session-is side (Called (SessionEstablished id at) ∷ log) s uses e =
     let same : (id, at) ≡ s = cc in
@@ -87,7 +87,7 @@ is-own Server log fits = tt
 
 -- ---- what the calls did to a stream
 
-pub use-session : (k : ℕ) (calls : List CallRecord) → (use_of k calls).session ≡ established calls
+pub use-session : (k : ℕ) (calls : List CallRecord) → (use_of k calls).session ≡ established_session calls
 use-session k [] = refl
 use-session k (SessionEstablished id at ∷ calls) = refl
 use-session k (_ ∷ calls) = use-session k calls

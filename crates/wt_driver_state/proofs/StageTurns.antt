@@ -15,25 +15,25 @@ use Rattle.wt_driver_state.proofs.StageUses.{answering-queued, is_answering, con
 use Rattle.wt_driver_spec.specs.Uses.{MayUse, RequestOpened, Uses, classified_of, is_sessions, queued_at, role_of, session_at}
 use Rattle.wt_driver_spec.proofs.ClassifiedOnce.{In}
 use Rattle.wt_driver_spec.proofs.Following.{actions-fit, moment-fits}
-use Rattle.wt_driver_spec.specs.Moment.{Fits, is_local, may_release, names_session}
+use Rattle.wt_driver_spec.specs.Moment.{Fits, has_local_kind, may_release, names_session}
 use Rattle.wt_message.specs.Datagram.{datagram_bytes}
 use Rattle.wt_proto.specs.ResponseWalk.{response_walk_of}
 use Rattle.wt_proto.specs.declared.response_walk.ResponseWalk.{ResponseWalk}
 use Rattle.wt_seam_spec.specs.Arrivals.{event_entry, log_event}
 use Rattle.wt_seam_spec.specs.Joined.{send_of}
-use Rattle.wt_seam_spec.specs.Outgoing.{covered, if_open, may_open, next_id, opening}
-use Rattle.wt_seam_spec.specs.Reports.{credit, datagram_fact, datagrams_of, end_of, is_acknowledged, is_connected, stop_of}
+use Rattle.wt_seam_spec.specs.Outgoing.{bytes_within_credit, if_open, may_open, next_id, actions_to_open}
+use Rattle.wt_seam_spec.specs.Reports.{datagram_fact, datagrams_of, end_of, is_acknowledged, is_connected, stop_of}
 use Rattle.wt_seam_spec.specs.Sent.{is_finished}
 use Rattle.wt_seam_spec.specs.Streams.{contents, local_bi, local_count, local_uni, peer_bi, peer_count, peer_uni, stream_count}
 use Rattle.wt_spec.specs.Answers.{call_effect, in_session, is_client, is_first, is_lawful, log_after, may_call, may_respond, on_receiving, on_sending, on_session, receive}
 use Rattle.wt_spec.specs.Connect.{address_of, authority_of, connect, connect_to, outcome_error, path_of, port_of, request_head, reserved_name, server_name, unless_stopped, with_address}
 use Rattle.wt_spec.specs.Connection.{accept_due, accept_first, datagram_allowed, datagram_within, ends_opening, give_or_pass, is_for_session, is_opening, next_datagram, next_due, open_stream, pass_stream, poll_opening, read_datagram, receive_first, receive_next, receive_or_pass, send_datagram, starts_opening, stream_header}
-use Rattle.wt_spec.specs.Driver.{call_view, established, flush, log_and_flush, settings_came, settled_datagrams, stream_table}
-use Rattle.wt_spec.specs.Effect.{Effect, closing, driver_error, head_left, is_covered, is_empty, log_call, poll_sending, reply_with, transport_error}
-use Rattle.wt_spec.specs.Halves.{all_written_reply, exact_at_end, finishing, has_receiving_half, has_sending_half, is_done, on_half, read, read_exact, read_reply, reset, set_priority, take_bytes, unread_body, write_by, write_error, written_reply}
-use Rattle.wt_spec.specs.Handshake.{Connecting, HandshakeState, Requested, Responding, accept_response, await_or_fail, await_response, awaits_answer, continue_by, deliver, establish, fail_handshake, handshake_state, has_success, incoming, is_refused, open_request, queued_requests, read_response, reject_response, request_end, requested, respond, send_request, start_response, unless_reserved}
-use Rattle.wt_spec.specs.StreamTable.{Classified, dispatched, verdict_of}
-use Rattle.wt_turn.specs.Log.{Acked, BytesRead, CallRecord, Called, ConnectStarted, Connected, Datagram, DatagramLimit, DatagramPassed, DatagramReceived, End, Event, HandshakeOver, Log, Loss, MaxBi, MaxData, MaxUni, OpeningFailed, OpeningStarted, PeerBi, PeerUni, Polled, PrioritySet, Received, Reported, RequestDelivered, Reset, ResetUnsent, ResponseStarted, Sent, SessionEstablished, Stop, StreamAccepted, StreamGivenUp, StreamPassed, actions_of, calls_of, events_of, is_open, with_actions}
+use Rattle.wt_spec.specs.Driver.{call_view, established_session, flush, log_and_flush, settings_came, settled_datagrams, stream_table}
+use Rattle.wt_spec.specs.Effect.{Effect, close_when_open, driver_error, head_left, is_covered, is_empty, log_call, poll_sending, reply_with, transport_error}
+use Rattle.wt_spec.specs.Halves.{all_written_reply, exact_at_end, finish_once, has_receiving_half, has_sending_half, is_done, on_half, read, read_exact, read_reply, reset, set_priority, take_bytes, unread_body, write_by, write_error, written_reply}
+use Rattle.wt_spec.specs.Handshake.{Connecting, HandshakeState, Requested, Responding, accept_response, await_or_fail, await_response, awaits_answer, continue_by, deliver, establish, fail_handshake, handshake_state, has_success, incoming, is_refused, open_request, queued_requests, read_response, reject_response, request_end, requested_stream, respond, send_request, start_response, unless_reserved}
+use Rattle.wt_spec.specs.StreamTable.{Classified, dispatched_streams, verdict_of}
+use Rattle.wt_turn.specs.Log.{BytesRead, CallRecord, Called, ConnectStarted, DatagramPassed, DatagramReceived, Event, HandshakeOver, Log, OpeningFailed, OpeningStarted, Polled, PrioritySet, Received, Reported, RequestDelivered, Reset, ResetUnsent, ResponseStarted, Sent, SessionEstablished, StreamAccepted, StreamGivenUp, StreamPassed, actions_of, calls_of, events_of, is_open, with_actions}
 use Rattle.wt_turn.specs.declared.action.Action.{Action}
 use Rattle.wt_turn.specs.declared.call.Call.{Call}
 use Rattle.wt_error.specs.declared.connecting_error.ConnectingError.{ConnectingError}
@@ -82,7 +82,7 @@ called-uses side log own r uses may = record { uses = moment-uses side (with_act
 
 module _ (side : Side) (reply : ℕ → Reply) (kind session : ℕ) where
   named-release : (log : Log) (k : ℕ) → is_sessions (classified_of k (stream_table side log).classified) ≡ true → may_release side (stream_table side log).classified k ≡ true
-  named-release log k e = or-right (is_local side k) (names_session (verdict_of k (stream_table side log).classified)) (ap names_session (verdict-found k (stream_table side log).classified) ∙ by (classified_of k (stream_table side log).classified) e)
+  named-release log k e = or-right (has_local_kind side k) (names_session (verdict_of k (stream_table side log).classified)) (ap names_session (verdict-found k (stream_table side log).classified) ∙ by (classified_of k (stream_table side log).classified) e)
     where
       or-right : (a b : Bool) → b ≡ true → (a || b) ≡ true
       or-right true b e = refl
@@ -169,7 +169,7 @@ module _ (side : Side) (log : Log) (fits : Fits side log) (uses : Uses side log)
   open-uses kind s opened is =
       either side (not (is_open log)) _ _ (polls [] _)
       (either side (may_open side log kind) _ _
-      (called-uses side log (opening side log kind) (OpeningStarted (next_id side log kind) s) uses (may-with side (opening side log kind) log (OpeningStarted (next_id side log kind) s) (next-given side log kind opened is))) (polls [] _))
+      (called-uses side log (actions_to_open side log kind) (OpeningStarted (next_id side log kind) s) uses (may-with side (actions_to_open side log kind) log (OpeningStarted (next_id side log kind) s) (next-given side log kind opened is))) (polls [] _))
 
   opening-leads : (k s : ℕ) → LeadsUses side (poll_opening side log k s)
   opening-leads k s =
@@ -178,7 +178,7 @@ module _ (side : Side) (log : Log) (fits : Fits side log) (uses : Uses side log)
       let left = head_left log k (stream_header k s) in
       either side (not (is_open log)) _ _ (called-uses side log [] (OpeningFailed k) uses tt)
       (either side (is_refused log k left) _ _ (called-uses side log [] (OpeningFailed k) uses tt)
-      (either side (is_covered log k left) _ _ (called-uses side log (send_of k left) (StreamAccepted k) uses (may-with side (send_of k left) log (StreamAccepted k) may)) (polls (send_of k (covered log k left)) _))))
+      (either side (is_covered log k left) _ _ (called-uses side log (send_of k left) (StreamAccepted k) uses (may-with side (send_of k left) log (StreamAccepted k) may)) (polls (send_of k (bytes_within_credit log k left)) _))))
       (polls [] _)
 
   -- ---- datagrams, and the rest of a session's calls
@@ -196,9 +196,9 @@ module _ (side : Side) (log : Log) (fits : Fits side log) (uses : Uses side log)
   send-uses payload s = either side (is_open log) _ _ (allowed-uses (datagram_bytes (s / 4) payload) (datagram_fact (events_of log))) (polls [] _)
 
   session-uses : (call : ℕ → Effect) → (RequestOpened side log → (s : ℕ) → LeadsUses side (call s)) → LeadsUses side (on_session side log call)
-  session-uses call f = by (established (calls_of log)) refl
+  session-uses call f = by (established_session (calls_of log)) refl
     where
-      by : (o : Option (ℕ × ℕ)) → established (calls_of log) ≡ o → LeadsUses side (in_session side log call o)
+      by : (o : Option (ℕ × ℕ)) → established_session (calls_of log) ≡ o → LeadsUses side (in_session side log call o)
       by None e = polls [] replies.NoSession
       by (Some s) e = f (established-opened side log s uses e) s.0
 
@@ -210,7 +210,7 @@ module _ (side : Side) (log : Log) (fits : Fits side log) (uses : Uses side log)
 
   write-uses : (reply : List ℕ → ℕ → Reply) (k : ℕ) (bytes : List ℕ) (o : Option StreamWriteError) → LeadsUses side (write_by reply side log k bytes o)
   write-uses reply k bytes (Some e) = polls [] _
-  write-uses reply k bytes None = polls (send_of k (covered log k bytes)) _
+  write-uses reply k bytes None = polls (send_of k (bytes_within_credit log k bytes)) _
 
   reset-uses : (k code : ℕ) → LeadsUses side (reset side log k code)
   reset-uses k code =
@@ -254,15 +254,15 @@ module _ (side : Side) (log : Log) (fits : Fits side log) (uses : Uses side log)
   incoming-uses : LeadsUses side (incoming side log)
   incoming-uses = deliver-uses (queued_requests side log) (by (settings_came side log))
     where
-      by : (b : Bool) (c : Classified) → In c (if b then (dispatched (call_view log) (stream_table side log).classified).requests else []) → is_some (queued_at (classified_of c.id (stream_table side log).classified)) ≡ true
+      by : (b : Bool) (c : Classified) → In c (if b then (dispatched_streams (call_view log) (stream_table side log).classified).requests else []) → is_some (queued_at (classified_of c.id (stream_table side log).classified)) ≡ true
       by true c i = let found = queued-found side log c fits i in ap (λ (o : Option Classified). is_some (queued_at o)) found.0 ∙ found.1
       by false c i = absurd i
 
   -- a server's response
-  module _ (waiting : CallRecord) (may : MayUse side log waiting) (server : side ≡ Server) (queued : is_some (queued_at (classified_of (requested (calls_of log)) (stream_table side log).classified)) ≡ true) where
+  module _ (waiting : CallRecord) (may : MayUse side log waiting) (server : side ≡ Server) (queued : is_some (queued_at (classified_of (requested_stream (calls_of log)) (stream_table side log).classified)) ≡ true) where
     -- the request's stream
     abbrev id : ℕ
-    id = requested (calls_of log)
+    id = requested_stream (calls_of log)
 
     -- the response is awaited
     waits : (own : List Action) (reply : Reply) → LeadsUses side (reply_with (log_call side log own waiting) reply)
@@ -279,21 +279,21 @@ module _ (side : Side) (log : Log) (fits : Fits side log) (uses : Uses side log)
     accept-leads : (left : List ℕ) → LeadsUses side (accept_response side log id left waiting)
     accept-leads left =
         either side (not (is_open log)) _ _ (failed-uses [] _)
-        (either side (is_refused log id left) _ _ (failed-uses (closing log (code_of h3.ClosedCriticalStream)) _)
+        (either side (is_refused log id left) _ _ (failed-uses (close_when_open log (code_of h3.ClosedCriticalStream)) _)
         (either side (is_covered log id left) _ _
         (establish-uses (send_of id left) id (request_end (verdict_of id (stream_table side log).classified))
         (may-with side (send_of id left) log (SessionEstablished id (request_end (verdict_of id (stream_table side log).classified)))
         (server-may side server (request_end (verdict_of id (stream_table side log).classified)) (classified_of id (stream_table side log).classified) (ends-at side log id queued) tt, opened side server)))
-        (waits (send_of id (covered log id left)) _)))
+        (waits (send_of id (bytes_within_credit log id left)) _)))
 
     reject-leads : (left : List ℕ) → LeadsUses side (reject_response side log id left waiting)
     reject-leads left =
         either side (not (is_open log)) _ _ (failed-uses [] _)
-        (either side (is_refused log id left) _ _ (failed-uses (closing log (code_of h3.ClosedCriticalStream)) _)
+        (either side (is_refused log id left) _ _ (failed-uses (close_when_open log (code_of h3.ClosedCriticalStream)) _)
         (either side (is_covered log id left) _ _
         (either side (not (is_finished (actions_of log) id)) _ _ (waits (send_of id left ++ actions.Finish id ∷ []) _)
-        (either side (is_some (stop_of (events_of log) id) || is_acknowledged (events_of log) id) _ _ (failed-uses (closing log 0) _) (waits [] _)))
-        (waits (send_of id (covered log id left)) _)))
+        (either side (is_some (stop_of (events_of log) id) || is_acknowledged (events_of log) id) _ _ (failed-uses (close_when_open log 0) _) (waits [] _)))
+        (waits (send_of id (bytes_within_credit log id left)) _)))
 
     respond-uses : (accepts : Bool) (head : List ℕ) → LeadsUses side (respond side log accepts head waiting)
     respond-uses true head = accept-leads (head_left log id head)
@@ -317,19 +317,19 @@ module _ (side : Side) (log : Log) (fits : Fits side log) (uses : Uses side log)
 
 module _ (log : Log) (fits : Fits Client log) (uses : Uses Client log) where
   response-uses : (own : List Action) (w : ResponseWalk) → RequestOpened Client (with_actions own log) → LeadsUses Client (read_response Client log 0 own w)
-  response-uses own (responses.Fault code) o = failed-uses Client log fits uses (own ++ closing log (code_of code)) _
-  response-uses own responses.Ended o = failed-uses Client log fits uses (own ++ closing log 0) _
+  response-uses own (responses.Fault code) o = failed-uses Client log fits uses (own ++ close_when_open log (code_of code)) _
+  response-uses own responses.Ended o = failed-uses Client log fits uses (own ++ close_when_open log 0) _
   response-uses own responses.Waiting o = either Client (is_open log) _ _ (polls Client log fits uses own _) (failed-uses Client log fits uses own _)
   response-uses own (responses.Response fields at) o =
-      either Client (not (has_success fields)) _ _ (failed-uses Client log fits uses (own ++ closing log 0) _)
+      either Client (not (has_success fields)) _ _ (failed-uses Client log fits uses (own ++ close_when_open log 0) _)
       (either Client (is_open log) _ _ (establish-uses Client log fits uses own 0 at (refl, o)) (failed-uses Client log fits uses own _))
 
   request-uses : (own : List Action) (left : List ℕ) → RequestOpened Client (with_actions own log) → LeadsUses Client (send_request Client log 0 own left)
   request-uses own left o =
       either Client (is_empty left) _ _ (awaited own o)
       (either Client (not (is_open log)) _ _ (failed-uses Client log fits uses own _)
-      (either Client (is_some (stop_of (events_of log) 0)) _ _ (failed-uses Client log fits uses (own ++ closing log 0) _)
-      (either Client (is_covered log 0 left) _ _ (awaited (own ++ send_of 0 left) (opened-both Client own (send_of 0 left) log o)) (polls Client log fits uses (own ++ send_of 0 (covered log 0 left)) _))))
+      (either Client (is_some (stop_of (events_of log) 0)) _ _ (failed-uses Client log fits uses (own ++ close_when_open log 0) _)
+      (either Client (is_covered log 0 left) _ _ (awaited (own ++ send_of 0 left) (opened-both Client own (send_of 0 left) log o)) (polls Client log fits uses (own ++ send_of 0 (bytes_within_credit log 0 left)) _))))
     where
       awaited : (out : List Action) → RequestOpened Client (with_actions out log) → LeadsUses Client (await_response Client log 0 out)
       awaited out o = response-uses out (response_walk_of (contents log 0) (end_of (events_of log) 0)) o
@@ -338,7 +338,7 @@ module _ (log : Log) (fits : Fits Client log) (uses : Uses Client log) where
   open-request-uses head =
       either-so Client (not (local_count (actions_of log) 0 == 0)) _ _ (λ e. request-uses [] left (not-so (local_count (actions_of log) 0 == 0) e))
       (either Client (not (is_open log)) _ _ (failed-uses Client log fits uses [] _)
-      (either-so Client (may_open Client log 0) _ _ (λ e. request-uses (opening Client log 0) left (opens-so e)) (polls Client log fits uses [] _)))
+      (either-so Client (may_open Client log 0) _ _ (λ e. request-uses (actions_to_open Client log 0) left (opens-so e)) (polls Client log fits uses [] _)))
     where
       left : List ℕ
       left = head_left log 0 head
@@ -347,13 +347,13 @@ module _ (log : Log) (fits : Fits Client log) (uses : Uses Client log) where
       not-so true e = absurd cc
       not-so false e = refl
 
-      opens-so : may_open Client log 0 ≡ true → RequestOpened Client (with_actions (opening Client log 0) log)
+      opens-so : may_open Client log 0 ≡ true → RequestOpened Client (with_actions (actions_to_open Client log 0) log)
       opens-so e =
           let m : (4 * stream_count Client log 0 + 0) % 4 ≡ 0 = omega arith in
           rw (e, m) (false_from_ne_true (local_count (actions_of log) 0 + 1 == 0) (λ f. let a = eqb-true (local_count (actions_of log) 0 + 1) 0 f in omega arith))
 
   reserved-uses : (reserved : Option (List ℕ)) (head : List ℕ) → LeadsUses Client (unless_reserved Client log reserved head)
-  reserved-uses (Some name) head = failed-uses Client log fits uses (closing log 0) _
+  reserved-uses (Some name) head = failed-uses Client log fits uses (close_when_open log 0) _
   reserved-uses None head = open-request-uses head
 
   await-uses : (e : ConnectionError) → LeadsUses Client (await_or_fail Client log e)
@@ -419,9 +419,6 @@ module _ (side : Side) (log : Log) (fits : Fits side log) (uses : Uses side log)
   call-uses (calls.Connect options lookup outcome) may = first-uses side log options.0 options.1 lookup outcome may
   call-uses calls.Incoming may = incoming-uses side log fits uses
   call-uses (calls.Accept headers) may = starting side log fits uses true _ may
-  call-uses calls.Forbidden may = starting side log fits uses false _ may
-  call-uses calls.NotFound may = starting side log fits uses false _ may
-  call-uses calls.TooManyRequests may = starting side log fits uses false _ may
   call-uses calls.Handshake may = continue-uses side log fits uses (handshake_state (calls_of log)) refl
   call-uses (calls.EndpointClose code reason) may = plain (if_open log (actions.Close code reason)) _
   call-uses calls.AcceptUni may = on-session _ (λ o s. accept-uses side replies.Uni (peer_uni side) s (suc (peer_count side (events_of log) (peer_uni side))) log fits uses)
@@ -437,7 +434,7 @@ module _ (side : Side) (log : Log) (fits : Fits side log) (uses : Uses side log)
   call-uses calls.Closed may = on-session _ (λ o s. plain [] _)
   call-uses (calls.Write id bytes) may = sends id _ (write-uses side log fits uses written_reply id bytes (write_error log id))
   call-uses (calls.WriteAll id bytes) may = sends id _ (write-uses side log fits uses all_written_reply id bytes (write_error log id))
-  call-uses (calls.Finish id) may = sends id _ (plain (finishing log id) _)
+  call-uses (calls.Finish id) may = sends id _ (plain (finish_once log id) _)
   call-uses (calls.Stopped id) may = sends id _ (plain [] _)
   call-uses (calls.Priority id) may = sends id _ (plain [] _)
   call-uses (calls.SetPriority id p) may = sends id _ (set-uses side log fits uses id p)
@@ -445,6 +442,7 @@ module _ (side : Side) (log : Log) (fits : Fits side log) (uses : Uses side log)
   call-uses (calls.Read id size) may = receives id _ (read-uses side log fits uses id size)
   call-uses (calls.ReadExact id size) may = receives id _ (exact-uses side log fits uses id size)
   call-uses (calls.StopRecv id code) may = receives id _ (λ half. called-uses side log (if_open log (actions.StopOut id code)) (StreamGivenUp id) uses (may-with side (if_open log (actions.StopOut id code)) log (StreamGivenUp id) (half-uses side log id fits uses half)))
+  call-uses _ may = starting side log fits uses false _ may
 
 -- ---- each turn
 
@@ -468,16 +466,4 @@ bytes-use side (b ∷ bytes) log k uses = bytes-use side bytes (if is_open log t
 pub turn-uses : (side : Side) (log : Log) (turn : Turn) → is_lawful side log turn ≡ true → Fits side log → Uses side log → Uses side (log_after side log turn)
 turn-uses side log (turns.Bytes id piece) lawful fits uses = bytes-use side piece log id uses
 turn-uses side log (turns.Call call) lawful fits uses = (call-uses side log fits uses call lawful).uses
-turn-uses side log (turns.Connected uni bi credit fact) lawful fits uses = event-uses side log (Connected uni bi credit fact) uses
-turn-uses side log turns.PeerUni lawful fits uses = event-uses side log PeerUni uses
-turn-uses side log turns.PeerBi lawful fits uses = event-uses side log PeerBi uses
-turn-uses side log (turns.End id) lawful fits uses = event-uses side log (End id) uses
-turn-uses side log (turns.Reset id code) lawful fits uses = event-uses side log (Reset id code) uses
-turn-uses side log (turns.Stop id code) lawful fits uses = event-uses side log (Stop id code) uses
-turn-uses side log (turns.Acked id) lawful fits uses = event-uses side log (Acked id) uses
-turn-uses side log (turns.Datagram piece) lawful fits uses = event-uses side log (Datagram piece) uses
-turn-uses side log (turns.MaxUni total) lawful fits uses = event-uses side log (MaxUni total) uses
-turn-uses side log (turns.MaxBi total) lawful fits uses = event-uses side log (MaxBi total) uses
-turn-uses side log (turns.MaxData id total) lawful fits uses = event-uses side log (MaxData id total) uses
-turn-uses side log (turns.DatagramLimit fact) lawful fits uses = event-uses side log (DatagramLimit fact) uses
-turn-uses side log (turns.Loss reason) lawful fits uses = event-uses side log (Loss reason) uses
+turn-uses side log _ lawful fits uses = event-uses side log _ uses

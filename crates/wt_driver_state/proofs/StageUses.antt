@@ -16,10 +16,10 @@ use Rattle.wt_proto.specs.declared.verdict.Verdict.{Verdict}
 use Rattle.wt_proto.specs.declared.verdict.Verdict.TheVariants as verdicts
 use Rattle.wt_seam_spec.specs.Streams.{local_count, local_uni, one_more_if, opens}
 use Rattle.wt_spec.specs.Connection.{accepts_stream, is_due, next_due, starts_opening}
-use Rattle.wt_spec.specs.Driver.{call_view, established, releases, stream_table}
+use Rattle.wt_spec.specs.Driver.{call_view, established_session, releases, stream_table}
 use Rattle.wt_spec.specs.Halves.{gives_up, has_receiving_half, is_accepted}
-use Rattle.wt_spec.specs.Handshake.{Connecting, HandshakeState, Requested, Responding, awaits_answer, handshake_state, request_end, requested}
-use Rattle.wt_spec.specs.StreamTable.{Classified, awaits_accept, awaits_delivery, dispatched, is_request, is_webtransport, verdict_of}
+use Rattle.wt_spec.specs.Handshake.{Connecting, HandshakeState, Requested, Responding, awaits_answer, handshake_state, request_end, requested_stream}
+use Rattle.wt_spec.specs.StreamTable.{Classified, awaits_accept, awaits_delivery, dispatched_streams, is_request, is_webtransport, verdict_of}
 use Rattle.wt_turn.specs.Log.{CallRecord, Called, ConnectStarted, Entry, HandshakeOver, Log, OpeningStarted, RequestDelivered, ResponseStarted, Sent, SessionEstablished, StreamAccepted, StreamPassed, actions_of, calls_of, is_open, with_actions}
 use Rattle.wt_turn.specs.declared.action.Action.{Action}
 use Rattle.wt_wire.specs.declared.side.Side.{Side}
@@ -51,7 +51,7 @@ opened-stays Client (a ∷ later) log e = opened-stays Client later (Sent a ∷ 
 opened-stays Server (a ∷ later) log e = opened-stays Server later (Sent a ∷ log) tt
 
 -- a client with a session opened it
-pub established-opened : (side : Side) (log : Log) (s : ℕ × ℕ) → Uses side log → established (calls_of log) ≡ Some s → RequestOpened side log
+pub established-opened : (side : Side) (log : Log) (s : ℕ × ℕ) → Uses side log → established_session (calls_of log) ≡ Some s → RequestOpened side log
 established-opened side [] s uses e = absurd cc
 established-opened side (Called (SessionEstablished id at) ∷ log) s uses e = by side uses.0.1
   where
@@ -87,7 +87,7 @@ in-found (x ∷ xs) r o (inr i) = by (x.id == r.id) refl (in-found xs r o.1 i)
 -- ---- requests
 
 -- a queued request is classified so
-pub queued-found : (side : Side) (log : Log) (c : Classified) → Fits side log → In c (dispatched (call_view log) (stream_table side log).classified).requests
+pub queued-found : (side : Side) (log : Log) (c : Classified) → Fits side log → In c (dispatched_streams (call_view log) (stream_table side log).classified).requests
     → (classified_of c.id (stream_table side log).classified ≡ Some c) × (is_some (queued_at (Some c)) ≡ true)
 queued-found side log c fits i =
     let both = only-in (awaits_delivery (call_view log).delivered) (stream_table side log).classified c i in
@@ -115,11 +115,11 @@ is_answering (Responding accepts head) = true
 is_answering _ = false
 
 pub answering-queued : (side : Side) (log : Log) → Uses side log → is_answering (handshake_state (calls_of log)) ≡ true
-    → is_some (queued_at (classified_of (requested (calls_of log)) (stream_table side log).classified)) ≡ true
+    → is_some (queued_at (classified_of (requested_stream (calls_of log)) (stream_table side log).classified)) ≡ true
 answering-queued side [] uses e = absurd cc
 answering-queued side (Called (RequestDelivered id) ∷ log) uses e = queued-stays side log (Called (RequestDelivered id)) id uses.0
 answering-queued side (Called (ResponseStarted accepts head) ∷ log) uses e =
-    queued-stays side log (Called (ResponseStarted accepts head)) (requested (calls_of log)) (answering-queued side log uses.1 (by (handshake_state (calls_of log)) uses.0.1))
+    queued-stays side log (Called (ResponseStarted accepts head)) (requested_stream (calls_of log)) (answering-queued side log uses.1 (by (handshake_state (calls_of log)) uses.0.1))
   where
     by : (h : HandshakeState) → awaits_answer h ≡ true → is_answering h ≡ true
     by (Requested id) e = refl
@@ -127,8 +127,8 @@ answering-queued side (Called (ResponseStarted accepts head) ∷ log) uses e =
 answering-queued side (Called (ConnectStarted reserved head) ∷ log) uses e = absurd cc
 answering-queued side (Called (SessionEstablished id at) ∷ log) uses e = absurd cc
 answering-queued side (Called HandshakeOver ∷ log) uses e = absurd cc
-answering-queued side (Called r ∷ log) uses e = queued-stays side log (Called r) (requested (calls_of log)) (answering-queued side log uses.1 e)
-answering-queued side (m ∷ log) uses e = queued-stays side log m (requested (calls_of log)) (answering-queued side log uses.1 e)
+answering-queued side (Called r ∷ log) uses e = queued-stays side log (Called r) (requested_stream (calls_of log)) (answering-queued side log uses.1 e)
+answering-queued side (m ∷ log) uses e = queued-stays side log m (requested_stream (calls_of log)) (answering-queued side log uses.1 e)
 
 -- where a queued request ends
 pub ends-at : (side : Side) (log : Log) (k : ℕ) → is_some (queued_at (classified_of k (stream_table side log).classified)) ≡ true
@@ -205,7 +205,7 @@ unreleased k (_ ∷ calls) e = unreleased k calls e
 -- a stream that is due may be given or passed
 pub due-uses : (side : Side) (log : Log) (kind session : ℕ) (c : Classified) → Fits side log → next_due side log kind session ≡ Some c → MayUse side log (StreamAccepted c.id) × MayUse side log (StreamPassed c.id)
 due-uses side log kind session c fits e =
-    let both = only-in (awaits_accept (call_view log).released) (stream_table side log).classified c (found-in (is_due (is_open log) kind session) (dispatched (call_view log) (stream_table side log).classified).waiting c e) in
+    let both = only-in (awaits_accept (call_view log).released) (stream_table side log).classified c (found-in (is_due (is_open log) kind session) (dispatched_streams (call_view log) (stream_table side log).classified).waiting c e) in
     let parts = and_parts (not ((call_view log).released c.id)) (is_webtransport c.verdict) both.1 in
     let found = in-found (stream_table side log).classified c (sound side log fits).once both.0 in
     let kept = unreleased c.id (calls_of log) (not-so (list_any (releases c.id) (calls_of log)) parts.0) in

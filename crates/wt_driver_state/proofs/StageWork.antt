@@ -9,13 +9,13 @@ use Rattle.wt_driver_state.proofs.StageUses.{calls-with}
 use Rattle.wt_driver_state.specs.DriverValue.{DriverValue, without_first}
 use Rattle.wt_driver_state.specs.Moving.{HasDatagram, Moves, front_of}
 use Rattle.wt_driver_state.specs.PeerSettings.{KeepsSettings, settings_scanned}
-use Rattle.wt_driver_state.specs.Stages.{StagesFit, TableFits, scanned_stages, stream_use}
+use Rattle.wt_driver_state.specs.Stages.{StagesFit, TableFits, scanned_stages, call_use}
 use Rattle.wt_driver_spec.specs.Uses.{MayUseBy, Uses}
-use Rattle.wt_driver_state.specs.Tie.{Refines, unsettled}
+use Rattle.wt_driver_state.specs.Tie.{Refines, unsettled_datagrams}
 use Rattle.wt_driver_spec.proofs.Following.{actions-fit, entry-followed, events-with, open-more, scanned-out, sound, taken-in}
 use Rattle.wt_driver_spec.proofs.RestMoments.{flushed-state}
 use Rattle.wt_driver_spec.proofs.Sending.{sent_at_once}
-use Rattle.wt_driver_spec.specs.AtOnce.{flushed}
+use Rattle.wt_driver_spec.specs.AtOnce.{state_after_flush}
 use Rattle.wt_driver_spec.specs.DriverState.{DriverState, state_of}
 use Rattle.wt_driver_spec.specs.Moment.{Fits, MayFollow, scans}
 use Rattle.wt_driver_spec.specs.Step.{after_entry, begin_scan, scan_state, step_actions}
@@ -36,7 +36,7 @@ slice-front (x ∷ xs) zero = refl
 slice-front (x ∷ xs) (suc n) = slice-front xs n
 
 -- actions settle no datagram
-pub unsettled-with : (acts : List Action) (log : Log) → unsettled (with_actions acts log) ≡ unsettled log
+pub unsettled-with : (acts : List Action) (log : Log) → unsettled_datagrams (with_actions acts log) ≡ unsettled_datagrams log
 unsettled-with acts log = λ i. drop (settled_datagrams (calls-with acts log i)) (datagrams_of (events-with acts log i))
 
 -- ---- the datagrams that wait
@@ -55,7 +55,7 @@ settled-came side (Reported e ∷ log) uses = more-came e (settled_datagrams (ca
 settled-came side (_ ∷ log) uses = settled-came side log uses.1
 
 -- one more waits behind the others
-pub datagram-waits : (side : Side) (log : Log) (piece : List ℕ) → Uses side log → unsettled (Reported (Datagram piece) ∷ log) ≡ unsettled log ++ piece ∷ []
+pub datagram-waits : (side : Side) (log : Log) (piece : List ℕ) → Uses side log → unsettled_datagrams (Reported (Datagram piece) ∷ log) ≡ unsettled_datagrams log ++ piece ∷ []
 datagram-waits side log piece uses = drop-append-le (settled_datagrams (calls_of log)) (datagrams_of (events_of log)) (piece ∷ []) (settled-came side log uses)
 
 drop-next : (n : ℕ) (xs : List (List ℕ)) → drop (suc n) xs ≡ without_first (drop n xs)
@@ -68,16 +68,16 @@ drop-more : (n : ℕ) (xs : List (List ℕ)) → drop (n + 1) xs ≡ without_fir
 drop-more n xs = ap (λ (i : ℕ). drop i xs) (add-one n) ∙ drop-next n xs
 
 -- the front one waits no longer
-pub received-waits : (log : Log) → unsettled (Called DatagramReceived ∷ log) ≡ without_first (unsettled log)
+pub received-waits : (log : Log) → unsettled_datagrams (Called DatagramReceived ∷ log) ≡ without_first (unsettled_datagrams log)
 received-waits log = drop-more (settled_datagrams (calls_of log)) (datagrams_of (events_of log))
 
-pub passed-waits : (log : Log) → unsettled (Called DatagramPassed ∷ log) ≡ without_first (unsettled log)
+pub passed-waits : (log : Log) → unsettled_datagrams (Called DatagramPassed ∷ log) ≡ without_first (unsettled_datagrams log)
 passed-waits log = drop-more (settled_datagrams (calls_of log)) (datagrams_of (events_of log))
 
 -- ---- the work
 
 module _ (side : Side) (log : Log) (m : Entry) (stage : ℕ → Stage) (may : MayFollow side log m) (can : MayUseBy side log m) (fits : Fits side log) (uses : Uses side log)
-    (f : TableFits side (stream_use side (m ∷ log)) (stream_table side log) stage) (d : DriverValue) (here : d.state ≡ after_entry (transport_view side log) m (state_of side log)) (waits : d.queue ≡ unsettled (m ∷ log)) where
+    (f : TableFits side (call_use side (m ∷ log)) (stream_table side log) stage) (d : DriverValue) (here : d.state ≡ after_entry (transport_view side log) m (state_of side log)) (waits : d.queue ≡ unsettled_datagrams (m ∷ log)) where
   -- what the transport told up to the entry
   abbrev u : TransportView
   u = transport_view side (m ∷ log)
@@ -126,7 +126,7 @@ module _ (side : Side) (log : Log) (m : Entry) (stage : ℕ → Stage) (may : Ma
 
   -- The scan, then what goes out.
   pub work-refines : (scanned last : DriverValue) (untaken later : List Action) → (is_moment m && is_open (m ∷ log)) ≡ true → Moves side (m ∷ log) untaken d scanned (scanned_stages u d.state stage) (scan_state u d.state) (settings_scanned u d.state d.settings)
-      → inboxes.Refines side last.inbox (with_actions (step_actions u scanned.state) (m ∷ log)) (scanned_stages u d.state stage) later → last.state ≡ flushed u scanned.state → last.queue ≡ scanned.queue → last.settings ≡ scanned.settings → KeepsSettings side log d.settings
+      → inboxes.Refines side last.inbox (with_actions (step_actions u scanned.state) (m ∷ log)) (scanned_stages u d.state stage) later → last.state ≡ state_after_flush u scanned.state → last.queue ≡ scanned.queue → last.settings ≡ scanned.settings → KeepsSettings side log d.settings
       → Refines side last (log_and_flush side log m) later
   unfolding flush
   work-refines scanned last untaken later moment moved r state queue settings k =
@@ -136,7 +136,7 @@ module _ (side : Side) (log : Log) (m : Entry) (stage : ℕ → Stage) (may : Ma
         stage = scanned_stages u d.state stage;
         inbox = subst (λ (acts : List Action). inboxes.Refines side last.inbox (with_actions acts (m ∷ log)) (scanned_stages u d.state stage) later) out r;
         staged = actions-staged side (pending_actions side (m ∷ log)) (m ∷ log) (scanned_stages u d.state stage) (rw moment at staged-so);
-        state_is = state ∙ ap (flushed u) same ∙ sym (sent_at_once u (state_of side (m ∷ log))) ∙ sym (flushed-state side (m ∷ log));
+        state_is = state ∙ ap (state_after_flush u) same ∙ sym (sent_at_once u (state_of side (m ∷ log))) ∙ sym (flushed-state side (m ∷ log));
         queue_is = queue ∙ moved.queue ∙ waits ∙ sym (unsettled-with (pending_actions side (m ∷ log)) (m ∷ log));
         settings =
             sent-keeps side (pending_actions side (m ∷ log)) (m ∷ log) last.settings

@@ -9,13 +9,13 @@ use Rattle.wt_driver_state.proofs.Moved.{open-is}
 use Rattle.wt_driver_state.proofs.SettingsKept.{idle-keeps}
 use Rattle.wt_driver_state.proofs.StageMoments.{late-staged}
 use Rattle.wt_driver_state.proofs.StageWork.{datagram-waits}
-use Rattle.wt_driver_state.specs.Arriving.{EventTaken, arrived}
-use Rattle.wt_spec.specs.Turns.{event_of, is_call}
+use Rattle.wt_driver_state.specs.Arriving.{EventTaken, after_arrival}
+use Rattle.wt_turn.specs.Turns.{event_of, is_call}
 use Rattle.wt_driver_state.specs.DriverValue.{DriverValue, with_state}
 use Rattle.wt_driver_state.specs.PeerSettings.{KeepsSettings}
 use Rattle.wt_driver_spec.specs.Asking.{SendFacts}
 use Rattle.wt_driver_spec.specs.Uses.{Uses}
-use Rattle.wt_driver_state.specs.Tie.{Follows, TakenIn, unsettled, untaken_since}
+use Rattle.wt_driver_state.specs.Tie.{Follows, TakenIn, unsettled_datagrams, untaken_since}
 use Rattle.wt_driver_spec.proofs.Following.{open-more}
 use Rattle.wt_driver_spec.proofs.RestMoments.{late-followed, open-says}
 use Rattle.wt_driver_spec.specs.DriverState.{DriverState, state_of}
@@ -56,7 +56,7 @@ event-sends side log e f = record {
 
 -- ---- what waits behind an event
 
-event-waits : (side : Side) (log : Log) (e : Event) → Uses side log → unsettled (Reported e ∷ log) ≡ with_datagram e (unsettled log)
+event-waits : (side : Side) (log : Log) (e : Event) → Uses side log → unsettled_datagrams (Reported e ∷ log) ≡ with_datagram e (unsettled_datagrams log)
 event-waits side log (Datagram piece) uses = datagram-waits side log piece uses
 event-waits side log _ uses = refl
 
@@ -212,19 +212,7 @@ same-some e f is = cc
 pub after-event-turn : (side : Side) (log : Log) (turn : Turn) (e : Event) → event_of turn ≡ Some e → log_after side log turn ≡ flush side (event_entry (is_open log) e ∷ log)
 after-event-turn side log (turns.Bytes id piece) e is = absurd cc
 after-event-turn side log (turns.Call call) e is = absurd cc
-after-event-turn side log turns.PeerUni e is = ap (λ (x : Event). flush side (event_entry (is_open log) x ∷ log)) (same-some _ e is)
-after-event-turn side log turns.PeerBi e is = ap (λ (x : Event). flush side (event_entry (is_open log) x ∷ log)) (same-some _ e is)
-after-event-turn side log (turns.Connected uni bi total datagrams) e is = ap (λ (x : Event). flush side (event_entry (is_open log) x ∷ log)) (same-some _ e is)
-after-event-turn side log (turns.End id) e is = ap (λ (x : Event). flush side (event_entry (is_open log) x ∷ log)) (same-some _ e is)
-after-event-turn side log (turns.Reset id code) e is = ap (λ (x : Event). flush side (event_entry (is_open log) x ∷ log)) (same-some _ e is)
-after-event-turn side log (turns.Stop id code) e is = ap (λ (x : Event). flush side (event_entry (is_open log) x ∷ log)) (same-some _ e is)
-after-event-turn side log (turns.Acked id) e is = ap (λ (x : Event). flush side (event_entry (is_open log) x ∷ log)) (same-some _ e is)
-after-event-turn side log (turns.Datagram piece) e is = ap (λ (x : Event). flush side (event_entry (is_open log) x ∷ log)) (same-some _ e is)
-after-event-turn side log (turns.MaxUni total) e is = ap (λ (x : Event). flush side (event_entry (is_open log) x ∷ log)) (same-some _ e is)
-after-event-turn side log (turns.MaxBi total) e is = ap (λ (x : Event). flush side (event_entry (is_open log) x ∷ log)) (same-some _ e is)
-after-event-turn side log (turns.MaxData id total) e is = ap (λ (x : Event). flush side (event_entry (is_open log) x ∷ log)) (same-some _ e is)
-after-event-turn side log (turns.DatagramLimit fact) e is = ap (λ (x : Event). flush side (event_entry (is_open log) x ∷ log)) (same-some _ e is)
-after-event-turn side log (turns.Loss reason) e is = ap (λ (x : Event). flush side (event_entry (is_open log) x ∷ log)) (same-some _ e is)
+after-event-turn side log _ e is = ap (λ (x : Event). flush side (event_entry (is_open log) x ∷ log)) (same-some _ e is)
 
 -- an event's moment, by whether the connection is open
 pub event-follows : (side : Side) (log : Log) (taken : ℕ) (turn : Turn) (e : Event) (d new : DriverValue) (r : Result (Unit {0}) OutOfMemory) → event_of turn ≡ Some e → EventTaken side log e d taken
@@ -255,27 +243,15 @@ byte-follows side log taken d f id byte mid new r x s q k work same = by (is_ope
 pub event-turn-log : (log : Log) (turn : Turn) (e : Event) → event_of turn ≡ Some e → log_turn log turn ≡ event_entry (is_open log) e ∷ log
 event-turn-log log (turns.Bytes id piece) e is = absurd cc
 event-turn-log log (turns.Call call) e is = absurd cc
-event-turn-log log turns.PeerUni e is = ap (λ (x : Event). event_entry (is_open log) x ∷ log) (same-some _ e is)
-event-turn-log log turns.PeerBi e is = ap (λ (x : Event). event_entry (is_open log) x ∷ log) (same-some _ e is)
-event-turn-log log (turns.Connected uni bi total datagrams) e is = ap (λ (x : Event). event_entry (is_open log) x ∷ log) (same-some _ e is)
-event-turn-log log (turns.End id) e is = ap (λ (x : Event). event_entry (is_open log) x ∷ log) (same-some _ e is)
-event-turn-log log (turns.Reset id code) e is = ap (λ (x : Event). event_entry (is_open log) x ∷ log) (same-some _ e is)
-event-turn-log log (turns.Stop id code) e is = ap (λ (x : Event). event_entry (is_open log) x ∷ log) (same-some _ e is)
-event-turn-log log (turns.Acked id) e is = ap (λ (x : Event). event_entry (is_open log) x ∷ log) (same-some _ e is)
-event-turn-log log (turns.Datagram piece) e is = ap (λ (x : Event). event_entry (is_open log) x ∷ log) (same-some _ e is)
-event-turn-log log (turns.MaxUni total) e is = ap (λ (x : Event). event_entry (is_open log) x ∷ log) (same-some _ e is)
-event-turn-log log (turns.MaxBi total) e is = ap (λ (x : Event). event_entry (is_open log) x ∷ log) (same-some _ e is)
-event-turn-log log (turns.MaxData id total) e is = ap (λ (x : Event). event_entry (is_open log) x ∷ log) (same-some _ e is)
-event-turn-log log (turns.DatagramLimit fact) e is = ap (λ (x : Event). event_entry (is_open log) x ∷ log) (same-some _ e is)
-event-turn-log log (turns.Loss reason) e is = ap (λ (x : Event). event_entry (is_open log) x ∷ log) (same-some _ e is)
+event-turn-log log _ e is = ap (λ (x : Event). event_entry (is_open log) x ∷ log) (same-some _ e is)
 
 -- an event was noted, then recorded
 pub event-noted : (side : Side) (log : Log) (taken : ℕ) (d : DriverValue) (f : Follows side d log taken) (turn : Turn) (e : Event) (mid new : DriverValue) → event_of turn ≡ Some e
-    → (is_open log ≡ true → mid ≡ arrived (transport_view side log) (event_of turn) d) → (d.state.is_open ≡ false → mid ≡ d)
+    → (is_open log ≡ true → mid ≡ after_arrival (transport_view side log) (event_of turn) d) → (d.state.is_open ≡ false → mid ≡ d)
     → inboxes.Refines side new.inbox (log_turn log turn) f.refines.stage (untaken_since taken log) → new.state ≡ record mid.state { is_open = new.inbox.transport.is_open } → new.queue ≡ mid.queue → new.settings ≡ mid.settings → EventTaken side log e new taken
 event-noted side log taken d f turn e mid new is here shut r s q k = record {
   counted = λ o.
-      let m : mid ≡ arrived (transport_view side log) (Some e) d = here o ∙ ap (λ (x : Option Event). arrived (transport_view side log) x d) is in
+      let m : mid ≡ after_arrival (transport_view side log) (Some e) d = here o ∙ ap (λ (x : Option Event). after_arrival (transport_view side log) x d) is in
       event-taken side log taken d f e new o (entered true o)
       (s ∙ (λ i. record (m i).state { is_open = new.inbox.transport.is_open }))
       (q ∙ ap (λ (v : DriverValue). v.queue) m) (k ∙ ap (λ (v : DriverValue). v.settings) m);
@@ -311,10 +287,10 @@ module _ (side : Side) (log : Log) (stage : ℕ → Stage) (untaken : List Actio
   bis-are : peer_bis_now d.inbox.transport ≡ (transport_view side log).bis
   bis-are = refined_peer_bis side d.inbox.transport log r.position untaken r.transport ∙ peer-bis-are side d.inbox log stage untaken r o
 
-  pub uni-arrives : with_state d (record d.state { unis = d.state.unis ++ new_slot (4 * peer_unis_now d.inbox.transport + peer_uni d.inbox.transport.side) ∷ [] }) ≡ arrived (transport_view side log) (Some PeerUni) d
+  pub uni-arrives : with_state d (record d.state { unis = d.state.unis ++ new_slot (4 * peer_unis_now d.inbox.transport + peer_uni d.inbox.transport.side) ∷ [] }) ≡ after_arrival (transport_view side log) (Some PeerUni) d
   uni-arrives = λ i. with_state d (record d.state { unis = d.state.unis ++ new_slot (4 * unis-are i + peer_uni (same-side i)) ∷ [] })
 
-  pub bi-arrives : with_state d (record d.state { bis = d.state.bis ++ new_slot (4 * peer_bis_now d.inbox.transport + peer_bi d.inbox.transport.side) ∷ [] }) ≡ arrived (transport_view side log) (Some PeerBi) d
+  pub bi-arrives : with_state d (record d.state { bis = d.state.bis ++ new_slot (4 * peer_bis_now d.inbox.transport + peer_bi d.inbox.transport.side) ∷ [] }) ≡ after_arrival (transport_view side log) (Some PeerBi) d
   bi-arrives = λ i. with_state d (record d.state { bis = d.state.bis ++ new_slot (4 * bis-are i + peer_bi (same-side i)) ∷ [] })
 
 -- ---- a turn by its kind
@@ -336,20 +312,7 @@ turn-follows side log taken d turn new r no-call no-bytes work = by (event_of tu
   where
     none : (t : Turn) → is_call t ≡ false → ((id : ℕ) (piece : List ℕ) → t ≡ turns.Bytes id piece → ⊥) → event_of t ≡ None → ⊥
     none (turns.Bytes id piece) a b e = b id piece refl
-    none (turns.Call call) a b e = cc
-    none turns.PeerUni a b e = cc
-    none turns.PeerBi a b e = cc
-    none (turns.Connected uni bi total datagrams) a b e = cc
-    none (turns.End id) a b e = cc
-    none (turns.Reset id code) a b e = cc
-    none (turns.Stop id code) a b e = cc
-    none (turns.Acked id) a b e = cc
-    none (turns.Datagram piece) a b e = cc
-    none (turns.MaxUni total) a b e = cc
-    none (turns.MaxBi total) a b e = cc
-    none (turns.MaxData id total) a b e = cc
-    none (turns.DatagramLimit fact) a b e = cc
-    none (turns.Loss reason) a b e = cc
+    none _ a b e = cc
 
     by : (x : Option Event) → event_of turn ≡ x → OnOk r (Follows side new (log_after side log turn) taken)
     by (Some e) is = work e is

@@ -17,7 +17,7 @@ use Rattle.wt_driver_spec.specs.Asking.{SendsWhileOpen}
 use Rattle.wt_driver_spec.proofs.Following.{entry-followed, scanned-out, sound}
 use Rattle.wt_driver_spec.proofs.RestMoments.{flushed-state, moment-rests-open, open-says, still-open}
 use Rattle.wt_driver_spec.proofs.Sending.{sent_at_once}
-use Rattle.wt_driver_spec.specs.AtOnce.{control_flushed, flushed}
+use Rattle.wt_driver_spec.specs.AtOnce.{control_flushed, state_after_flush}
 use Rattle.wt_driver_spec.specs.DriverState.{DriverState, state_of}
 use Rattle.wt_driver_spec.specs.Step.{scan_state, step_actions}
 use Rattle.wt_inbox.specs.Stage as inboxes
@@ -26,7 +26,7 @@ use Rattle.wt_seam.specs.State.{TransportState}
 use Rattle.wt_seam_spec.specs.Joined.{newest_first, send_of}
 use Rattle.wt_seam_spec.specs.Sent.{finishes, resets}
 use Rattle.wt_seam_spec.specs.Streams.{local_uni}
-use Rattle.wt_spec.specs.Driver.{ControlSent, actions_after, apply_if, close_actions, control_actions, control_sent, established, flush, is_moment, log_and_flush, opened_if, pending_actions, session_id, stop_actions, stream_table, transport_view}
+use Rattle.wt_spec.specs.Driver.{ControlSent, actions_after, apply_if, close_actions, control_actions, control_sent, established_session, flush, is_moment, log_and_flush, opened_if, pending_actions, session_id, stop_actions, stream_table, transport_view}
 use Rattle.wt_spec.specs.StreamTable.{Ending, Stopped, TransportView}
 use Rattle.wt_turn.specs.Log.{Entry, Log, Sent, actions_of, calls_of, is_open, with_actions}
 use Rattle.wt_turn.specs.declared.action.Action.{Action}
@@ -94,10 +94,10 @@ pending-spares side log none =
     let t = transport_view side log in
     let p = (stream_table side log).progress in
     let own = control_actions t.may_open k t.credit (control_sent side log) in
-    let ending = close_actions (session_id (established (calls_of log))) p.ending in
+    let ending = close_actions (session_id (established_session (calls_of log))) p.ending in
     spares-both k (own ++ stop_actions p.stops) ending
     (spares-both k own (stop_actions p.stops) (control-spares k t.may_open k t.credit (control_sent side log)) (stops-spare k p.stops))
-    (no-ending-spares k (session_id (established (calls_of log))) p.ending none)
+    (no-ending-spares k (session_id (established_session (calls_of log))) p.ending none)
 
 pub sends-with : (side : Side) (acts : List Action) (log : Log) → Spares (local_uni side) acts → SendFacts side log → SendFacts side (with_actions acts log)
 sends-with side [] log s f = f
@@ -185,13 +185,13 @@ module _ (side : Side) (log : Log) (m : Entry) (taken : ℕ) (d : DriverValue) (
           let inbox = subst (λ (xs : List Action). inboxes.Refines side last.inbox (with_actions xs (m ∷ log)) (scanned_stages u d.state in_.stage) (newest_first xs (untaken_since taken (m ∷ log)))) out f.inbox in
           let late : List Action = newest_first (step_actions u scanned.state) (untaken_since taken (m ∷ log)) in
           let pending : step_actions u scanned.state ≡ acts = ap (step_actions u) scanned-state ∙ sym (scanned-out side (m ∷ log)) in
-          let whole : is_open (with_actions (step_actions u scanned.state) (m ∷ log)) ≡ (flushed u scanned.state).is_open =
+          let whole : is_open (with_actions (step_actions u scanned.state) (m ∷ log)) ≡ (state_after_flush u scanned.state).is_open =
           ap (λ (xs : List Action). is_open (with_actions xs (m ∷ log))) pending
           ∙ open-says side (with_actions acts (m ∷ log))
-          ∙ ap (λ (s : DriverState). s.is_open) (flushed-state side (m ∷ log) ∙ sent_at_once u (state_of side (m ∷ log)) ∙ ap (flushed u) (sym scanned-state)) in
-          let stands : last.state.is_open ≡ (flushed u scanned.state).is_open = opens ∙ ap (λ (t : TransportState). t.is_open) inbox.transport.state ∙ whole in
-          let own : last.state.control_sent ≡ (flushed u scanned.state).control_sent = f.control_is ∙ ap (control_flushed u.may_open u.credit) flush-control in
-          let state : last.state ≡ flushed u scanned.state = rest ∙ (λ i. record scanned.state { control_sent = own i; is_open = stands i }) in
+          ∙ ap (λ (s : DriverState). s.is_open) (flushed-state side (m ∷ log) ∙ sent_at_once u (state_of side (m ∷ log)) ∙ ap (state_after_flush u) (sym scanned-state)) in
+          let stands : last.state.is_open ≡ (state_after_flush u scanned.state).is_open = opens ∙ ap (λ (t : TransportState). t.is_open) inbox.transport.state ∙ whole in
+          let own : last.state.control_sent ≡ (state_after_flush u scanned.state).control_sent = f.control_is ∙ ap (control_flushed u.may_open u.credit) flush-control in
+          let state : last.state ≡ state_after_flush u scanned.state = rest ∙ (λ i. record scanned.state { control_sent = own i; is_open = stands i }) in
           let refined = work-refines side log m in_.stage in_.may in_.can in_.fits in_.uses in_.fit d in_.state_is in_.queue_is scanned last (untaken_since taken (m ∷ log)) late moment moved inbox state queue settings in_.settings in
           record {
             refines = subst (Refines side last (log_and_flush side log m)) (ap (λ (xs : List Action). newest_first xs (untaken_since taken (m ∷ log))) pending ∙ sym (rw moment (untaken-with taken acts (m ∷ log) in_.within))) refined;

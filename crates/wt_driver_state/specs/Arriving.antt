@@ -10,9 +10,9 @@ use Rattle.wt_turn.specs.Log.{Event, Log, Reported, ReportedLate, is_open}
 use Rattle.wt_wire.specs.declared.side.Side.{Side}
 
 -- a driver that noted what an event brings: a stream's slot, a datagram
-abbrev pub arrived : TransportView → Option Event → DriverValue → DriverValue
-arrived t None d = d
-arrived t (Some e) d = record d { state = with_arrival t e d.state; queue = with_datagram e d.queue }
+abbrev pub after_arrival : TransportView → Option Event → DriverValue → DriverValue
+after_arrival t None d = d
+after_arrival t (Some e) d = record d { state = with_arrival t e d.state; queue = with_datagram e d.queue }
 
 -- A driver took in an event: its moment's work is to be done, or it came after the end, and that is all.
 pub record EventTaken (side : Side) (log : Log) (e : Event) (d : DriverValue) (taken : ℕ) : Type 0 where

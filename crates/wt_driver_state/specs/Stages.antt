@@ -1,11 +1,11 @@
 -- At which stage of its reading each stream is after a log: what the driver does with a stream says of it.
 use Rattle.std.specs.Prelude.{[], ◌&&◌, drop, ◌+◌, ◌==◌, ◌||◌, ◌∷◌, ◌≡◌, Bool, None, Option, Some, false, not, true, ℕ}
 use Rattle.wt_scan.specs.Scanning.{scan_stages, unless_given_up}
-use Rattle.wt_dispatch.specs.Rules.{is_given_up}
+use Rattle.wt_dispatch.specs.Rules.{reads_no_more}
 use Rattle.wt_dispatch.specs.declared.slot.Half.{Half}
 use Rattle.wt_dispatch.specs.declared.slot.Half.TheVariants.{Bi, Uni}
 use Rattle.wt_driver_spec.specs.DriverState.{DriverState}
-use Rattle.wt_driver_spec.specs.Moment.{is_local, scans}
+use Rattle.wt_driver_spec.specs.Moment.{has_local_kind, scans}
 use Rattle.wt_driver_spec.specs.Uses.{CallUse, ForRequest, OfLocalBi, OfLocalUni, OfPeerBi, OfPeerUni, StreamRole, classified_of, role_of, use_of}
 use Rattle.wt_driver_spec.specs.Step.{after_entry, begin_scan, known_of, scan_bi_slots, scan_uni_slots}
 use Rattle.wt_inbox.specs.Stage.{Anywhere, Body, ControlBody, GivenUp, SessionBody, Stage, awaits_bi, awaits_response, awaits_uni, body_offset, control_offset, session_offset, stage_from, with_stage}
@@ -14,7 +14,7 @@ use Rattle.wt_proto.specs.declared.verdict.Verdict.{Verdict}
 use Rattle.wt_seam_spec.specs.Streams.{can_receive}
 use Rattle.wt_spec.specs.Driver.{apply_if, stream_table}
 use Rattle.wt_spec.specs.Scan.{bi_rule, check_datagram, check_session, critical_if, uni_rule, unless_ended}
-use Rattle.wt_spec.specs.StreamTable.{Classified, Ending, Progress, StreamTable, TransportView, is_request}
+use Rattle.wt_spec.specs.StreamTable.{Classified, Ending, DriverProgress, StreamTable, TransportView, is_request}
 use Rattle.wt_turn.specs.Log.{BytesRead, CallRecord, Called, Entry, Log, SessionEstablished, StreamGivenUp, StreamPassed, calls_of}
 use Rattle.wt_wire.specs.declared.side.Side.{Side}
 use Rattle.wt_wire.specs.declared.side.Side.TheVariants.{Client, Server}
@@ -29,7 +29,7 @@ peer_role Bi = OfPeerBi
 
 -- the stream has a receiving half, or its id is one of the peer's, opened or not (a call of a run gives up only what the application has)
 abbrev pub is_there : Side → Log → ℕ → Bool
-is_there side log k = not (is_local side k) || can_receive side log k
+is_there side log k = not (has_local_kind side k) || can_receive side log k
 
 -- the call lets the stream go: it passes it, or gives it up where it is there
 abbrev pub lets_go : Side → Log → CallRecord → ℕ → Bool
@@ -44,8 +44,8 @@ is_let_go side (Called r ∷ log) k = lets_go side log r k || is_let_go side log
 is_let_go side (_ ∷ log) k = is_let_go side log k
 
 -- what the calls of a log did to a stream: it is dropped once a call let it go
-abbrev pub stream_use : Side → Log → ℕ → CallUse
-stream_use side log k = record (use_of k (calls_of log)) { is_dropped = is_let_go side log k }
+abbrev pub call_use : Side → Log → ℕ → CallUse
+call_use side log k = record (use_of k (calls_of log)) { is_dropped = is_let_go side log k }
 
 -- ---- what is said of a stage
 
@@ -91,7 +91,7 @@ ClassifiedSays surplus _ done ending stage = Unit {0}
 -- nothing is kept of a stream that is classified so: dropped, refused, of QPACK, or a surplus request
 abbrev pub is_unwanted : Option Classified → Bool
 is_unwanted None = false
-is_unwanted (Some c) = is_given_up c.verdict || (is_request c.verdict && c.surplus)
+is_unwanted (Some c) = reads_no_more c.verdict || (is_request c.verdict && c.surplus)
 
 -- of any stream
 abbrev pub StageSays : StreamRole → CallUse → Option Ending → Option Classified → Stage → Type 0
@@ -108,14 +108,14 @@ TableFits side did table stage = (k : ℕ) → StageFits side did table k (stage
 
 -- each stream is at its stage after the log
 abbrev pub StagesFit : Side → Log → (ℕ → Stage) → Type 0
-StagesFit side log stage = TableFits side (stream_use side log) (stream_table side log) stage
+StagesFit side log stage = TableFits side (call_use side log) (stream_table side log) stage
 
 -- ---- the stages after an entry and its moment
 
 -- so many bytes more
-abbrev pub read_on : ℕ → Option ℕ → Option ℕ
-read_on count None = None
-read_on count (Some offset) = Some (offset + count)
+abbrev pub offset_plus : ℕ → Option ℕ → Option ℕ
+offset_plus count None = None
+offset_plus count (Some offset) = Some (offset + count)
 
 -- the stages once a session is established: a client reads on behind the response
 abbrev pub established_stages : Side → ℕ → ℕ → (ℕ → Stage) → ℕ → Stage
@@ -125,7 +125,7 @@ established_stages Server id at stage = stage
 -- the stage of a stream of which so many bytes more are read: one that is given up stays so
 abbrev pub read_stage : ℕ → Stage → Stage
 read_stage count GivenUp = GivenUp
-read_stage count stage = stage_from (read_on count (body_offset stage))
+read_stage count stage = stage_from (offset_plus count (body_offset stage))
 
 -- the stages after a call, by the log before it: it reads on, lets the rest go, or establishes the session
 abbrev pub called_stages : Side → Log → CallRecord → (ℕ → Stage) → ℕ → Stage
@@ -165,11 +165,11 @@ control_stages None stage = stage
 control_stages (Some c) stage = with_stage stage c.0 (ControlBody c.1)
 
 -- what is known after the check of the datagrams
-abbrev pub datagram_checked : TransportView → ℕ → Progress → Progress
+abbrev pub datagram_checked : TransportView → ℕ → DriverProgress → DriverProgress
 datagram_checked t settled p = unless_ended p.ending (λ q. check_datagram (t.ready && settled == q.datagrams) t q) p
 
 -- then of the session, and of this end's control stream
-abbrev pub session_checked : TransportView → Option (ℕ × ℕ) → Progress → Progress
+abbrev pub session_checked : TransportView → Option (ℕ × ℕ) → DriverProgress → DriverProgress
 session_checked t session p =
     let q = unless_ended p.ending (check_session t session) p in
     unless_ended q.ending (critical_if t.control_stopped) q

@@ -3,7 +3,7 @@ use Rattle.std.specs.Prelude.{◌-◌, ◌≡◌, ◌≤◌, ◌∷◌, List, dr
 use Rattle.wt_driver_state.specs.DriverValue.{DriverValue}
 use Rattle.wt_driver_state.specs.PeerSettings.{KeepsSettings}
 use Rattle.wt_driver_spec.specs.Asking.{SendsWhileOpen}
-use Rattle.wt_driver_state.specs.Stages.{StagesFit, TableFits, stream_use}
+use Rattle.wt_driver_state.specs.Stages.{StagesFit, TableFits, call_use}
 use Rattle.wt_driver_spec.specs.Uses.{MayUseBy, Uses}
 use Rattle.wt_driver_spec.specs.DriverState.{state_of}
 use Rattle.wt_driver_spec.specs.Moment.{Fits, MayFollow}
@@ -18,8 +18,8 @@ use Rattle.wt_turn.specs.declared.action.Action.{Action}
 use Rattle.wt_wire.specs.declared.side.Side.{Side}
 
 -- the datagrams that came and that no call settled, the oldest first
-abbrev pub unsettled : Log → List (List ℕ)
-unsettled log = drop (settled_datagrams (calls_of log)) (datagrams_of (events_of log))
+abbrev pub unsettled_datagrams : Log → List (List ℕ)
+unsettled_datagrams log = drop (settled_datagrams (calls_of log)) (datagrams_of (events_of log))
 
 -- A driver refines a log, with these actions not taken yet, the newest first: its inbox does at stages that fit the log,
 -- it keeps the state of the log and the peer's SETTINGS, and the datagrams that aren't settled wait.
@@ -28,7 +28,7 @@ pub record Refines (side : Side) (d : DriverValue) (log : Log) (untaken : List A
   pub inbox : inboxes.Refines side d.inbox log stage untaken
   pub staged : StagesFit side log stage
   pub state_is : d.state ≡ state_of side log
-  pub queue_is : d.queue ≡ unsettled log
+  pub queue_is : d.queue ≡ unsettled_datagrams log
   pub settings : KeepsSettings side log d.settings
   pub fits : Fits side log
   pub uses : Uses side log
@@ -49,9 +49,9 @@ pub record Follows (side : Side) (d : DriverValue) (log : Log) (taken : ℕ) : T
 pub record TakenIn (side : Side) (log : Log) (m : Entry) (d : DriverValue) (taken : ℕ) : Type 0 where
   pub stage : ℕ → Stage
   pub inbox : inboxes.Refines side d.inbox (m ∷ log) stage (untaken_since taken (m ∷ log))
-  pub fit : TableFits side (stream_use side (m ∷ log)) (stream_table side log) stage
+  pub fit : TableFits side (call_use side (m ∷ log)) (stream_table side log) stage
   pub state_is : d.state ≡ after_entry (transport_view side log) m (state_of side log)
-  pub queue_is : d.queue ≡ unsettled (m ∷ log)
+  pub queue_is : d.queue ≡ unsettled_datagrams (m ∷ log)
   pub settings : KeepsSettings side log d.settings
   pub within : taken ≤ length (actions_of (m ∷ log))
   pub moment : is_moment m ≡ true

@@ -6,9 +6,9 @@ use Rattle.std.proofs.lemmas.Bool.{and_parts, lt-ltb, ltb-true}
 use Rattle.wt_flush.proofs.Flushed.{receive-later}
 use Rattle.wt_flush.specs.Flushing.{CanReset, CanStop, MayFlush}
 use Rattle.wt_driver_spec.specs.Asking.{SendFacts}
+use Rattle.wt_driver_spec.proofs.Fair.{EndsFairly, ends-fairly}
 use Rattle.wt_driver_spec.proofs.Following.{open-more}
 use Rattle.wt_driver_spec.specs.Step.{with_no_stops}
-use Rattle.wt_wire.specs.declared.error.ErrorCode.TheVariants as h3
 use Rattle.wt_driver_spec.proofs.StreamIds.{bi-low, uni-low}
 use Rattle.wt_driver_spec.specs.DriverState.{state_of}
 use Rattle.wt_driver_spec.specs.Rest.{AtRest, RestsWhileOpen}
@@ -19,13 +19,14 @@ use Rattle.wt_proto.specs.SessionWalk.{session_walk_of}
 use Rattle.wt_proto.specs.declared.session_walk.SessionWalk.{SessionWalk}
 use Rattle.wt_proto.specs.declared.session_walk.SessionWalk.TheVariants as walks
 use Rattle.wt_message.specs.Datagram.{datagram_of}
+use Rattle.wt_seam_spec.proofs.PeerStreams.{events-among}
 use Rattle.wt_seam_spec.specs.Reports.{is_running}
 use Rattle.wt_wire.specs.declared.error.ErrorCode.{ErrorCode}
 use Rattle.wt_seam_spec.specs.Reports.{stop_of}
 use Rattle.wt_seam_spec.specs.Streams.{can_receive, can_send, exists, local_count, local_uni, one_more_if, peer_bi, peer_count, peer_opens, peer_uni}
-use Rattle.wt_spec.specs.Driver.{apply_if, call_view, close_actions, control_actions, control_sent, established, is_moment, reset_if, session_id, stream_table, transport_view}
-use Rattle.wt_spec.specs.Scan.{Scan, SlotRule, bi_ids, bi_rule, check_control, check_datagram, check_qpack, check_session, checks, classify, critical_if, dequeued_datagram, fault_ending, parsed_datagram, session_ends, with_consequence, with_dequeued, with_fault, dequeue, has, in_order, listed, scan, scan_bis, scan_order, scan_unis, stream_ids, uni_ids, uni_rule, unless_ended, visit, without_stops}
-use Rattle.wt_spec.specs.StreamTable.{ByFault, BySession, CallView, Classified, Dispatched, Ending, Progress, Stopped, StreamTable, TransportView, bi_consequence, dispatched, only_once, queued_behind, uni_consequence, verdict_of}
+use Rattle.wt_spec.specs.Driver.{apply_if, call_view, close_actions, control_actions, control_sent, established_session, is_moment, reset_if, session_id, stream_table, transport_view}
+use Rattle.wt_spec.specs.Scan.{Scan, SlotRule, bi_ids, bi_rule, check_control, check_datagram, check_qpack, check_session, checks, classify, critical_if, dequeued_datagram, parsed_datagram, session_ends, with_consequence, with_dequeued, with_fault, dequeue, has, in_order, stop_list, scan, scan_bis, scan_order, scan_unis, stream_ids, uni_ids, uni_rule, unless_ended, visit, without_stops}
+use Rattle.wt_spec.specs.StreamTable.{ByFault, BySession, CallView, Classified, Dispatched, Ending, DriverProgress, Stopped, StreamTable, TransportView, bi_consequence, dispatched_streams, only_once, queued_behind, uni_consequence, verdict_of}
 use Rattle.wt_turn.specs.Log.{Called, Entry, Log, Received, Reported, ReportedLate, Sent, Stop, ends_by, actions_of, all_events_of, calls_of, events_of, is_open}
 use Rattle.wt_turn.specs.declared.action.Action.{Action}
 use Rattle.wt_wire.specs.declared.side.Side.{Side}
@@ -33,23 +34,6 @@ use Rattle.wt_wire.specs.declared.side.Side.TheVariants.{Client, Server}
 use Rattle.wt_proto.specs.declared.verdict.Verdict.TheVariants as verdicts
 
 -- ---- streams stay
-
-more-than : (b : Bool) (n m : ℕ) → n ≤ m → n ≤ one_more_if b m
-more-than true n m le = omega arith
-more-than false n m le = le
-
-both-more : (b : Bool) (n m : ℕ) → n ≤ m → one_more_if b n ≤ one_more_if b m
-both-more true n m le = omega arith
-both-more false n m le = le
-
--- what came while the connection was open is among all that came
-events-among : (side : Side) (kind : ℕ) (log : Log) → peer_count side (events_of log) kind ≤ peer_count side (all_events_of log) kind
-events-among side kind [] = omega arith
-events-among side kind (Reported e ∷ log) = both-more (peer_opens side kind e) (peer_count side (events_of log) kind) (peer_count side (all_events_of log) kind) (events-among side kind log)
-events-among side kind (ReportedLate e ∷ log) = more-than (peer_opens side kind e) (peer_count side (events_of log) kind) (peer_count side (all_events_of log) kind) (events-among side kind log)
-events-among side kind (Received id byte ∷ log) = events-among side kind log
-events-among side kind (Sent a ∷ log) = events-among side kind log
-events-among side kind (Called r ∷ log) = events-among side kind log
 
 pub counts-more : (b : Bool) (k p n : ℕ) → nat_lt k (p + n) ≡ true → nat_lt k (one_more_if b p + n) ≡ true
 counts-more true k p n e = lt-ltb k ((p + 1) + n) (let l = ltb-true k (p + n) e in omega arith)
@@ -107,10 +91,10 @@ module _ (side : Side) (log : Log) (kind : ℕ) (low : kind < 4) (peers : (local
 
 -- ---- what holds of the progress, whatever is scanned
 
-module _ (side : Side) (log : Log) (holds : Progress → Type 0) (ready : Bool) (calls : CallView) (rule : SlotRule) (noted : (d : Dispatched) (k : ℕ) (v : Verdict) (p : Progress) → can_receive side log k ≡ true → holds p → holds (with_consequence (rule.consequence d k v) p)) where
+module _ (side : Side) (log : Log) (holds : DriverProgress → Type 0) (ready : Bool) (calls : CallView) (rule : SlotRule) (noted : (d : Dispatched) (k : ℕ) (v : Verdict) (p : DriverProgress) → can_receive side log k ≡ true → holds p → holds (with_consequence (rule.consequence d k v) p)) where
   classified-holds : (b : Bool) (k : ℕ) (s : Scan) → can_receive side log k ≡ true → holds s.table.progress → holds (classify b calls rule k s).table.progress
   classified-holds false k s r c = c
-  classified-holds true k s r c = noted (dispatched calls s.table.classified) k (rule.verdict k) s.table.progress r c
+  classified-holds true k s r c = noted (dispatched_streams calls s.table.classified) k (rule.verdict k) s.table.progress r c
 
   dequeued-holds : (b : Bool) (k : ℕ) (s : Scan) → can_receive side log k ≡ true → holds s.table.progress → holds (dequeue b calls rule k s).table.progress
   dequeued-holds false k s r c = c
@@ -131,31 +115,31 @@ module _ (side : Side) (log : Log) (holds : Progress → Type 0) (ready : Bool) 
       (scanned-holds ks (visit ready calls rule k (verdict_of k s.table.classified) s) r.1 (visited-holds (verdict_of k s.table.classified) k s r.0 c))
 
 -- each of these checks keeps it
-abbrev AllKeep : (Progress → Type 0) → List (Progress → Progress) → Type 0
+abbrev AllKeep : (DriverProgress → Type 0) → List (DriverProgress → DriverProgress) → Type 0
 AllKeep holds [] = Unit {0}
-AllKeep holds (check ∷ later) = ((p : Progress) → holds p → holds (check p)) × AllKeep holds later
+AllKeep holds (check ∷ later) = ((p : DriverProgress) → holds p → holds (check p)) × AllKeep holds later
 
-module _ (holds : Progress → Type 0) where
-  unless-kept : (o : Option Ending) (check : Progress → Progress) (p : Progress) → ((p : Progress) → holds p → holds (check p)) → holds p → holds (unless_ended o check p)
+module _ (holds : DriverProgress → Type 0) where
+  unless-kept : (o : Option Ending) (check : DriverProgress → DriverProgress) (p : DriverProgress) → ((p : DriverProgress) → holds p → holds (check p)) → holds p → holds (unless_ended o check p)
   unless-kept None check p k h = k p h
   unless-kept (Some e) check p k h = h
 
-  in-order-holds : (cs : List (Progress → Progress)) (p : Progress) → AllKeep holds cs → holds p → holds (in_order cs p)
+  in-order-holds : (cs : List (DriverProgress → DriverProgress)) (p : DriverProgress) → AllKeep holds cs → holds p → holds (in_order cs p)
   in-order-holds [] p k h = h
   in-order-holds (check ∷ later) p k h = in-order-holds later (unless_ended p.ending check p) k.1 (unless-kept p.ending check p k.0 h)
 
 -- what a whole scan keeps
-module _ (side : Side) (log : Log) (holds : Progress → Type 0) (calls : CallView) (table : StreamTable)
-    (unis : (d : Dispatched) (k : ℕ) (v : Verdict) (p : Progress) → can_receive side log k ≡ true → holds p → holds (with_consequence (uni_consequence d k v) p))
-    (bis : (d : Dispatched) (k : ℕ) (v : Verdict) (p : Progress) → can_receive side log k ≡ true → holds p → holds (with_consequence (bi_consequence d k v) p))
+module _ (side : Side) (log : Log) (holds : DriverProgress → Type 0) (calls : CallView) (table : StreamTable)
+    (unis : (d : Dispatched) (k : ℕ) (v : Verdict) (p : DriverProgress) → can_receive side log k ≡ true → holds p → holds (with_consequence (uni_consequence d k v) p))
+    (bis : (d : Dispatched) (k : ℕ) (v : Verdict) (p : DriverProgress) → can_receive side log k ≡ true → holds p → holds (with_consequence (bi_consequence d k v) p))
     (kept : (d : Dispatched) → AllKeep holds (checks (transport_view side log) calls d)) (begins : holds (without_stops table).progress) where
   pub moment-holds : holds (scan_order (transport_view side log) calls table).progress
   moment-holds =
       let t = transport_view side log in
       let first = scanned-holds side log holds t.ready calls (uni_rule t) unis (uni_ids t) (record { occupied = 0; table = without_stops table }) (ids-receive side log (peer_uni side) (uni-low side) (not-uni side) 0 t.unis (omega arith)) begins in
       let second = scanned-holds side log holds t.ready calls (bi_rule t) bis (bi_ids t) (record { occupied = 0; table = scan_unis t calls (without_stops table) }) (ids-receive side log (peer_bi side) (bi-low side) (not-bi side) 0 t.bis (omega arith)) first in
-      in-order-holds holds (checks t calls (dispatched calls (scan_bis t calls (scan_unis t calls (without_stops table))).classified)) (scan_bis t calls (scan_unis t calls (without_stops table))).progress
-      (kept (dispatched calls (scan_bis t calls (scan_unis t calls (without_stops table))).classified)) second
+      in-order-holds holds (checks t calls (dispatched_streams calls (scan_bis t calls (scan_unis t calls (without_stops table))).classified)) (scan_bis t calls (scan_unis t calls (without_stops table))).progress
+      (kept (dispatched_streams calls (scan_bis t calls (scan_unis t calls (without_stops table))).classified)) second
 
 -- ---- the stops
 
@@ -170,21 +154,21 @@ uni-stops d k (verdicts.Encoder at) = once-stops d.encoder
 uni-stops d k (verdicts.Decoder at) = once-stops d.decoder
 uni-stops d k _ = refl
 
-bi-itself : (side : Side) (log : Log) (d : Dispatched) (k : ℕ) (v : Verdict) → can_receive side log k ≡ true → CanStop side log (listed (bi_consequence d k v).stop)
+bi-itself : (side : Side) (log : Log) (d : Dispatched) (k : ℕ) (v : Verdict) → can_receive side log k ≡ true → CanStop side log (stop_list (bi_consequence d k v).stop)
 bi-itself side log d k (verdicts.Refused code) r = (r, tt)
 bi-itself side log d k (verdicts.Request headers at) r = by d.requests
   where
-    by : (cs : List Classified) → CanStop side log (listed (queued_behind cs k).stop)
+    by : (cs : List Classified) → CanStop side log (stop_list (queued_behind cs k).stop)
     by [] = tt
     by (c ∷ cs) = (r, tt)
 bi-itself side log d k _ r = tt
 
 -- the checks leave the stops
-datagram-stops : (b : Bool) (t : TransportView) (p : Progress) → (check_datagram b t p).stops ≡ p.stops
+datagram-stops : (b : Bool) (t : TransportView) (p : DriverProgress) → (check_datagram b t p).stops ≡ p.stops
 datagram-stops false t p = refl
 datagram-stops true t p = by (t.datagram p.datagrams)
   where
-    parsed : (r : Result (ℕ × List ℕ) ErrorCode) (q : Progress) → (parsed_datagram r q).stops ≡ q.stops
+    parsed : (r : Result (ℕ × List ℕ) ErrorCode) (q : DriverProgress) → (parsed_datagram r q).stops ≡ q.stops
     parsed (Ok d) q = refl
     parsed (Err code) q = refl
 
@@ -192,28 +176,28 @@ datagram-stops true t p = by (t.datagram p.datagrams)
     by None = refl
     by (Some piece) = parsed (datagram_of piece) (record p { datagrams = suc p.datagrams })
 
-ends-stops : (w : SessionWalk) (b : Bool) (p : Progress) → (session_ends w b p).stops ≡ p.stops
+ends-stops : (w : SessionWalk) (b : Bool) (p : DriverProgress) → (session_ends w b p).stops ≡ p.stops
 ends-stops walks.Running b p = refl
 ends-stops (walks.Closed code reason) b p = refl
 ends-stops (walks.Fault code) b p = refl
 
-session-stops : (t : TransportView) (o : Option (ℕ × ℕ)) (p : Progress) → (check_session t o p).stops ≡ p.stops
+session-stops : (t : TransportView) (o : Option (ℕ × ℕ)) (p : DriverProgress) → (check_session t o p).stops ≡ p.stops
 session-stops t None p = refl
 session-stops t (Some s) p = ends-stops (session_walk_of (drop s.1 (t.contents s.0)) (t.end s.0)) _ p
 
-critical-stops : (b : Bool) (p : Progress) → (critical_if b p).stops ≡ p.stops
+critical-stops : (b : Bool) (p : DriverProgress) → (critical_if b p).stops ≡ p.stops
 critical-stops false p = refl
 critical-stops true p = refl
 
-fault-stops : (o : Option ErrorCode) (p : Progress) → (with_fault o p).stops ≡ p.stops
+fault-stops : (o : Option ErrorCode) (p : DriverProgress) → (with_fault o p).stops ≡ p.stops
 fault-stops None p = refl
 fault-stops (Some code) p = refl
 
-control-stops : (t : TransportView) (o : Option (ℕ × ℕ)) (p : Progress) → (check_control t o p).stops ≡ p.stops
+control-stops : (t : TransportView) (o : Option (ℕ × ℕ)) (p : DriverProgress) → (check_control t o p).stops ≡ p.stops
 control-stops t None p = refl
 control-stops t (Some c) p = fault-stops (control_walk_of (drop c.1 (t.contents c.0)) (t.end c.0)).fault _
 
-qpack-stops : (t : TransportView) (o : Option (ℕ × ℕ)) (p : Progress) → (check_qpack t o p).stops ≡ p.stops
+qpack-stops : (t : TransportView) (o : Option (ℕ × ℕ)) (p : DriverProgress) → (check_qpack t o p).stops ≡ p.stops
 qpack-stops t None p = refl
 qpack-stops t (Some c) p = critical-stops (not (is_running (t.end c.0))) p
 
@@ -221,8 +205,8 @@ qpack-stops t (Some c) p = critical-stops (not (is_running (t.end c.0))) p
 moment-stops : (side : Side) (log : Log) (calls : CallView) (table : StreamTable) → CanStop side log (scan_order (transport_view side log) calls table).progress.stops
 moment-stops side log calls table =
     moment-holds side log (λ p. CanStop side log p.stops) calls table
-    (λ d k v p r c. stops-join side log p.stops (listed (uni_consequence d k v).stop) c (subst (λ (o : Option Stopped). CanStop side log (listed o)) (sym (uni-stops d k v)) tt))
-    (λ d k v p r c. stops-join side log p.stops (listed (bi_consequence d k v).stop) c (bi-itself side log d k v r))
+    (λ d k v p r c. stops-join side log p.stops (stop_list (uni_consequence d k v).stop) c (subst (λ (o : Option Stopped). CanStop side log (stop_list o)) (sym (uni-stops d k v)) tt))
+    (λ d k v p r c. stops-join side log p.stops (stop_list (bi_consequence d k v).stop) c (bi-itself side log d k v r))
     (λ d. (
       (λ p c. to p (datagram-stops ((transport_view side log).ready && calls.datagrams == p.datagrams) (transport_view side log) p) c),
       (
@@ -244,7 +228,7 @@ moment-stops side log calls table =
     ))
     tt
   where
-    to : {xs : List Stopped} (p : Progress) → xs ≡ p.stops → CanStop side log p.stops → CanStop side log xs
+    to : {xs : List Stopped} (p : DriverProgress) → xs ≡ p.stops → CanStop side log p.stops → CanStop side log xs
     to p e c = subst (λ (ys : List Stopped). CanStop side log ys) (sym e) c
 
 -- and so it is after each log
@@ -259,90 +243,10 @@ stops-stand side (e ∷ log) = by (is_moment e && is_open (e ∷ log)) (stops-st
 
 -- ---- the session's end
 
--- a session ends the connection only where one is established
-abbrev EndsFairly : Option (ℕ × ℕ) → Option Ending → Type 0
-EndsFairly None (Some (BySession code reason by_capsule)) = ⊥
-EndsFairly session ending = Unit {0}
-
-fair-fault : (session : Option (ℕ × ℕ)) (o : Option ErrorCode) → EndsFairly session (fault_ending o)
-fair-fault None None = tt
-fair-fault None (Some code) = tt
-fair-fault (Some s) None = tt
-fair-fault (Some s) (Some code) = tt
-
-fair-by : (session : Option (ℕ × ℕ)) (code : ErrorCode) → EndsFairly session (Some (ByFault code))
-fair-by None code = tt
-fair-by (Some s) code = tt
-
-fair-datagram : (session : Option (ℕ × ℕ)) (b : Bool) (t : TransportView) (p : Progress) → EndsFairly session p.ending → EndsFairly session (check_datagram b t p).ending
-fair-datagram session false t p f = f
-fair-datagram session true t p f = by (t.datagram p.datagrams)
-  where
-    parsed : (r : Result (ℕ × List ℕ) ErrorCode) (q : Progress) → EndsFairly session q.ending → EndsFairly session (parsed_datagram r q).ending
-    parsed (Ok d) q f = f
-    parsed (Err code) q f = fair-by session code
-
-    by : (o : Option (List ℕ)) → EndsFairly session (dequeued_datagram o p).ending
-    by None = f
-    by (Some piece) = parsed (datagram_of piece) (record p { datagrams = suc p.datagrams }) f
-
-fair-session : (t : TransportView) (session : Option (ℕ × ℕ)) (p : Progress) → EndsFairly session p.ending → EndsFairly session (check_session t session p).ending
-fair-session t None p f = f
-fair-session t (Some s) p f = tt
-
-fair-critical : (session : Option (ℕ × ℕ)) (b : Bool) (p : Progress) → EndsFairly session p.ending → EndsFairly session (critical_if b p).ending
-fair-critical session false p f = f
-fair-critical session true p f = fair-by session h3.ClosedCriticalStream
-
-fair-control : (session : Option (ℕ × ℕ)) (t : TransportView) (o : Option (ℕ × ℕ)) (p : Progress) → EndsFairly session p.ending → EndsFairly session (check_control t o p).ending
-fair-control session t None p f = f
-fair-control session t (Some c) p f = by (control_walk_of (drop c.1 (t.contents c.0)) (t.end c.0)).fault _ f
-  where
-    by : (o : Option ErrorCode) (q : Progress) → EndsFairly session q.ending → EndsFairly session (with_fault o q).ending
-    by None q f = f
-    by (Some code) q f = fair-by session code
-
-fair-qpack : (session : Option (ℕ × ℕ)) (t : TransportView) (o : Option (ℕ × ℕ)) (p : Progress) → EndsFairly session p.ending → EndsFairly session (check_qpack t o p).ending
-fair-qpack session t None p f = f
-fair-qpack session t (Some c) p f = fair-critical session (not (is_running (t.end c.0))) p f
-
-moment-fair : (side : Side) (log : Log) (calls : CallView) (table : StreamTable) → EndsFairly calls.session table.progress.ending → EndsFairly calls.session (scan_order (transport_view side log) calls table).progress.ending
-moment-fair side log calls table f =
-    moment-holds side log (λ p. EndsFairly calls.session p.ending) calls table
-    (λ d k v p r c. fair-fault calls.session (uni_consequence d k v).fault)
-    (λ d k v p r c. fair-fault calls.session (bi_consequence d k v).fault)
-    (λ d. (
-      (λ p c. fair-datagram calls.session ((transport_view side log).ready && calls.datagrams == p.datagrams) (transport_view side log) p c),
-      (
-        (λ p c. fair-session (transport_view side log) calls.session p c),
-        (
-          (λ p c. fair-critical calls.session (transport_view side log).control_stopped p c),
-          (
-            (λ p c. fair-control calls.session (transport_view side log) d.control p c),
-            (
-              (λ p c. fair-qpack calls.session (transport_view side log) d.encoder p c),
-              (
-                (λ p c. fair-qpack calls.session (transport_view side log) d.decoder p c),
-                tt,
-              ),
-            ),
-          ),
-        ),
-      ),
-    ))
-    f
-
-fair-none : (session : Option (ℕ × ℕ)) (e : Option Ending) → e ≡ None → EndsFairly session e
-fair-none None None i = tt
-fair-none (Some s) None i = tt
-fair-none session (Some e) i = absurd cc
-
 reset-fair : (side : Side) (log : Log) (session : Option (ℕ × ℕ)) (e : Option Ending) → EndsFairly session e → ((s : ℕ × ℕ) → session ≡ Some s → can_send side log s.0 ≡ true) → CanReset side log session e
-reset-fair side log session None f c = tt
-reset-fair side log session (Some (ByFault code)) f c = tt
-reset-fair side log session (Some (BySession code reason false)) f c = tt
 reset-fair side log None (Some (BySession code reason true)) f c = absurd f
 reset-fair side log (Some s) (Some (BySession code reason true)) f c = c s refl
+reset-fair side log session _ f c = tt
 
 -- ---- at rest
 
@@ -368,7 +272,7 @@ module _ (side : Side) (log : Log) (r : AtRest side log) where
   -- nothing ends the connection
   rest-open : (stream_table side log).progress.ending ≡ None
   unfolding state_of
-  rest-open = none-closes (session_id (established (calls_of log))) (stream_table side log).progress.ending (none-second _ _ r.silent)
+  rest-open = none-closes (session_id (established_session (calls_of log))) (stream_table side log).progress.ending (none-second _ _ r.silent)
 
   -- the control stream wasn't stopped
   rest-unstopped : (transport_view side log).control_stopped ≡ true → ⊥
@@ -377,7 +281,7 @@ module _ (side : Side) (log : Log) (r : AtRest side log) where
       let a = r.rests.stay.1 in
       let b = a.1 in
       let ended : critical_if true (with_no_stops (stream_table side log).progress) ≡ with_no_stops (stream_table side log).progress = subst (λ (s : Bool). critical_if s (with_no_stops (stream_table side log).progress) ≡ with_no_stops (stream_table side log).progress) e b.0 in
-      some-none (ap (λ (p : Progress). p.ending) ended ∙ rest-open)
+      some-none (ap (λ (p : DriverProgress). p.ending) ended ∙ rest-open)
     where
       some-none : {e : Ending} → Some e ≡ None → ⊥
       some-none e = cc
@@ -396,23 +300,15 @@ stopped-silent side log e rests o s = by e o s
     by : (e : Entry) → is_open (e ∷ log) ≡ true → is_some (stop_of (events_of (e ∷ log)) (local_uni side)) ≡ true
         → control_actions (transport_view side (e ∷ log)).may_open (local_uni side) (transport_view side (e ∷ log)).credit (control_sent side (e ∷ log)) ≡ []
     by (Reported (Stop id code)) o s = rest-silent side log (rests (before (Reported (Stop id code)) o))
-    by (Reported e) o s = absurd (never (Reported e) o s)
-    by (ReportedLate e) o s = absurd (never (ReportedLate e) o s)
-    by (Received id byte) o s = absurd (never (Received id byte) o s)
-    by (Sent a) o s = absurd (never (Sent a) o s)
-    by (Called r) o s = absurd (never (Called r) o s)
+    by x o s = absurd (never x o s)
 
 -- what goes out at a moment may go out
 pub may_flush : (side : Side) (log : Log) (e : Entry) → RestsWhileOpen side log → is_moment e ≡ true → is_open (e ∷ log) ≡ true → SendFacts side (e ∷ log)
-    → MayFlush side (e ∷ log) (established (calls_of (e ∷ log))) (stream_table side (e ∷ log)).progress
+    → MayFlush side (e ∷ log) (established_session (calls_of (e ∷ log))) (stream_table side (e ∷ log)).progress
 unfolding stream_table
 may_flush side log e rests m o f = record {
   control = record { unfinished = f.unfinished; unreset = f.unreset; silent = stopped-silent side log e rests o };
   stops = stops-stand side (e ∷ log);
   reset =
-      reset-fair side (e ∷ log) (established (calls_of (e ∷ log))) (stream_table side (e ∷ log)).progress.ending
-      (subst (λ (b : Bool). EndsFairly (established (calls_of (e ∷ log))) (apply_if b (scan_order (transport_view side (e ∷ log)) (call_view (e ∷ log))) (stream_table side log)).progress.ending) (sym (λ i. m i && o i))
-      (moment-fair side (e ∷ log) (call_view (e ∷ log)) (stream_table side log)
-      (fair-none (established (calls_of (e ∷ log))) (stream_table side log).progress.ending (rest-open side log (rests (and_parts (not (ends_by e)) (is_open log) (sym (open-more e log) ∙ o)).1)))))
-      f.session;
+      reset-fair side (e ∷ log) (established_session (calls_of (e ∷ log))) (stream_table side (e ∷ log)).progress.ending (ends-fairly side (e ∷ log)) f.session;
 }

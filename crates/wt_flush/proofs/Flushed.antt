@@ -11,11 +11,11 @@ use Rattle.wt_inbox.specs.Stage.{Refines, Stage}
 use Rattle.wt_inbox.specs.State.{InboxState}
 use Rattle.wt_message.specs.FixedBytes.{local_control_bytes}
 use Rattle.wt_seam_spec.specs.Joined.{newest_first, send_of}
-use Rattle.wt_seam_spec.specs.Outgoing.{credit_left, if_open, may_open, may_send, next_id, opened_id, opening, reset_entry, sending}
+use Rattle.wt_seam_spec.specs.Outgoing.{credit_left, if_open, may_open, may_send, next_id, opened_id, actions_to_open, reset_entry, actions_to_send}
 use Rattle.wt_seam_spec.specs.Reports.{credit, stop_of}
 use Rattle.wt_seam_spec.specs.Streams.{can_receive, can_send, exists, local_bi, local_count, local_uni, one_more_if, opens, peer_count, peer_uni}
 use Rattle.wt_spec.specs.Driver.{ControlSent, close_actions, control_actions, control_sent, opened_if, reset_if, session_id, stop_actions, transport_view}
-use Rattle.wt_spec.specs.StreamTable.{ByFault, BySession, Ending, Stopped}
+use Rattle.wt_spec.specs.StreamTable.{BySession, Ending, Stopped}
 use Rattle.wt_turn.specs.Log.{Event, Log, Sent, actions_of, all_events_of, closes, events_of, is_open, with_actions}
 use Rattle.wt_turn.specs.declared.action.Action.{Action}
 use Rattle.wt_turn.specs.declared.action.Action.TheVariants as actions
@@ -111,14 +111,12 @@ stop-after side [] log xs c = c
 stop-after side (a ∷ later) log xs c = stop-after side later (Sent a ∷ log) xs (stop-later side a log xs c)
 
 pub reset-after : (side : Side) (acts : List Action) (log : Log) (session : Option (ℕ × ℕ)) (e : Option Ending) → CanReset side log session e → CanReset side (with_actions acts log) session e
-reset-after side acts log session None c = tt
-reset-after side acts log session (Some (ByFault code)) c = tt
-reset-after side acts log session (Some (BySession code reason false)) c = tt
 reset-after side acts log session (Some (BySession code reason true)) c = by acts log c
   where
     by : (acts : List Action) (log : Log) → can_send side log (session_id session) ≡ true → can_send side (with_actions acts log) (session_id session) ≡ true
     by [] log c = c
     by (a ∷ later) log c = by later (Sent a ∷ log) (send-later side a log (session_id session) c)
+reset-after side acts log session _ c = tt
 
 -- ---- where the connection is open
 
@@ -131,7 +129,7 @@ pub reset_puts : (side : Side) (log : Log) (stage : ℕ → Stage) (untaken : Li
 reset_puts side log stage untaken id code x o r = rw o at r
 
 -- what opening sends, where it answers this id
-pub opens-it : (side : Side) (log : Log) (kind id : ℕ) → opened_id side log kind ≡ Some id → opening side log kind ≡ actions.Opened id ∷ []
+pub opens-it : (side : Side) (log : Log) (kind id : ℕ) → opened_id side log kind ≡ Some id → actions_to_open side log kind ≡ actions.Opened id ∷ []
 opens-it side log kind id e = by (may_open side log kind) (next_id side log kind) e
   where
     by : (b : Bool) (n : ℕ) → (if b then Some n else None) ≡ Some id → (if b then actions.Opened n ∷ [] else []) ≡ actions.Opened id ∷ []
@@ -143,15 +141,15 @@ opens-it side log kind id e = by (may_open side log kind) (next_id side log kind
     by false n e = absurd cc
 
 pub open_opens : (side : Side) (log : Log) (stage : ℕ → Stage) (untaken : List Action) (kind id : ℕ) (x : InboxState) → opened_id side log kind ≡ Some id
-    → Refines side x (with_actions (opening side log kind) log) stage (newest_first (opening side log kind) untaken) → Refines side x (Sent (actions.Opened id) ∷ log) stage (actions.Opened id ∷ untaken)
+    → Refines side x (with_actions (actions_to_open side log kind) log) stage (newest_first (actions_to_open side log kind) untaken) → Refines side x (Sent (actions.Opened id) ∷ log) stage (actions.Opened id ∷ untaken)
 open_opens side log stage untaken kind id x e r = subst (λ (acts : List Action). Refines side x (with_actions acts log) stage (newest_first acts untaken)) (opens-it side log kind id e) r
 
 pub open_bi_opens : (side : Side) (log : Log) (stage : ℕ → Stage) (untaken : List Action) (id : ℕ) (x : InboxState) → is_bidirectional id ≡ true → opened_id side log (local_kind side id) ≡ Some id
-    → Refines side x (with_actions (opening side log (local_bi side)) log) stage (newest_first (opening side log (local_bi side)) untaken) → Refines side x (Sent (actions.Opened id) ∷ log) stage (actions.Opened id ∷ untaken)
+    → Refines side x (with_actions (actions_to_open side log (local_bi side)) log) stage (newest_first (actions_to_open side log (local_bi side)) untaken) → Refines side x (Sent (actions.Opened id) ∷ log) stage (actions.Opened id ∷ untaken)
 open_bi_opens side log stage untaken id x b e r = open_opens side log stage untaken (local_bi side) id x (sym (ap (λ (b : Bool). opened_id side log (if b then local_bi side else local_uni side)) b) ∙ e) r
 
 pub open_uni_opens : (side : Side) (log : Log) (stage : ℕ → Stage) (untaken : List Action) (id : ℕ) (x : InboxState) → is_bidirectional id ≡ false → opened_id side log (local_kind side id) ≡ Some id
-    → Refines side x (with_actions (opening side log (local_uni side)) log) stage (newest_first (opening side log (local_uni side)) untaken) → Refines side x (Sent (actions.Opened id) ∷ log) stage (actions.Opened id ∷ untaken)
+    → Refines side x (with_actions (actions_to_open side log (local_uni side)) log) stage (newest_first (actions_to_open side log (local_uni side)) untaken) → Refines side x (Sent (actions.Opened id) ∷ log) stage (actions.Opened id ∷ untaken)
 open_uni_opens side log stage untaken id x b e r = open_opens side log stage untaken (local_uni side) id x (sym (ap (λ (b : Bool). opened_id side log (if b then local_bi side else local_uni side)) b) ∙ e) r
 
 pub sent_acts : (side : Side) (log : Log) (stage : ℕ → Stage) (untaken : List Action) (acts others : List Action) (x : InboxState) → acts ≡ others
@@ -256,10 +254,10 @@ module _ (side : Side) (log : Log) (stage : ℕ → Stage) (untaken : List Actio
   same-events x r o = sym (r.transport.facts.open_same o)
 
   pub opens_first : (x y : InboxState) (b : Bool) → b ≡ false → Refines side x log stage untaken → is_open log ≡ true → (control_sent side log).opened ≡ b → (transport_view side log).may_open ≡ true
-      → Refines side y (with_actions (opening side log (local_uni side)) log) stage (newest_first (opening side log (local_uni side)) untaken) → OpensControl side log stage untaken (opened_if (not b) (local_uni side)) y true
+      → Refines side y (with_actions (actions_to_open side log (local_uni side)) log) stage (newest_first (actions_to_open side log (local_uni side)) untaken) → OpensControl side log stage untaken (opened_if (not b) (local_uni side)) y true
   opens_first x y true e r o own may q = absurd cc
   opens_first x y false e r o own may q = record {
-    inbox = sent_acts side log stage untaken (opening side log (local_uni side)) (opened_if true (local_uni side)) y (control-opens side log (same-events x r o) o own may) q;
+    inbox = sent_acts side log stage untaken (actions_to_open side log (local_uni side)) (opened_if true (local_uni side)) y (control-opens side log (same-events x r o) o own may) q;
     opened_is = refl;
   }
 
@@ -298,20 +296,20 @@ module _ (side : Side) (log : Log) (stage : ℕ → Stage) (untaken : List Actio
         }
 
     pub sends_rest : (y : InboxState) (count sum : ℕ) → count ≡ min (length (drop sent local_control_bytes)) (credit_left log (local_uni side)) → sum ≡ sent + count
-        → Refines side y (with_actions (sending log (local_uni side) (drop sent local_control_bytes)) log) stage (newest_first (sending log (local_uni side) (drop sent local_control_bytes)) untaken)
+        → Refines side y (with_actions (actions_to_send log (local_uni side) (drop sent local_control_bytes)) log) stage (newest_first (actions_to_send log (local_uni side) (drop sent local_control_bytes)) untaken)
         → SendsControl side log stage untaken (send_of (local_uni side) rest) y sum (sent + length rest)
     sends_rest y count sum c s q = record {
       inbox =
-          sent_acts side log stage untaken (sending log (local_uni side) (drop sent local_control_bytes)) (send_of (local_uni side) rest) y
-          (subst (λ (n : ℕ). sending log (local_uni side) (drop n local_control_bytes) ≡ send_of (local_uni side) (drop n (take (transport_view side log).credit local_control_bytes))) sent-is (control-sends side log (same-events x r o) local_control_bytes)) q;
+          sent_acts side log stage untaken (actions_to_send log (local_uni side) (drop sent local_control_bytes)) (send_of (local_uni side) rest) y
+          (subst (λ (n : ℕ). actions_to_send log (local_uni side) (drop n local_control_bytes) ≡ send_of (local_uni side) (drop n (take (transport_view side log).credit local_control_bytes))) sent-is (control-sends side log (same-events x r o) local_control_bytes)) q;
       sent_is =
           s ∙ ap (λ (n : ℕ). sent + n)
           (c ∙ subst (λ (n : ℕ). min (length (drop n local_control_bytes)) (credit_left log (local_uni side)) ≡ length (drop n (take (transport_view side log).credit local_control_bytes))) sent-is (left_is side log (same-events x r o) local_control_bytes));
     }
 
     pub sends_by : (y : InboxState) (id count sum : ℕ) (bytes : List ℕ) → id ≡ local_uni side → bytes ≡ drop sent local_control_bytes → count ≡ min (length bytes) (credit_left log id) → sum ≡ sent + count
-        → Refines side y (with_actions (sending log id bytes) log) stage (newest_first (sending log id bytes) untaken) → SendsControl side log stage untaken (send_of (local_uni side) rest) y sum (sent + length rest)
+        → Refines side y (with_actions (actions_to_send log id bytes) log) stage (newest_first (actions_to_send log id bytes) untaken) → SendsControl side log stage untaken (send_of (local_uni side) rest) y sum (sent + length rest)
     sends_by y id count sum bytes i b c s q =
         sends_rest y count sum (c ∙ (λ j. min (length (b j)) (credit_left log (i j)))) s
-        (subst (λ (k : ℕ). Refines side y (with_actions (sending log k (drop sent local_control_bytes)) log) stage (newest_first (sending log k (drop sent local_control_bytes)) untaken)) i
-        (subst (λ (xs : List ℕ). Refines side y (with_actions (sending log id xs) log) stage (newest_first (sending log id xs) untaken)) b q))
+        (subst (λ (k : ℕ). Refines side y (with_actions (actions_to_send log k (drop sent local_control_bytes)) log) stage (newest_first (actions_to_send log k (drop sent local_control_bytes)) untaken)) i
+        (subst (λ (xs : List ℕ). Refines side y (with_actions (actions_to_send log id xs) log) stage (newest_first (actions_to_send log id xs) untaken)) b q))

@@ -12,7 +12,7 @@ use Rattle.wt_message.specs.FixedBytes.{local_control_bytes}
 use Rattle.wt_seam_spec.specs.Joined.{newest_first, send_of}
 use Rattle.wt_seam_spec.specs.Streams.{local_uni}
 use Rattle.wt_spec.specs.Driver.{ControlSent, actions_after, close_actions, control_actions, control_sent, opened_if, session_id, stop_actions, transport_view}
-use Rattle.wt_spec.specs.StreamTable.{Progress}
+use Rattle.wt_spec.specs.StreamTable.{DriverProgress}
 use Rattle.wt_turn.specs.Log.{Log, Sent, is_open, with_actions}
 use Rattle.wt_turn.specs.declared.action.Action.{Action}
 use Rattle.wt_turn.specs.declared.action.Action.TheVariants as actions
@@ -87,7 +87,7 @@ module _ (side : Side) (log : Log) (stage : ℕ → Stage) (untaken : List Actio
   }
 
   -- ---- behind it the stops, then the end
-  module _ (session : Option (ℕ × ℕ)) (p : Progress) (o : is_open log ≡ true) (may : MayFlush side log session p) where
+  module _ (session : Option (ℕ × ℕ)) (p : DriverProgress) (o : is_open log ≡ true) (may : MayFlush side log session p) where
     abbrev control_part : List Action
     control_part = control_actions (transport_view side log).may_open id credit_now own
 

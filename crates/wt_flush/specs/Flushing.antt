@@ -8,7 +8,7 @@ use Rattle.wt_seam_spec.specs.Reports.{stop_of}
 use Rattle.wt_seam_spec.specs.Sent.{is_finished, is_reset}
 use Rattle.wt_seam_spec.specs.Streams.{can_receive, can_send, local_uni}
 use Rattle.wt_spec.specs.Driver.{ControlSent, control_actions, control_sent, session_id, transport_view}
-use Rattle.wt_spec.specs.StreamTable.{BySession, Ending, Progress, Stopped}
+use Rattle.wt_spec.specs.StreamTable.{BySession, Ending, DriverProgress, Stopped}
 use Rattle.wt_turn.specs.Log.{Log, actions_of, events_of, with_actions}
 use Rattle.wt_turn.specs.declared.action.Action.{Action}
 use Rattle.wt_wire.specs.declared.side.Side.{Side}
@@ -33,7 +33,7 @@ CanReset side log session (Some (BySession code reason true)) = can_send side lo
 CanReset side log session _ = Unit {0}
 
 -- all of what goes out at a moment may go out
-pub record MayFlush (side : Side) (log : Log) (session : Option (ℕ × ℕ)) (p : Progress) : Type 0 where
+pub record MayFlush (side : Side) (log : Log) (session : Option (ℕ × ℕ)) (p : DriverProgress) : Type 0 where
   pub control : ControlRuns side log
   pub stops : CanStop side log p.stops
   pub reset : CanReset side log session p.ending

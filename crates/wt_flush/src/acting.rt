@@ -3,7 +3,7 @@ ghost use Rattle.std.specs.Prelude.{◌≡◌, ◌∷◌, [], Some, false, true,
 ghost use Rattle.wt_seam_spec.specs.Acting.{MayAct, local_kind};
 ghost use Rattle.wt_inbox.specs.OfLog.{OfEachLog};
 ghost use Rattle.wt_inbox.specs.Stage.{Refines};
-ghost use Rattle.wt_seam_spec.specs.Outgoing.{may_send, opened_id, sending};
+ghost use Rattle.wt_seam_spec.specs.Outgoing.{may_send, opened_id, actions_to_send};
 ghost use Rattle.wt_seam_spec.specs.Streams.{can_receive, can_send};
 ghost use Rattle.wt_turn.specs.Log.{Called, ResetUnsent, Sent, is_open};
 ghost use Rattle.wt_turn.specs.declared.action.Action.{Action};
@@ -31,7 +31,7 @@ fn open(inbox: &mut Inbox, id: StreamId) -> Result<(), OutOfMemory>
 }
 
 fn send(inbox: &mut Inbox, id: StreamId, piece: &Piece) -> Result<(), OutOfMemory>
-    ensures log { OfEachLog inbox.old (λ side log stage untaken. may_send side log id ≡ true → sending log id piece.now ≡ actions.Send id piece.now ∷ []
+    ensures log { OfEachLog inbox.old (λ side log stage untaken. may_send side log id ≡ true → actions_to_send log id piece.now ≡ actions.Send id piece.now ∷ []
         → OnOk result (Refines side inbox.new (Sent (actions.Send id piece.now) ∷ log) stage (actions.Send id piece.now ∷ untaken))) }
 {
     if inbox.may_send(id) {

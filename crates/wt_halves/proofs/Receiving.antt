@@ -11,15 +11,15 @@ use Rattle.wt_driver_state.specs.Tie.{Follows}
 use Rattle.wt_laws.specs.Reachable.{IsReachable}
 use Rattle.wt_plan.proofs.PlansSame as plans
 use Rattle.wt_plan.specs.FactsNow.{DriverAnswers, facts_now}
-use Rattle.wt_plan.specs.Planned.{planned}
+use Rattle.wt_plan.specs.Planned.{defined_plan}
 use Rattle.wt_plan.specs.declared.plan.Plan as planning
 use Rattle.wt_seam.specs.State.{TransportState}
 use Rattle.wt_halves.specs.Replies.{exact_reply, exactly_read, records_exact}
 use Rattle.wt_seam.specs.Rules.{receiving_half_now}
 use Rattle.wt_seam.specs.Step.{end_now, unread_now}
 use Rattle.wt_session_spec.proofs.Uses.{same-receiving}
-use Rattle.wt_session_spec.specs.CallFacts.{CallFacts, facts_of, receiving}
-use Rattle.wt_session_spec.specs.HalfPlans.{exact_plan, read_exact_plan, read_plan, read_record, read_reply, stop_plan}
+use Rattle.wt_session_spec.specs.CallFacts.{CallFacts, facts_of, receiving_facts}
+use Rattle.wt_session_spec.specs.HalfPlans.{exact_plan, read_exact_plan, read_plan, read_record, reply_of_read, stop_plan}
 use Rattle.wt_session_spec.specs.Plan.{Plan, Step}
 use Rattle.wt_session_spec.specs.Plans.{plan_of, with_half, with_receiving}
 use Rattle.wt_session_spec.specs.SessionState.{session_state}
@@ -52,17 +52,17 @@ front-take : (n : ℕ) (us buffer rest : List ℕ) → n ≤ length us → buffe
 front-take n us buffer rest h e =
     ap (λ (b : List ℕ). take n (b ++ rest)) e ∙ ap (λ (k : ℕ). take k (take n us ++ rest)) (sym (length-take-le n us h)) ∙ take-append_seam (take n us) rest
 
-none-read : (open_ : Bool) (e : StreamEnd) (us bytes : List ℕ) → read_reply bytes (nothing_unread open_ e) ≡ read_reply us (nothing_unread open_ e)
+none-read : (open_ : Bool) (e : StreamEnd) (us bytes : List ℕ) → reply_of_read bytes (nothing_unread open_ e) ≡ reply_of_read us (nothing_unread open_ e)
 none-read open_ ends.Fin us bytes = refl
 none-read open_ (ends.Reset code) us bytes = refl
 none-read true ends.Running us bytes = refl
 none-read false ends.Running us bytes = refl
 
 read-front : (open_ : Bool) (e : StreamEnd) (us buffer rest : List ℕ) (size n : ℕ) → n ≡ min size (length us) → buffer ≡ take n us
-    → read_reply (buffer ++ rest) (read_answer open_ (record { unread = length us; end = e }) size) ≡ read_reply us (read_answer open_ (record { unread = length us; end = e }) size)
+    → reply_of_read (buffer ++ rest) (read_answer open_ (record { unread = length us; end = e }) size) ≡ reply_of_read us (read_answer open_ (record { unread = length us; end = e }) size)
 read-front open_ e us buffer rest size n en eb = at (size == 0) (length us == 0)
   where
-    at : (a b : Bool) → let answer = if a then Ready (Ok (Some 0)) else (if b then nothing_unread open_ e else Ready (Ok (Some (min size (length us))))) in read_reply (buffer ++ rest) answer ≡ read_reply us answer
+    at : (a b : Bool) → let answer = if a then Ready (Ok (Some 0)) else (if b then nothing_unread open_ e else Ready (Ok (Some (min size (length us))))) in reply_of_read (buffer ++ rest) answer ≡ reply_of_read us answer
     at true b = refl
     at false true = none-read open_ e us (buffer ++ rest)
     at false false =
@@ -139,7 +139,7 @@ module _ (side : Side) (d : DriverValue) (log : Log) (taken : ℕ) (f : Follows 
   read_by_log size =
       let own = facts_of side log in
       ap (λ (x : CallFacts). read_plan x id size) (facts_told side d log taken f r)
-      ∙ ap (λ us. Step [] (read_record id (read_count (record { unread = length us; end = own.end id }) size)) (read_reply us (read_answer own.is_open (record { unread = length us; end = own.end id }) size))) unread_is
+      ∙ ap (λ us. Step [] (read_record id (read_count (record { unread = length us; end = own.end id }) size)) (reply_of_read us (read_answer own.is_open (record { unread = length us; end = own.end id }) size))) unread_is
       ∙ had (read_plan own id size)
 
   pub exact_by_log : (size : ℕ) → read_exact_plan now id size ≡ plan_of (facts_of side log) (session_state log) (calls.ReadExact id size)
@@ -154,8 +154,8 @@ module _ (side : Side) (d : DriverValue) (log : Log) (taken : ℕ) (f : Follows 
   unfolding plan_of
   stop_by_log code = ap (λ (x : CallFacts). stop_plan x id code) (facts_told side d log taken f r) ∙ had (stop_plan (facts_of side log) id code)
 
-  pub stop_planned : (v : ℕ) (t : TransportState) → t ≡ d.inbox.transport → (p : planning.Plan) → ((x : DriverAnswers) → planned p ≡ stop_plan (facts_now t x) id v)
-      → planned p ≡ plan_of (facts_of side log) (session_state log) (calls.StopRecv id v)
+  pub stop_planned : (v : ℕ) (t : TransportState) → t ≡ d.inbox.transport → (p : planning.Plan) → ((x : DriverAnswers) → defined_plan p ≡ stop_plan (facts_now t x) id v)
+      → defined_plan p ≡ plan_of (facts_of side log) (session_state log) (calls.StopRecv id v)
   stop_planned v t same p e =
       e (told side d log taken f r) ∙ ap (λ (u : TransportState). stop_plan (facts_now u (told side d log taken f r)) id v) same ∙ stop_by_log v
 
@@ -163,19 +163,19 @@ module _ (side : Side) (d : DriverValue) (log : Log) (taken : ℕ) (f : Follows 
   stop_replies v = ap (λ (x : Effect). x.reply) (leads side log (calls.StopRecv id v) (stop_plan now id v) (stop_by_log v))
 
   pub read_planned : (size : ℕ) (t : TransportState) → t ≡ d.inbox.transport → (n : ℕ) → n ≡ min size (length (unread_now t id)) → (made : CallRecord) → made ≡ read_record id n
-      → Step [] made (read_reply (now.unread id) (read_answer now.is_open (receiving now id) size)) ≡ plan_of (facts_of side log) (session_state log) (calls.Read id size)
+      → Step [] made (reply_of_read (now.unread id) (read_answer now.is_open (receiving_facts now id) size)) ≡ plan_of (facts_of side log) (session_state log) (calls.Read id size)
   read_planned size t same n en made em =
-      ap (λ (x : CallRecord). Step [] x (read_reply (now.unread id) (read_answer now.is_open (receiving now id) size)))
+      ap (λ (x : CallRecord). Step [] x (reply_of_read (now.unread id) (read_answer now.is_open (receiving_facts now id) size)))
       (em ∙ ap (read_record id) (en ∙ ap (λ (u : TransportState). min size (length (unread_now u id))) same))
       ∙ read_by_log size
 
   pub read_told : (size : ℕ) (t : TransportState) → t ≡ d.inbox.transport → (a : Poll (Result (Option ℕ) StreamReadError)) → a ≡ read_answer t.is_open (receiving_half_now t id) size
       → (n : ℕ) → n ≡ min size (length (unread_now t id)) → (buffer rest : List ℕ) → buffer ≡ take n (unread_now t id)
-      → read_reply (buffer ++ rest) a ≡ (call_effect side log (calls.Read id size)).reply
+      → reply_of_read (buffer ++ rest) a ≡ (call_effect side log (calls.Read id size)).reply
   read_told size t same a ea n en buffer rest eb =
-      ap (read_reply (buffer ++ rest)) ea
+      ap (reply_of_read (buffer ++ rest)) ea
       ∙ read-front t.is_open (end_now t id) (unread_now t id) buffer rest size n en eb
-      ∙ ap (λ (u : TransportState). read_reply (unread_now u id) (read_answer u.is_open (receiving_half_now u id) size)) same
+      ∙ ap (λ (u : TransportState). reply_of_read (unread_now u id) (read_answer u.is_open (receiving_half_now u id) size)) same
       ∙ ap (λ (x : Effect). x.reply) (leads side log (calls.Read id size) (read_plan now id size) (read_by_log size))
 
   pub exact_planned : (size : ℕ) (t : TransportState) → t ≡ d.inbox.transport → (a : Poll (Result (Unit {0}) StreamReadExactError)) → a ≡ read_exact_answer t.is_open (receiving_half_now t id) size

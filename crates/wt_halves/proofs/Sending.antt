@@ -9,7 +9,7 @@ use Rattle.wt_laws.specs.Reachable.{IsReachable}
 use Rattle.wt_plan.proofs.Halves as halves
 use Rattle.wt_plan.proofs.PlansSame as plans
 use Rattle.wt_plan.specs.FactsNow.{DriverAnswers, facts_now, sending_now}
-use Rattle.wt_plan.specs.Planned.{planned}
+use Rattle.wt_plan.specs.Planned.{defined_plan}
 use Rattle.wt_plan.specs.declared.plan.Plan as planning
 use Rattle.wt_seam.specs.Rules.{sending_half_now}
 use Rattle.wt_seam.specs.State.{TransportState}
@@ -87,7 +87,7 @@ module _ (side : Side) (d : DriverValue) (log : Log) (taken : ℕ) (f : Follows 
   unfolding plan_of
   write_by_log bytes = ap (λ (x : CallFacts). write_plan x id bytes) (facts_told side d log taken f r) ∙ had (write_plan (facts_of side log) id bytes)
 
-  pub write_planned : (bytes : List ℕ) → (t : TransportState) → t ≡ d.inbox.transport → (p : planning.Plan) → ((x : DriverAnswers) → planned p ≡ write_plan (facts_now t x) id bytes) → planned_by (calls.Write id bytes) (planned p)
+  pub write_planned : (bytes : List ℕ) → (t : TransportState) → t ≡ d.inbox.transport → (p : planning.Plan) → ((x : DriverAnswers) → defined_plan p ≡ write_plan (facts_now t x) id bytes) → planned_by (calls.Write id bytes) (defined_plan p)
   write_planned bytes t same p e =
       e (told side d log taken f r) ∙ ap (λ (u : TransportState). write_plan (facts_now u (told side d log taken f r)) id bytes) same ∙ write_by_log bytes
 
@@ -101,7 +101,7 @@ module _ (side : Side) (d : DriverValue) (log : Log) (taken : ℕ) (f : Follows 
   unfolding plan_of
   write_all_by_log bytes = ap (λ (x : CallFacts). write_all_plan x id bytes) (facts_told side d log taken f r) ∙ had (write_all_plan (facts_of side log) id bytes)
 
-  pub write_all_planned : (bytes : List ℕ) → (t : TransportState) → t ≡ d.inbox.transport → (p : planning.Plan) → ((x : DriverAnswers) → planned p ≡ write_all_plan (facts_now t x) id bytes) → planned_by (calls.WriteAll id bytes) (planned p)
+  pub write_all_planned : (bytes : List ℕ) → (t : TransportState) → t ≡ d.inbox.transport → (p : planning.Plan) → ((x : DriverAnswers) → defined_plan p ≡ write_all_plan (facts_now t x) id bytes) → planned_by (calls.WriteAll id bytes) (defined_plan p)
   write_all_planned bytes t same p e =
       e (told side d log taken f r) ∙ ap (λ (u : TransportState). write_all_plan (facts_now u (told side d log taken f r)) id bytes) same ∙ write_all_by_log bytes
 
@@ -115,7 +115,7 @@ module _ (side : Side) (d : DriverValue) (log : Log) (taken : ℕ) (f : Follows 
   unfolding plan_of
   finish_by_log = ap (λ (x : CallFacts). finish_plan x id) (facts_told side d log taken f r) ∙ had (finish_plan (facts_of side log) id)
 
-  pub finish_planned : (t : TransportState) → t ≡ d.inbox.transport → (p : planning.Plan) → ((x : DriverAnswers) → planned p ≡ finish_plan (facts_now t x) id) → planned_by (calls.Finish id) (planned p)
+  pub finish_planned : (t : TransportState) → t ≡ d.inbox.transport → (p : planning.Plan) → ((x : DriverAnswers) → defined_plan p ≡ finish_plan (facts_now t x) id) → planned_by (calls.Finish id) (defined_plan p)
   finish_planned t same p e =
       e (told side d log taken f r) ∙ ap (λ (u : TransportState). finish_plan (facts_now u (told side d log taken f r)) id) same ∙ finish_by_log
 
@@ -129,7 +129,7 @@ module _ (side : Side) (d : DriverValue) (log : Log) (taken : ℕ) (f : Follows 
   unfolding plan_of
   stopped_by_log = ap (λ (x : CallFacts). stopped_plan x id) (facts_told side d log taken f r) ∙ had (stopped_plan (facts_of side log) id)
 
-  pub stopped_planned : (t : TransportState) → t ≡ d.inbox.transport → (p : planning.Plan) → ((x : DriverAnswers) → planned p ≡ stopped_plan (facts_now t x) id) → planned_by (calls.Stopped id) (planned p)
+  pub stopped_planned : (t : TransportState) → t ≡ d.inbox.transport → (p : planning.Plan) → ((x : DriverAnswers) → defined_plan p ≡ stopped_plan (facts_now t x) id) → planned_by (calls.Stopped id) (defined_plan p)
   stopped_planned t same p e =
       e (told side d log taken f r) ∙ ap (λ (u : TransportState). stopped_plan (facts_now u (told side d log taken f r)) id) same ∙ stopped_by_log
 
@@ -143,7 +143,7 @@ module _ (side : Side) (d : DriverValue) (log : Log) (taken : ℕ) (f : Follows 
   unfolding plan_of
   priority_by_log = ap (λ (x : CallFacts). priority_plan x id) (facts_told side d log taken f r) ∙ had (priority_plan (facts_of side log) id)
 
-  pub priority_planned : (t : TransportState) → t ≡ d.inbox.transport → (p : planning.Plan) → ((x : DriverAnswers) → planned p ≡ priority_plan (facts_now t x) id) → planned_by (calls.Priority id) (planned p)
+  pub priority_planned : (t : TransportState) → t ≡ d.inbox.transport → (p : planning.Plan) → ((x : DriverAnswers) → defined_plan p ≡ priority_plan (facts_now t x) id) → planned_by (calls.Priority id) (defined_plan p)
   priority_planned t same p e =
       e (told side d log taken f r) ∙ ap (λ (u : TransportState). priority_plan (facts_now u (told side d log taken f r)) id) same ∙ priority_by_log
 
@@ -157,7 +157,7 @@ module _ (side : Side) (d : DriverValue) (log : Log) (taken : ℕ) (f : Follows 
   unfolding plan_of
   reset_by_log code = ap (λ (x : CallFacts). reset_plan x id code) (facts_told side d log taken f r) ∙ had (reset_plan (facts_of side log) id code)
 
-  pub reset_planned : (code : ℕ) → (t : TransportState) → t ≡ d.inbox.transport → (p : planning.Plan) → ((x : DriverAnswers) → planned p ≡ reset_plan (facts_now t x) id code) → planned_by (calls.ResetSend id code) (planned p)
+  pub reset_planned : (code : ℕ) → (t : TransportState) → t ≡ d.inbox.transport → (p : planning.Plan) → ((x : DriverAnswers) → defined_plan p ≡ reset_plan (facts_now t x) id code) → planned_by (calls.ResetSend id code) (defined_plan p)
   reset_planned code t same p e =
       e (told side d log taken f r) ∙ ap (λ (u : TransportState). reset_plan (facts_now u (told side d log taken f r)) id code) same ∙ reset_by_log code
 

@@ -76,9 +76,9 @@ sent_in (replies.DatagramFailed e) = Err e
 sent_in _ = Ok tt
 
 -- the reply of the question whether and how the connection ended
-abbrev pub closed_reply : Poll ConnectionError → Reply
-closed_reply (Ready e) = replies.Closed e
-closed_reply Pending = replies.Pending
+abbrev pub closed_poll_reply : Poll ConnectionError → Reply
+closed_poll_reply (Ready e) = replies.Closed e
+closed_poll_reply Pending = replies.Pending
 
 -- how the connection ended, as a reply tells it
 abbrev pub closed_in : Reply → Poll ConnectionError

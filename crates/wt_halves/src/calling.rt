@@ -3,7 +3,7 @@ ghost use Rattle.std.specs.Prelude.{◌≡◌, [], IfOk, OnOk, true, ℕ};
 ghost use Rattle.wt_driver_state.specs.Calling.{leaves_at_rest};
 ghost use Rattle.wt_driver_state.specs.Tie.{Follows};
 ghost use Rattle.wt_laws.specs.Reachable.{IsReachable};
-ghost use Rattle.wt_plan.specs.Planned.{planned};
+ghost use Rattle.wt_plan.specs.Planned.{defined_plan};
 ghost use Rattle.wt_session_spec.specs.CallFacts.{facts_of};
 ghost use Rattle.wt_session_spec.specs.Plan as session;
 ghost use Rattle.wt_session_spec.specs.Plans.{plan_of};
@@ -33,15 +33,15 @@ pub fn transport(d: &Driver) -> &Transport
 
 /// Performs the plan of a call that may come, and tells its reply.
 pub fn perform(alloc: Global, d: &mut Driver, plan: Plan) -> Result<Reply, OutOfMemory>
-    ensures reply { (side : Side) (log : Log) (taken : ℕ) (call : Call) → Follows side d.old log taken → planned plan ≡ plan_of (facts_of side log) (session_state log) call → IfOk result (λ reply. reply ≡ (call_effect side log call).reply) }
-    ensures log { (side : Side) (log : Log) (taken : ℕ) (call : Call) → Follows side d.old log taken → IsReachable side log → may_call side log call ≡ true → planned plan ≡ plan_of (facts_of side log) (session_state log) call → OnOk result (Follows side d.new (call_effect side log call).log taken) }
+    ensures reply { (side : Side) (log : Log) (taken : ℕ) (call : Call) → Follows side d.old log taken → defined_plan plan ≡ plan_of (facts_of side log) (session_state log) call → IfOk result (λ reply. reply ≡ (call_effect side log call).reply) }
+    ensures log { (side : Side) (log : Log) (taken : ℕ) (call : Call) → Follows side d.old log taken → IsReachable side log → may_call side log call ≡ true → defined_plan plan ≡ plan_of (facts_of side log) (session_state log) call → OnOk result (Follows side d.new (call_effect side log call).log taken) }
 {
     acting::perform(alloc, d, plan)
 }
 
 /// Performs the plan of a call that may come, whose reply its answer tells.
 pub fn carry_out(alloc: Global, d: &mut Driver, plan: Plan) -> Result<(), OutOfMemory>
-    ensures log { (side : Side) (log : Log) (taken : ℕ) (call : Call) → Follows side d.old log taken → IsReachable side log → may_call side log call ≡ true → planned plan ≡ plan_of (facts_of side log) (session_state log) call → OnOk result (Follows side d.new (call_effect side log call).log taken) }
+    ensures log { (side : Side) (log : Log) (taken : ℕ) (call : Call) → Follows side d.old log taken → IsReachable side log → may_call side log call ≡ true → defined_plan plan ≡ plan_of (facts_of side log) (session_state log) call → OnOk result (Follows side d.new (call_effect side log call).log taken) }
 {
     let _reply = perform(alloc, d, plan)?;
     Ok(())

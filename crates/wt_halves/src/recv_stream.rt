@@ -3,7 +3,7 @@ ghost use Rattle.std.specs.Prelude.{◌≡◌, IfOk, Ok, OnOk, Some, drop, lengt
 ghost use Rattle.wt_driver_state.specs.Calling.{leaves_at_rest};
 ghost use Rattle.wt_halves.specs.Answering.{HasReceiving, LeadsOn, RepliesTo};
 ghost use Rattle.wt_halves.specs.Replies.{done_reply, exact_reply, exactly_read, read_into, records_exact};
-ghost use Rattle.wt_session_spec.specs.HalfPlans.{read_record, read_reply};
+ghost use Rattle.wt_session_spec.specs.HalfPlans.{read_record, reply_of_read};
 ghost use Rattle.wt_turn.specs.Records.{record_of};
 ghost use Rattle.wt_turn.specs.declared.call.Call.TheVariants as calls;
 ghost use Rattle.wt_turn.specs.declared.poll.Poll.TheVariants.{Ready};
@@ -104,7 +104,7 @@ impl RecvStream {
         d: &mut Driver,
         buf: &mut [u8],
     ) -> Poll<Result<Option<usize>, StreamReadError>>
-        ensures reply { RepliesTo d.old (HasReceiving self.old) (calls.Read self.old (length buf.old)) (read_reply buf.new) result }
+        ensures reply { RepliesTo d.old (HasReceiving self.old) (calls.Read self.old (length buf.old)) (reply_of_read buf.new) result }
         ensures log { LeadsOn d.old (HasReceiving self.old) (calls.Read self.old (length buf.old)) d.new }
         ensures rest { drop (read_into result) buf.new ≡ drop (read_into result) buf.old }
         ensures empty { length buf.old ≡ 0 → result ≡ Ready (Ok (Some 0)) }

@@ -4,7 +4,7 @@ use Rattle.std.specs.Prelude.{◌==◌, if◌then◌else◌}
 use Rattle.std.proofs.lemmas.List.{drop-drop, length-drop}
 use Rattle.wt_streams.specs.StreamState.{consume, has_stream, stream_at}
 use Rattle.wt_streams.proofs.PieceLaws.{concat_skip, drop_none}
-use Rattle.wt_seam_spec.specs.Unread.{ReadPosition, AtOffset, GivenUp, advance, consumed}
+use Rattle.wt_seam_spec.specs.Unread.{ReadPosition, AtOffset, GivenUp, advance, position_after}
 use Rattle.wt_seam.specs.State.{TransportState, Refines}
 use Rattle.wt_seam.specs.Step.{after_consume, unread_now, with_change}
 use Rattle.wt_seam.proofs.Refining.{consume_refines}
@@ -49,7 +49,7 @@ consumed-if : (m n : ℕ) (b : Bool) (p : ReadPosition) → (if b then advance n
 consumed-if m n true p = advance-advance m n p
 consumed-if m n false p = refl
 
-pub consumed-twice : (position : ℕ → ReadPosition) (id m n : ℕ) → consumed (consumed position id m) id n ≡ consumed position id (m + n)
+pub consumed-twice : (position : ℕ → ReadPosition) (id m n : ℕ) → position_after (position_after position id m) id n ≡ position_after position id (m + n)
 consumed-twice position id m n = λ i k. consumed-if m n (id == k) (position k) i
 
 pub consumes-twice : (t u v : TransportState) (id m n : ℕ) → Consumes t u id m → Consumes u v id n → Consumes t v id (m + n)
@@ -62,5 +62,5 @@ consumes-twice t u v id m n a b =
       quiet = b.quiet ∙ a.quiet;
       refines = λ side log position untaken r.
           subst (λ (p : ℕ → ReadPosition). Refines side v log p untaken) (consumed-twice position id m n)
-          (b.refines side log (consumed position id m) untaken (a.refines side log position untaken r));
+          (b.refines side log (position_after position id m) untaken (a.refines side log position untaken r));
     }

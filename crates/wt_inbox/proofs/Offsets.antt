@@ -21,9 +21,9 @@ use Rattle.wt_proto.specs.declared.verdict.Verdict.{Verdict}
 use Rattle.wt_proto.specs.declared.verdict.Verdict.TheVariants as verdicts
 use Rattle.wt_proto.specs.declared.response_walk.ResponseWalk.{ResponseWalk}
 use Rattle.wt_proto.specs.declared.response_walk.ResponseWalk.TheVariants as responses
-use Rattle.wt_proto.specs.FrameSteps.{decided}
-use Rattle.wt_proto.specs.Steady.{IsSteady, taken}
-use Rattle.wt_proto.specs.Walk.{Reached, led, outcome_at, walk, walked}
+use Rattle.wt_proto.specs.FrameSteps.{step_of_item}
+use Rattle.wt_proto.specs.Steady.{IsSteady, size_of_step}
+use Rattle.wt_proto.specs.Walk.{Reached, step_on, outcome_at, walk, whole_walk}
 use Rattle.wt_proto.specs.Uni.{at_stream_end, header_by_type, is_final, session_header_at, session_verdict, typed_header_at, uni_decides, uni_effect, uni_header_at, uni_unfinished, uni_verdict_of}
 use Rattle.wt_proto.specs.Bi.{bi_decides, bi_effect, bi_unfinished, bi_verdict_of, headers_verdict, parsed_verdict}
 use Rattle.wt_proto.specs.ResponseWalk.{headers_response, is_response_final, parsed_response, response_decides, response_effect, response_unfinished, response_walk_of}
@@ -51,19 +51,19 @@ module _ {S O : Type 0} (decide : S → List ℕ → Step S O) (steady : IsStead
     told : (g : ℕ) → offset o ≡ Some g → stop ≡ None → g + rest ≡ place_of s + at
     there : (p : O) → stop ≡ Some p → (at ≡ rest) × (p ≡ o)
 
-  front-same : (s : S) (b : ℕ) (xs : List ℕ) (k n : ℕ) (d : Step S O) → decide s (b ∷ xs) ≡ d → taken d ≡ Some n → n ≤ suc k → k ≤ length xs → decide s (b ∷ take k xs) ≡ d
+  front-same : (s : S) (b : ℕ) (xs : List ℕ) (k n : ℕ) (d : Step S O) → decide s (b ∷ xs) ≡ d → size_of_step d ≡ Some n → n ≤ suc k → k ≤ length xs → decide s (b ∷ take k xs) ≡ d
   front-same s b xs k n d e t l w =
       let whole : (b ∷ take k xs) ++ drop k xs ≡ b ∷ xs = ap (λ ys. b ∷ ys) (take-append-drop k xs) in
       let same : decide s ((b ∷ take k xs) ++ drop k xs) ≡ d = ap (λ ys. decide s ys) whole ∙ e in
       let long : length (take k xs) ≡ k = omega (arith, length-take k xs) in
-      steady.front s (b ∷ take k xs) (drop k xs) n (ap (λ x. taken x) same ∙ t) (omega arith) ∙ same
+      steady.front s (b ∷ take k xs) (drop k xs) n (ap (λ x. size_of_step x) same ∙ t) (omega arith) ∙ same
 
   early-item : (s : S) (b : ℕ) (xs : List ℕ) (o : O) → ((t : S) (stop : Option O) (n : ℕ) → (walk decide t stop n xs).stop ≡ Some o → Early t stop n xs o)
-      → (d : Step S O) → decide s (b ∷ xs) ≡ d → (led (record { state = s; stop = None; between = false }) (λ t stop n. walk decide t stop (n - 1) xs) s d).stop ≡ Some o → Early s None 0 (b ∷ xs) o
+      → (d : Step S O) → decide s (b ∷ xs) ≡ d → (step_on (record { state = s; stop = None; between = false }) (λ t stop n. walk decide t stop (n - 1) xs) s d).stop ≡ Some o → Early s None 0 (b ∷ xs) o
   early-item s b xs o again Cut e f = absurd cc
   early-item s b xs o again (Goes t n) e f =
       let p = again t None (n - 1) f in
-      let some : 1 ≤ n = steady.some s (b ∷ xs) n (ap (λ x. taken x) e) in
+      let some : 1 ≤ n = steady.some s (b ∷ xs) n (ap (λ x. size_of_step x) e) in
       let cut : decide s (b ∷ take p.at xs) ≡ Goes t n = front-same s b xs p.at n (Goes t n) e refl (omega (arith, p.far)) p.within in
       let next : place_of t ≡ place_of s + n = goes s (b ∷ xs) t n e in
       record {
@@ -76,7 +76,7 @@ module _ {S O : Type 0} (decide : S → List ℕ → Step S O) (steady : IsStead
       }
   early-item s b xs o again (Stops q n) e f =
       let p = again s (Some q) (n - 1) f in
-      let some : 1 ≤ n = steady.some s (b ∷ xs) n (ap (λ x. taken x) e) in
+      let some : 1 ≤ n = steady.some s (b ∷ xs) n (ap (λ x. size_of_step x) e) in
       let cut : decide s (b ∷ take p.at xs) ≡ Stops q n = front-same s b xs p.at n (Stops q n) e refl (omega (arith, p.far)) p.within in
       let here = p.there q refl in
       let at_ : p.at ≡ n - 1 = here.0 in
@@ -107,7 +107,7 @@ module _ {S O : Type 0} (decide : S → List ℕ → Step S O) (steady : IsStead
   early-at (b ∷ xs) s None zero o e = early-item s b xs o (λ t stop n. early-at xs t stop n o) (decide s (b ∷ xs)) refl e
 
   module _ (start : S) (unfinished : StreamEnd → S → Bool → O) (final : O → Bool) (outcome_of : List ℕ → StreamEnd → O)
-      (reaches : (bytes : List ℕ) (end : StreamEnd) → outcome_of bytes end ≡ outcome_at unfinished end (walked decide start bytes))
+      (reaches : (bytes : List ℕ) (end : StreamEnd) → outcome_of bytes end ≡ outcome_at unfinished end (whole_walk decide start bytes))
       (first : place_of start ≡ 0) (none : (end : StreamEnd) (s : S) (b : Bool) → offset (unfinished end s b) ≡ None) (told_final : (o : O) (g : ℕ) → offset o ≡ Some g → final o ≡ true) where
     -- the walk stopped with what tells an offset
     stopped-with : (end : StreamEnd) (g : ℕ) (r : Reached S O) → offset (outcome_at unfinished end r) ≡ Some g → (o : O) × (r.stop ≡ Some o) × (offset o ≡ Some g)
@@ -120,15 +120,15 @@ module _ {S O : Type 0} (decide : S → List ℕ → Step S O) (steady : IsStead
 
     pub is_offset : IsOffset final outcome_of offset
     is_offset = record {
-      within = λ bytes end at e. (let s = stopped-with end at (walked decide start bytes) (ap offset (sym (reaches bytes end)) ∙ e) in
+      within = λ bytes end at e. (let s = stopped-with end at (whole_walk decide start bytes) (ap offset (sym (reaches bytes end)) ∙ e) in
           let p = early-at bytes start None 0 s.0 s.1 in
           let told = p.told at s.2 refl in omega (arith, p.within));
-      decides = λ bytes end at e. (let s = stopped-with end at (walked decide start bytes) (ap offset (sym (reaches bytes end)) ∙ e) in
+      decides = λ bytes end at e. (let s = stopped-with end at (whole_walk decide start bytes) (ap offset (sym (reaches bytes end)) ∙ e) in
           let p = early-at bytes start None 0 s.0 s.1 in
           let told = p.told at s.2 refl in
           let same : p.at ≡ at = omega arith in
           ap final (reaches (take at bytes) Running
-          ∙ ap (λ (stop : Option O). unwrap_or stop (unfinished Running (walked decide start (take at bytes)).state (walked decide start (take at bytes)).between)) (ap (λ i. (walked decide start (take i bytes)).stop) (sym same) ∙ p.early))
+          ∙ ap (λ (stop : Option O). unwrap_or stop (unfinished Running (whole_walk decide start (take at bytes)).state (whole_walk decide start (take at bytes)).between)) (ap (λ i. (whole_walk decide start (take i bytes)).stop) (sym same) ∙ p.early))
           ∙ told_final s.0 at s.2);
     }
 
@@ -136,14 +136,7 @@ module _ {S O : Type 0} (decide : S → List ℕ → Step S O) (steady : IsStead
 
 verdict-final : (v : Verdict) (g : ℕ) → verdict_offset v ≡ Some g → is_final v ≡ true
 verdict-final verdicts.Incomplete g e = absurd cc
-verdict-final (verdicts.WebTransport session at) g e = refl
-verdict-final (verdicts.Control at) g e = refl
-verdict-final (verdicts.Encoder at) g e = refl
-verdict-final (verdicts.Decoder at) g e = refl
-verdict-final (verdicts.Request request at) g e = refl
-verdict-final (verdicts.Refused code) g e = refl
-verdict-final verdicts.Dropped g e = refl
-verdict-final (verdicts.Fault code) g e = refl
+verdict-final _ g e = refl
 
 end-none : (end : StreamEnd) → verdict_offset (at_stream_end end) ≡ None
 end-none Running = refl
@@ -182,7 +175,7 @@ header-tells : (bytes : List ℕ) (t : Option (ℕ × ℕ)) (p : Verdict × ℕ)
 header-tells bytes None p e = absurd cc
 header-tells bytes (Some t) p e = by_type-tells t.0 t.1 (session_header_at t.1 (varint_at (drop t.1 bytes))) p e (session-header-tells t.1 (varint_at (drop t.1 bytes)) p)
 
-uni-goes-by : (h : Option (Verdict × ℕ)) (t : Unit {0}) (n : ℕ) → decided (uni_effect tt) h ≡ Goes t n → 0 ≡ 0 + n
+uni-goes-by : (h : Option (Verdict × ℕ)) (t : Unit {0}) (n : ℕ) → step_of_item (uni_effect tt) h ≡ Goes t n → 0 ≡ 0 + n
 uni-goes-by None t n e = absurd cc
 uni-goes-by (Some h) t n e = absurd cc
 
@@ -190,7 +183,7 @@ uni-goes : (s : Unit {0}) (xs : List ℕ) (t : Unit {0}) (n : ℕ) → uni_decid
 unfolding uni_decides
 uni-goes s xs t n e = uni-goes-by (uni_header_at xs) t n e
 
-uni-stops-by : (h : Option (Verdict × ℕ)) (o : Verdict) (n g : ℕ) → ((p : Verdict × ℕ) → h ≡ Some p → Tells p) → decided (uni_effect tt) h ≡ Stops o n → verdict_offset o ≡ Some g → g ≡ 0 + n
+uni-stops-by : (h : Option (Verdict × ℕ)) (o : Verdict) (n g : ℕ) → ((p : Verdict × ℕ) → h ≡ Some p → Tells p) → step_of_item (uni_effect tt) h ≡ Stops o n → verdict_offset o ≡ Some g → g ≡ 0 + n
 uni-stops-by None o n g f e t = absurd cc
 uni-stops-by (Some h) o n g f e t =
     let v : h.0 ≡ o = cc in
@@ -207,14 +200,9 @@ uni_offset = is_offset uni_decides uni_lawful.steady (λ s. 0) verdict_offset un
 
 -- ---- bidirectional streams
 
-bi-goes-by : (at : ℕ) (h : Option (frames.Frame × ℕ)) (t n : ℕ) → decided (bi_effect at) h ≡ Goes t n → t ≡ at + n
-bi-goes-by at None t n e = absurd cc
+bi-goes-by : (at : ℕ) (h : Option (frames.Frame × ℕ)) (t n : ℕ) → step_of_item (bi_effect at) h ≡ Goes t n → t ≡ at + n
 bi-goes-by at (Some (frames.Skipped kind, m)) t n e = cc
-bi-goes-by at (Some (frames.Signal id, m)) t n e = absurd cc
-bi-goes-by at (Some (frames.Headers payload, m)) t n e = absurd cc
-bi-goes-by at (Some (frames.TooLong, m)) t n e = absurd cc
-bi-goes-by at (Some (frames.Data payload, m)) t n e = absurd cc
-bi-goes-by at (Some (frames.Settings payload, m)) t n e = absurd cc
+bi-goes-by at _ t n e = absurd cc
 
 bi-goes : (at : ℕ) (xs : List ℕ) (t n : ℕ) → bi_decides at xs ≡ Goes t n → t ≡ at + n
 unfolding bi_decides
@@ -237,7 +225,7 @@ told-there offset at m v o n g f step is e t =
     let told : g ≡ at + m = f g (ap offset same ∙ t) in
     omega arith
 
-bi-stops-by : (at : ℕ) (h : Option (frames.Frame × ℕ)) (o : Verdict) (n g : ℕ) → decided (bi_effect at) h ≡ Stops o n → verdict_offset o ≡ Some g → g ≡ at + n
+bi-stops-by : (at : ℕ) (h : Option (frames.Frame × ℕ)) (o : Verdict) (n g : ℕ) → step_of_item (bi_effect at) h ≡ Stops o n → verdict_offset o ≡ Some g → g ≡ at + n
 bi-stops-by at None o n g e t = absurd cc
 bi-stops-by at (Some (frames.Skipped kind, m)) o n g e t = absurd cc
 bi-stops-by at (Some (frames.Signal id, m)) o n g e t = told-there verdict_offset at m _ o n g (λ k. session-told id (at + m) k) (bi_effect at m (frames.Signal id)) refl e t
@@ -255,14 +243,9 @@ bi_offset = is_offset bi_decides bi_lawful.steady (λ at. at) verdict_offset bi-
 
 -- ---- responses
 
-response-goes-by : (at : ℕ) (h : Option (frames.Frame × ℕ)) (t n : ℕ) → decided (response_effect at) h ≡ Goes t n → t ≡ at + n
-response-goes-by at None t n e = absurd cc
+response-goes-by : (at : ℕ) (h : Option (frames.Frame × ℕ)) (t n : ℕ) → step_of_item (response_effect at) h ≡ Goes t n → t ≡ at + n
 response-goes-by at (Some (frames.Skipped kind, m)) t n e = cc
-response-goes-by at (Some (frames.Signal id, m)) t n e = absurd cc
-response-goes-by at (Some (frames.Headers payload, m)) t n e = absurd cc
-response-goes-by at (Some (frames.TooLong, m)) t n e = absurd cc
-response-goes-by at (Some (frames.Data payload, m)) t n e = absurd cc
-response-goes-by at (Some (frames.Settings payload, m)) t n e = absurd cc
+response-goes-by at _ t n e = absurd cc
 
 response-goes : (at : ℕ) (xs : List ℕ) (t n : ℕ) → response_decides at xs ≡ Goes t n → t ≡ at + n
 unfolding response_decides
@@ -276,7 +259,7 @@ response-told : (at : ℕ) (r : Result Fields ErrorCode) (g : ℕ) → response_
 response-told at (Ok fields) g e = parsed-response-told at (response_of fields) g e
 response-told at (Err fault) g e = absurd cc
 
-response-stops-by : (at : ℕ) (h : Option (frames.Frame × ℕ)) (o : ResponseWalk) (n g : ℕ) → decided (response_effect at) h ≡ Stops o n → response_offset o ≡ Some g → g ≡ at + n
+response-stops-by : (at : ℕ) (h : Option (frames.Frame × ℕ)) (o : ResponseWalk) (n g : ℕ) → step_of_item (response_effect at) h ≡ Stops o n → response_offset o ≡ Some g → g ≡ at + n
 response-stops-by at None o n g e t = absurd cc
 response-stops-by at (Some (frames.Skipped kind, m)) o n g e t = absurd cc
 response-stops-by at (Some (frames.Signal id, m)) o n g e t = told-there response_offset at m _ o n g (λ k h. absurd cc) (response_effect at m (frames.Signal id)) refl e t

@@ -22,9 +22,9 @@ use Rattle.wt_proto.specs.SessionWalk.{is_over, session_decides, session_walk_of
 use Rattle.wt_proto.specs.ResponseWalk.{is_response_final, response_decides, response_walk_of}
 use Rattle.wt_seam_spec.specs.Arrivals.{event_entry, log_bytes, log_bytes_if, log_turn}
 use Rattle.wt_seam_spec.specs.Joined.{send_of}
-use Rattle.wt_seam_spec.specs.Outgoing.{if_open, may_open, opening, reset_entry, sending}
+use Rattle.wt_seam_spec.specs.Outgoing.{if_open, may_open, actions_to_open, reset_entry, actions_to_send}
 use Rattle.wt_seam_spec.specs.Streams.{contents, local_bi, local_count, local_uni, one_more_if, opens, peer_bi, peer_count, peer_uni, stream_count}
-use Rattle.wt_seam_spec.specs.Unread.{ReadPosition, AtOffset, advance, at_start, consumed, from_position, given_up, unread}
+use Rattle.wt_seam_spec.specs.Unread.{ReadPosition, AtOffset, advance, at_start, position_after, from_position, given_up, unread}
 use Rattle.wt_seam_spec.specs.Unread as positions
 use Rattle.wt_message.specs.FixedBytes.{local_control_bytes}
 use Rattle.wt_wire.specs.PrefixedInteger.{prefixed_bytes}
@@ -135,7 +135,7 @@ goes-send : (side : Side) (log : Log) (id : ℕ) (bytes : List ℕ) → GoesOn s
 goes-send side log id [] = goes-nothing side log
 goes-send side log id (b ∷ bytes) = goes-sent side log (actions.Send id (b ∷ bytes)) (λ kind. refl)
 
-pub goes-sending : (side : Side) (log : Log) (id : ℕ) (bytes : List ℕ) → GoesOn side log (with_actions (sending log id bytes) log)
+pub goes-sending : (side : Side) (log : Log) (id : ℕ) (bytes : List ℕ) → GoesOn side log (with_actions (actions_to_send log id bytes) log)
 goes-sending side log id bytes = goes-send side log id _
 
 goes-reset-if : (side : Side) (log : Log) (id code : ℕ) (b : Bool) → GoesOn side log ((if b then Sent (actions.ResetOut id code) else Called (ResetUnsent id code)) ∷ log)
@@ -167,11 +167,11 @@ goes-opened-if : (side : Side) (log : Log) (kind n : ℕ) (b : Bool) → kind < 
 goes-opened-if side log kind n true l u b = goes-opened side log kind n l u b
 goes-opened-if side log kind n false l u b = goes-nothing side log
 
-pub goes-open-uni : (side : Side) (log : Log) → GoesOn side log (with_actions (opening side log (local_uni side)) log)
+pub goes-open-uni : (side : Side) (log : Log) → GoesOn side log (with_actions (actions_to_open side log (local_uni side)) log)
 goes-open-uni Client log = goes-opened-if Client log 2 (stream_count Client log 2) (may_open Client log 2) (omega arith) (λ e. omega arith) (λ e. omega arith)
 goes-open-uni Server log = goes-opened-if Server log 3 (stream_count Server log 3) (may_open Server log 3) (omega arith) (λ e. omega arith) (λ e. omega arith)
 
-pub goes-open-bi : (side : Side) (log : Log) → GoesOn side log (with_actions (opening side log (local_bi side)) log)
+pub goes-open-bi : (side : Side) (log : Log) → GoesOn side log (with_actions (actions_to_open side log (local_bi side)) log)
 goes-open-bi Client log = goes-opened-if Client log 0 (stream_count Client log 0) (may_open Client log 0) (omega arith) (λ e. omega arith) (λ e. omega arith)
 goes-open-bi Server log = goes-opened-if Server log 1 (stream_count Server log 1) (may_open Server log 1) (omega arith) (λ e. omega arith) (λ e. omega arith)
 
@@ -204,21 +204,9 @@ goes-bytes-if side log id bytes true = record {
 goes-bytes-if side log id bytes false = goes-nothing side log
 
 pub goes-turn : (side : Side) (log : Log) (turn : Turn) → GoesOn side log (log_turn log turn)
-goes-turn side log (turns.Connected uni bi total datagrams) = goes-event side log _ (is_open log)
-goes-turn side log turns.PeerUni = goes-event side log _ (is_open log)
-goes-turn side log turns.PeerBi = goes-event side log _ (is_open log)
 goes-turn side log (turns.Bytes id piece) = goes-bytes-if side log id piece (is_open log)
-goes-turn side log (turns.End id) = goes-event side log _ (is_open log)
-goes-turn side log (turns.Reset id code) = goes-event side log _ (is_open log)
-goes-turn side log (turns.Stop id code) = goes-event side log _ (is_open log)
-goes-turn side log (turns.Acked id) = goes-event side log _ (is_open log)
-goes-turn side log (turns.Datagram piece) = goes-event side log _ (is_open log)
-goes-turn side log (turns.MaxUni total) = goes-event side log _ (is_open log)
-goes-turn side log (turns.MaxBi total) = goes-event side log _ (is_open log)
-goes-turn side log (turns.MaxData id total) = goes-event side log _ (is_open log)
-goes-turn side log (turns.DatagramLimit fact) = goes-event side log _ (is_open log)
-goes-turn side log (turns.Loss reason) = goes-event side log _ (is_open log)
 goes-turn side log (turns.Call call) = goes-nothing side log
+goes-turn side log _ = goes-event side log _ (is_open log)
 
 -- ---- how many streams the peer opened
 
@@ -240,13 +228,7 @@ module _ (side : Side) (x : InboxState) (log : Log) (stage : ℕ → Stage) (unt
 body-opens : (x : InboxState) (k : ℕ) (bytes : List ℕ) (position : ReadPosition) (stage : Stage) (offset : ℕ) → body_offset stage ≡ Some offset → IsAt x k bytes position stage → (position ≡ AtOffset offset) × HasNoWalk x k
 body-opens x k bytes position Untouched offset a h = (let same : 0 ≡ offset = cc in h.0 ∙ ap AtOffset same, h.1.walk)
 body-opens x k bytes position (Body n) offset a h = (let same : n ≡ offset = cc in h.0 ∙ ap AtOffset same, h.1)
-body-opens x k bytes position UniHeader offset a h = absurd cc
-body-opens x k bytes position BiHeader offset a h = absurd cc
-body-opens x k bytes position ResponseHead offset a h = absurd cc
-body-opens x k bytes position (ControlBody at) offset a h = absurd cc
-body-opens x k bytes position (SessionBody at) offset a h = absurd cc
-body-opens x k bytes position GivenUp offset a h = absurd cc
-body-opens x k bytes position Anywhere offset a h = absurd cc
+body-opens x k bytes position _ offset a h = absurd cc
 
 -- the readers stay as they are with another transport
 same-readers : (x : InboxState) (t : TransportState) (k : ℕ) → SameReaders x (with_transport x t) k
@@ -279,13 +261,13 @@ module _ (side : Side) (x : InboxState) (log : Log) (stage : ℕ → Stage) (unt
     body-unread = ap (λ (p : ReadPosition). from_position p (contents log id)) body-place
 
     -- bytes of a stream are read
-    pub reads-body : (t : TransportState) (count : ℕ) → seam.Refines side t log (consumed r.position id count) untaken → Refines side (with_transport x t) log (with_stage stage id (Body (offset + count))) untaken
+    pub reads-body : (t : TransportState) (count : ℕ) → seam.Refines side t log (position_after r.position id count) untaken → Refines side (with_transport x t) log (with_stage stage id (Body (offset + count))) untaken
     reads-body t count s = record {
-      position = consumed r.position id count;
+      position = position_after r.position id count;
       transport = s;
       no_uni = r.no_uni;
       no_bi = r.no_bi;
-      staged = staged-at (with_transport x t) log (consumed r.position id count) stage id (Body (offset + count))
+      staged = staged-at (with_transport x t) log (position_after r.position id count) stage id (Body (offset + count))
           (here-consumed r.position id count ∙ ap (advance count) body-place, no-walk-still x t id (contents log id) [] (r.position id) (body-opens x id (contents log id) (r.position id) (stage id) offset a (r.staged id)).1)
           (λ k n. subst (λ (p : ReadPosition). IsAt (with_transport x t) k (contents log k) p (stage k)) (sym (other-consumed r.position id count k n))
           (is-at-same x (with_transport x t) k (same-readers x t k) (contents log k) (r.position k) (stage k) (r.staged k)));

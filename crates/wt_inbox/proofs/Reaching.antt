@@ -8,8 +8,8 @@ use Rattle.std.proofs.Math.Seq.{take-add}
 use Rattle.wt_wire.specs.declared.side.StreamEnd.{StreamEnd}
 use Rattle.wt_wire.specs.declared.side.StreamEnd.TheVariants.{Running}
 use Rattle.wt_proto.specs.declared.walk.Step.{Step}
-use Rattle.wt_proto.specs.Walk.{Reached, outcome_at, walked}
-use Rattle.wt_proto.specs.Progress.{Progress, Reading, fed, progress_over, reached}
+use Rattle.wt_proto.specs.Walk.{Reached, outcome_at, whole_walk}
+use Rattle.wt_proto.specs.Progress.{Progress, Reading, progress_after, progress_over, reached_in, read_on}
 use Rattle.wt_proto.specs.Reading.{outcome_in}
 use Rattle.wt_proto.specs.Steady.{IsSteady}
 use Rattle.wt_proto.proofs.ProgressLaws.{fed-append, fed-fed}
@@ -17,13 +17,13 @@ use Rattle.wt_proto.proofs.ReadingLaws.{read-outcome}
 use Rattle.wt_seam_spec.specs.Unread.{ReadPosition, AtOffset, advance, from_position}
 use Rattle.wt_seam.specs.State.{TransportState}
 use Rattle.wt_seam.specs.Step.{end_now, unread_now}
-use Rattle.wt_inbox.specs.Kept.{Kept, Pulled, Pulls, outcome_after, outcome_by, outcome_now, read_on, reading_of}
+use Rattle.wt_inbox.specs.Kept.{Kept, Pulled, Pulls, outcome_after, outcome_by, outcome_now, reading_of}
 use Rattle.wt_inbox.specs.Stage.{HasReached}
 use Rattle.wt_inbox.proofs.Offsets.{IsOffset}
 use Rattle.wt_inbox.proofs.QuietLaws.{same_end}
 
 module _ {S O : Type 0} (start : S) (decide : S → List ℕ → Step S O) (steady : IsSteady decide) (unfinished : StreamEnd → S → Bool → O) (final : O → Bool) (outcome_of : List ℕ → StreamEnd → O)
-    (reaches : (bytes : List ℕ) (end : StreamEnd) → outcome_of bytes end ≡ outcome_at unfinished end (walked decide start bytes)) where
+    (reaches : (bytes : List ℕ) (end : StreamEnd) → outcome_of bytes end ≡ outcome_at unfinished end (whole_walk decide start bytes)) where
   abbrev over : List ℕ → Progress S O
   over bytes = progress_over decide start None 0 bytes
 
@@ -34,11 +34,11 @@ module _ {S O : Type 0} (start : S) (decide : S → List ℕ → Step S O) (stea
       → outcome_by decide start unfinished later u k d ≡ outcome_by decide start unfinished kept t k e
   same-outcome kept later t u k d e r n x = λ i. outcome_after decide unfinished (r i) (n i) (x i)
 
-  pulls-same : (old new : Reading S O) (t u : TransportState) (id : ℕ) → Pulls start decide unfinished final outcome_of old new t u id → fed decide new.progress (unread_now u id) ≡ fed decide old.progress (unread_now t id)
+  pulls-same : (old new : Reading S O) (t u : TransportState) (id : ℕ) → Pulls start decide unfinished final outcome_of old new t u id → progress_after decide new.progress (unread_now u id) ≡ progress_after decide old.progress (unread_now t id)
   pulls-same old new t u id p =
-      ap (λ (q : Progress S O). fed decide q (unread_now u id)) p.taken
+      ap (λ (q : Progress S O). progress_after decide q (unread_now u id)) p.taken
       ∙ (fed-fed decide steady old.progress (take p.count (unread_now t id)) (unread_now u id)
-      ∙ ap (λ (xs : List ℕ). fed decide old.progress xs) (ap (λ (ys : List ℕ). take p.count (unread_now t id) ++ ys) p.consumes.here ∙ take-append-drop p.count (unread_now t id)))
+      ∙ ap (λ (xs : List ℕ). progress_after decide old.progress xs) (ap (λ (ys : List ℕ). take p.count (unread_now t id) ++ ys) p.consumes.here ∙ take-append-drop p.count (unread_now t id)))
 
   module _ (old new : List (Kept S O)) (t u : TransportState) (id : ℕ) (p : Pulled start decide unfinished final outcome_of old new t u id) where
     same-if : (b : Bool) (k : ℕ) → (id == k) ≡ b → (d e : StreamEnd) → d ≡ e → outcome_by decide start unfinished new u k d ≡ outcome_by decide start unfinished old t k e
@@ -70,7 +70,7 @@ module _ {S O : Type 0} (start : S) (decide : S → List ℕ → Step S O) (stea
     -- unless the answer is final, nothing is left
     pub asked-read : (old new : List (Kept S O)) (t u : TransportState) (id : ℕ) → Pulled start decide unfinished final outcome_of old new t u id → (end : StreamEnd) → final (outcome_by decide start unfinished old t id end) ≡ false → unread_now u id ≡ []
     asked-read old new t u id p end e =
-        let r : Reached S O = reached (fed decide (reading_of start old id).progress (unread_now t id)) in
+        let r : Reached S O = reached_in (progress_after decide (reading_of start old id).progress (unread_now t id)) in
         p.pulls.read (runs-on end r.state r.stop r.between e)
 
   -- ---- by the contents
@@ -79,10 +79,10 @@ module _ {S O : Type 0} (start : S) (decide : S → List ℕ → Step S O) (stea
     rest-is : from_position position c ≡ drop h.count (drop at c)
     rest-is = ap (λ (q : ReadPosition). from_position q c) h.place ∙ sym (drop-drop h.count at c)
 
-    all-is : (unread : List ℕ) → unread ≡ from_position position c → fed decide r.progress unread ≡ over (drop at c)
+    all-is : (unread : List ℕ) → unread ≡ from_position position c → progress_after decide r.progress unread ≡ over (drop at c)
     all-is unread e =
-        ap (λ (xs : List ℕ). fed decide r.progress xs) (e ∙ rest-is)
-        ∙ (ap (λ (q : Progress S O). fed decide q (drop h.count (drop at c))) h.read
+        ap (λ (xs : List ℕ). progress_after decide r.progress xs) (e ∙ rest-is)
+        ∙ (ap (λ (q : Progress S O). progress_after decide q (drop h.count (drop at c))) h.read
         ∙ (fed-append decide steady (take h.count (drop at c)) (drop h.count (drop at c)) start None 0
         ∙ ap (λ (xs : List ℕ). over xs) (take-append-drop h.count (drop at c))))
 
@@ -100,7 +100,7 @@ module _ {S O : Type 0} (start : S) (decide : S → List ℕ → Step S O) (stea
 
       read-is : new.progress ≡ over (take (h.count + p.count) (drop at c))
       read-is = p.taken
-          ∙ (ap (λ (q : Progress S O). fed decide q (take p.count (unread_now t id))) h.read
+          ∙ (ap (λ (q : Progress S O). progress_after decide q (take p.count (unread_now t id))) h.read
           ∙ (fed-append decide steady (take h.count (drop at c)) (take p.count (unread_now t id)) start None 0 ∙ ap (λ (xs : List ℕ). over xs) (bytes-are p.count)))
 
       goes : (m : ℕ) → m < h.count + p.count → final (outcome_of (take m (drop at c)) Running) ≡ false

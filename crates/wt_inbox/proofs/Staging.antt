@@ -22,7 +22,7 @@ use Rattle.wt_proto.proofs.SessionReading.{session_lawful}
 use Rattle.wt_proto.proofs.ResponseReading.{response_lawful}
 use Rattle.wt_seam_spec.specs.Streams.{contents}
 use Rattle.wt_seam_spec.specs.Reports.{end_of}
-use Rattle.wt_seam_spec.specs.Unread.{ReadPosition, AtOffset, advance, consumed, from_position}
+use Rattle.wt_seam_spec.specs.Unread.{ReadPosition, AtOffset, advance, position_after, from_position}
 use Rattle.wt_seam.specs.State.{TransportState, IsWithin}
 use Rattle.wt_seam.specs.State as seam
 use Rattle.wt_seam.specs.Step.{unread_now}
@@ -40,10 +40,10 @@ use Rattle.wt_inbox.proofs.Reaching.{outcome-is, reached-on, read-all, stands-at
 same-number : (n : ℕ) → (n == n) ≡ true
 same-number n = grind (arith, nat_tests)
 
-pub here-consumed : (position : ℕ → ReadPosition) (id n : ℕ) → consumed position id n id ≡ advance n (position id)
+pub here-consumed : (position : ℕ → ReadPosition) (id n : ℕ) → position_after position id n id ≡ advance n (position id)
 here-consumed position id n = rw (same-number id) refl
 
-pub other-consumed : (position : ℕ → ReadPosition) (id n k : ℕ) → (id == k) ≡ false → consumed position id n k ≡ position k
+pub other-consumed : (position : ℕ → ReadPosition) (id n k : ℕ) → (id == k) ≡ false → position_after position id n k ≡ position k
 other-consumed position id n k e = rw e refl
 
 -- what a stage says rests on the readers of the stream alone
@@ -147,44 +147,44 @@ module _ {S O : Type 0} {start : S} {decide : S → List ℕ → Step S O} {want
 
     module _ {y : InboxState} (p : PulledIn start decide unfinished final outcome_of kept with_kept x y id) where
       -- it read on: it stands further on
-      reached-then : HasReached start decide final outcome_of (reading_of start (kept y) id) from (contents log id) (consumed r.position id p.pulled.pulls.count id)
+      reached-then : HasReached start decide final outcome_of (reading_of start (kept y) id) from (contents log id) (position_after r.position id p.pulled.pulls.count id)
       reached-then = subst (λ (q : ReadPosition). HasReached start decide final outcome_of (reading_of start (kept y) id) from (contents log id) q) (sym (here-consumed r.position id p.pulled.pulls.count))
           (reached-on start decide law.steady unfinished final outcome_of law.reaches (reading_of start (kept x) id) from (contents log id) (r.position id) h (reading_of start (kept y) id) x.transport y.transport id p.pulled.pulls unread-is)
 
       -- an inbox with that transport and the other streams' readers refines the log, its own stream at any stage that fits
-      refines-then : (z : InboxState) → z.transport ≡ y.transport → ((k : ℕ) → (id == k) ≡ false → SameReaders x z k) → (to : Stage) → IsAt z id (contents log id) (consumed r.position id p.pulled.pulls.count id) to
+      refines-then : (z : InboxState) → z.transport ≡ y.transport → ((k : ℕ) → (id == k) ≡ false → SameReaders x z k) → (to : Stage) → IsAt z id (contents log id) (position_after r.position id p.pulled.pulls.count id) to
           → Refines side z log (with_stage stage id to) untaken
       refines-then z same readers to here = record {
-        position = consumed r.position id p.pulled.pulls.count;
-        transport = subst (λ (t : TransportState). seam.Refines side t log (consumed r.position id p.pulled.pulls.count) untaken) (sym same) (p.pulled.pulls.consumes.refines side log r.position untaken r.transport);
+        position = position_after r.position id p.pulled.pulls.count;
+        transport = subst (λ (t : TransportState). seam.Refines side t log (position_after r.position id p.pulled.pulls.count) untaken) (sym same) (p.pulled.pulls.consumes.refines side log r.position untaken r.transport);
         no_uni = r.no_uni;
         no_bi = r.no_bi;
-        staged = staged-at z log (consumed r.position id p.pulled.pulls.count) stage id to here
+        staged = staged-at z log (position_after r.position id p.pulled.pulls.count) stage id to here
             (λ k n. subst (λ (q : ReadPosition). IsAt z k (contents log k) q (stage k)) (sym (other-consumed r.position id p.pulled.pulls.count k n))
             (is-at-same x z k (readers k n) (contents log k) (r.position k) (stage k) (r.staged k)));
       }
 
       -- with it kept
-      kept-read : (to : Stage) → IsAt y id (contents log id) (consumed r.position id p.pulled.pulls.count id) to → Refines side y log (with_stage stage id to) untaken
+      kept-read : (to : Stage) → IsAt y id (contents log id) (position_after r.position id p.pulled.pulls.count id) to → Refines side y log (with_stage stage id to) untaken
       kept-read = refines-then y refl (pulled-readers law kind p)
 
       -- with it let go
-      kept-released : {z : InboxState} → TakenIn start kept with_kept y z id → (to : Stage) → IsAt z id (contents log id) (consumed r.position id p.pulled.pulls.count id) to → Refines side z log (with_stage stage id to) untaken
+      kept-released : {z : InboxState} → TakenIn start kept with_kept y z id → (to : Stage) → IsAt z id (contents log id) (position_after r.position id p.pulled.pulls.count id) to → Refines side z log (with_stage stage id to) untaken
       kept-released {z} q = refines-then z (ap (λ (w : InboxState). w.transport) (released-rest law kind p q)) (released-readers law kind p q)
 
   -- a reader in front of the walks
   module _ {offset : O → Option ℕ} (header : IsHeader final outcome_of with_kept offset) (h : HasReached start decide final outcome_of (reading_of start (kept x) id) 0 (contents log id) (r.position id) × HasNoWalk x id)
       {y : InboxState} (p : PulledIn start decide unfinished final outcome_of kept with_kept x y id) where
     -- it read on: no walk has read its stream yet
-    header-then : HasReached start decide final outcome_of (reading_of start (kept y) id) 0 (contents log id) (consumed r.position id p.pulled.pulls.count id) × HasNoWalk y id
+    header-then : HasReached start decide final outcome_of (reading_of start (kept y) id) 0 (contents log id) (position_after r.position id p.pulled.pulls.count id) × HasNoWalk y id
     header-then = (reached-then 0 h.0 p, subst (λ (w : InboxState). HasNoWalk w id) (sym p.rest) (header.walks x (kept y) y.transport id h.1))
 
     -- it was let go then: its stream stands where its outcome tells
     body-then : {z : InboxState} → TakenIn start kept with_kept y z id → (at : Option ℕ) → offset (outcome_of (contents log id) (end_of (events_of log) id)) ≡ at
-        → IsAt z id (contents log id) (consumed r.position id p.pulled.pulls.count id) (stage_from at)
+        → IsAt z id (contents log id) (position_after r.position id p.pulled.pulls.count id) (stage_from at)
     body-then q None e = tt
     body-then {z} q (Some at) e = (
-      stands-at start decide law.steady unfinished final outcome_of law.reaches offset header.tells (reading_of start (kept y) id) (contents log id) (consumed r.position id p.pulled.pulls.count id) header-then.0
+      stands-at start decide law.steady unfinished final outcome_of law.reaches offset header.tells (reading_of start (kept y) id) (contents log id) (position_after r.position id p.pulled.pulls.count id) header-then.0
           (read-all start decide law.steady unfinished final outcome_of law.reaches (reading_of start (kept x) id) 0 (contents log id) (r.position id) h.0 (reading_of start (kept y) id) x.transport y.transport id p.pulled.pulls unread-is)
           (end_of (events_of log) id) at e,
       subst (λ (w : InboxState). HasNoWalk w id) (sym (released-rest law kind p q)) (header.walks y (kept z) y.transport id header-then.1),

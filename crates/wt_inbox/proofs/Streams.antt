@@ -8,7 +8,7 @@ use Rattle.std.proofs.lemmas.List.{get_or-set_same, get_or-set_other}
 use Rattle.std.proofs.Math.Seq.{map-set_same}
 use Rattle.std.proofs.Math.ListN.{length-set}
 use Rattle.wt_streams.specs.declared.stream.Stream.{Stream}
-use Rattle.wt_streams.specs.StreamState.{changed, changed_in, fresh, has_stream, row_at, stream_at, stream_in}
+use Rattle.wt_streams.specs.StreamState.{with_changed, changed_in, fresh, has_stream, row_at, stream_at, stream_in}
 use Rattle.wt_seam.specs.State.{TransportState}
 use Rattle.wt_seam.specs.Step.{with_change, unread_now}
 use Rattle.wt_inbox.specs.Quiet.{quiet, quiet_stream}
@@ -33,27 +33,27 @@ module _ (streams : List (List Stream)) (id : ℕ) (f : Stream → Stream) (has 
   kind-below : id % 4 < length streams
   kind-below = kind-there streams (id % 4) (id / 4) index-below
 
-  row-changed : row_at (changed streams id f) (id % 4) ≡ changed_in (row_at streams (id % 4)) (id / 4) f
+  row-changed : row_at (with_changed streams id f) (id % 4) ≡ changed_in (row_at streams (id % 4)) (id / 4) f
   row-changed = get_or-set_same streams (id % 4) (changed_in (row_at streams (id % 4)) (id / 4) f) [] kind-below
 
-  pub here-changed : stream_at (changed streams id f) id ≡ f (stream_at streams id)
+  pub here-changed : stream_at (with_changed streams id f) id ≡ f (stream_at streams id)
   here-changed = ap (λ (row : List Stream). stream_in row (id / 4)) row-changed
       ∙ get_or-set_same (row_at streams (id % 4)) (id / 4) (f (stream_at streams id)) (fresh 0) index-below
 
-  pub here-has : has_stream (changed streams id f) id ≡ true
+  pub here-has : has_stream (with_changed streams id f) id ≡ true
   here-has = ap (λ (row : List Stream). nat_lt (id / 4) (length row)) row-changed
       ∙ (ap (λ n. nat_lt (id / 4) n) (length-set (row_at streams (id % 4)) (id / 4) (f (stream_at streams id))) ∙ has)
 
-  other-row : (k : ℕ) → k % 4 ≢ id % 4 → row_at (changed streams id f) (k % 4) ≡ row_at streams (k % 4)
+  other-row : (k : ℕ) → k % 4 ≢ id % 4 → row_at (with_changed streams id f) (k % 4) ≡ row_at streams (k % 4)
   other-row k d = get_or-set_other streams (id % 4) (k % 4) (changed_in (row_at streams (id % 4)) (id / 4) f) [] d
 
-  same-row : (k : ℕ) → k % 4 ≡ id % 4 → k / 4 ≢ id / 4 → stream_at (changed streams id f) k ≡ stream_at streams k
-  same-row k e d = ap (λ kind. stream_in (row_at (changed streams id f) kind) (k / 4)) e
+  same-row : (k : ℕ) → k % 4 ≡ id % 4 → k / 4 ≢ id / 4 → stream_at (with_changed streams id f) k ≡ stream_at streams k
+  same-row k e d = ap (λ kind. stream_in (row_at (with_changed streams id f) kind) (k / 4)) e
       ∙ (ap (λ (row : List Stream). stream_in row (k / 4)) row-changed
       ∙ (get_or-set_other (row_at streams (id % 4)) (id / 4) (k / 4) (f (stream_at streams id)) (fresh 0) d
       ∙ ap (λ kind. stream_in (row_at streams kind) (k / 4)) (sym e)))
 
-  kinds : (k : ℕ) (b : Bool) → (k % 4 == id % 4) ≡ b → (id == k) ≡ false → stream_at (changed streams id f) k ≡ stream_at streams k
+  kinds : (k : ℕ) (b : Bool) → (k % 4 == id % 4) ≡ b → (id == k) ≡ false → stream_at (with_changed streams id f) k ≡ stream_at streams k
   kinds k true e n =
       let same : k % 4 ≡ id % 4 = grind (arith, nat_tests) in
       let other : id ≢ k = λ s. (let yes_ : (id == k) ≡ true = grind (arith, nat_tests) in absurd (cc)) in
@@ -63,13 +63,13 @@ module _ (streams : List (List Stream)) (id : ℕ) (f : Stream → Stream) (has 
       ap (λ (row : List Stream). stream_in row (k / 4)) (other-row k other)
 
   -- another stream stays as it is
-  pub other-changed : (k : ℕ) → (id == k) ≡ false → stream_at (changed streams id f) k ≡ stream_at streams k
+  pub other-changed : (k : ℕ) → (id == k) ≡ false → stream_at (with_changed streams id f) k ≡ stream_at streams k
   other-changed k n = kinds k (k % 4 == id % 4) refl n
 
-  has-kinds : (k : ℕ) (b : Bool) → (k % 4 == id % 4) ≡ b → has_stream (changed streams id f) k ≡ has_stream streams k
+  has-kinds : (k : ℕ) (b : Bool) → (k % 4 == id % 4) ≡ b → has_stream (with_changed streams id f) k ≡ has_stream streams k
   has-kinds k true e =
       let same : k % 4 ≡ id % 4 = grind (arith, nat_tests) in
-      ap (λ kind. nat_lt (k / 4) (length (row_at (changed streams id f) kind))) same
+      ap (λ kind. nat_lt (k / 4) (length (row_at (with_changed streams id f) kind))) same
       ∙ (ap (λ (row : List Stream). nat_lt (k / 4) (length row)) row-changed
       ∙ (ap (λ n. nat_lt (k / 4) n) (length-set (row_at streams (id % 4)) (id / 4) (f (stream_at streams id)))
       ∙ ap (λ kind. nat_lt (k / 4) (length (row_at streams kind))) (sym same)))
@@ -77,7 +77,7 @@ module _ (streams : List (List Stream)) (id : ℕ) (f : Stream → Stream) (has 
       let other : k % 4 ≢ id % 4 = λ s. (let yes_ : (k % 4 == id % 4) ≡ true = grind (arith, nat_tests) in absurd (cc)) in
       ap (λ (row : List Stream). nat_lt (k / 4) (length row)) (other-row k other)
 
-  pub has-changed : (k : ℕ) → has_stream (changed streams id f) k ≡ has_stream streams k
+  pub has-changed : (k : ℕ) → has_stream (with_changed streams id f) k ≡ has_stream streams k
   has-changed k = has-kinds k (k % 4 == id % 4) refl
 
 -- a change that is nothing but a reader's leaves the quiet transport
@@ -85,7 +85,7 @@ module _ (f : Stream → Stream) (same : (s : Stream) → quiet_stream (f s) ≡
   quiet-row : (row : List Stream) (index : ℕ) → map quiet_stream (changed_in row index f) ≡ map quiet_stream row
   quiet-row row index = map-set_same quiet_stream row index (f (stream_in row index)) (fresh 0) (same (stream_in row index))
 
-  quiet-rows : (streams : List (List Stream)) (id : ℕ) → map (λ (row : List Stream). map quiet_stream row) (changed streams id f) ≡ map (λ (row : List Stream). map quiet_stream row) streams
+  quiet-rows : (streams : List (List Stream)) (id : ℕ) → map (λ (row : List Stream). map quiet_stream row) (with_changed streams id f) ≡ map (λ (row : List Stream). map quiet_stream row) streams
   quiet-rows streams id = map-set_same (λ (row : List Stream). map quiet_stream row) streams (id % 4) (changed_in (row_at streams (id % 4)) (id / 4) f) [] (quiet-row (row_at streams (id % 4)) (id / 4))
 
   pub quiet-changed : (t : TransportState) (id : ℕ) → quiet (with_change t id f) ≡ quiet t
@@ -96,5 +96,5 @@ pub other-unread : (t : TransportState) (id : ℕ) (f : Stream → Stream) → h
 other-unread t id f has k n =
     let there = has-changed t.streams id f has k in
     let same = other-changed t.streams id f has k n in
-    ap (λ (b : Bool). concat (if b then (stream_at (changed t.streams id f) k).unread else [])) there
+    ap (λ (b : Bool). concat (if b then (stream_at (with_changed t.streams id f) k).unread else [])) there
     ∙ ap (λ (s : Stream). concat (if has_stream t.streams k then s.unread else [])) same

@@ -4,12 +4,12 @@ use Rattle.std.specs.List.{list_any}
 use Rattle.wt_wire.specs.declared.side.StreamEnd.{StreamEnd}
 use Rattle.wt_wire.specs.declared.side.StreamEnd.TheVariants.{Running}
 use Rattle.wt_proto.specs.declared.walk.Step.{Step}
-use Rattle.wt_proto.specs.Progress.{HasRead, Reading, at_item, fed, fed_reading, progress_over}
+use Rattle.wt_proto.specs.Progress.{HasRead, Reading, at_item, progress_after, fed_reading, progress_over, read_on}
 use Rattle.wt_proto.specs.Reading.{outcome_in}
 use Rattle.wt_wire.specs.declared.side.Side.{Side}
 use Rattle.wt_turn.specs.declared.action.Action.{Action}
 use Rattle.wt_turn.specs.Log.{Log}
-use Rattle.wt_seam_spec.specs.Unread.{ReadPosition, consumed}
+use Rattle.wt_seam_spec.specs.Unread.{ReadPosition, position_after}
 use Rattle.wt_seam.specs.State.{TransportState, Refines}
 use Rattle.wt_seam.specs.Step.{unread_now, end_now}
 use Rattle.wt_inbox.specs.Quiet.{quiet}
@@ -47,10 +47,6 @@ pub record StandsAt {S O : Type 0} (start : S) (kept : List (Kept S O)) (id inde
   pub here : ((slice_index_or kept index (no_kept start)).id == id) ≡ true
   pub first : (k : ℕ) → k < index → ((slice_index_or kept k (no_kept start)).id == id) ≡ false
 
--- a reader once it took these bytes and was told the end
-abbrev pub read_on : {S O : Type 0} → (S → List ℕ → Step S O) → Reading S O → List ℕ → StreamEnd → Reading S O
-read_on decide r bytes end = record { progress = fed decide r.progress bytes; end = end }
-
 -- the outcome of a reader once it took these bytes and was told the end
 abbrev pub outcome_after : {S O : Type 0} → (S → List ℕ → Step S O) → (StreamEnd → S → Bool → O) → Reading S O → List ℕ → StreamEnd → O
 outcome_after decide unfinished r bytes end = outcome_in unfinished (read_on decide r bytes end)
@@ -69,7 +65,7 @@ pub record Consumes (before after : TransportState) (id count : ℕ) : Type 0 wh
   pub here : unread_now after id ≡ drop count (unread_now before id)
   pub others : (k : ℕ) → (id == k) ≡ false → unread_now after k ≡ unread_now before k
   pub quiet : quiet after ≡ quiet before
-  pub refines : (side : Side) (log : Log) (position : ℕ → ReadPosition) (untaken : List Action) → Refines side before log position untaken → Refines side after log (consumed position id count) untaken
+  pub refines : (side : Side) (log : Log) (position : ℕ → ReadPosition) (untaken : List Action) → Refines side before log position untaken → Refines side after log (position_after position id count) untaken
 
 -- a reader took so many unread bytes, which are consumed; in front of the last one its outcome wasn't final
 pub record Takes {S O : Type 0} (start : S) (decide : S → List ℕ → Step S O) (final : O → Bool) (outcome_of : List ℕ → StreamEnd → O)
@@ -86,7 +82,7 @@ pub record Pulls {S O : Type 0} (start : S) (decide : S → List ℕ → Step S 
   pub count : ℕ
   pub consumes : Consumes before after id count
   pub all : new ≡ read_on decide old (unread_now before id) (end_now before id)
-  pub taken : new.progress ≡ fed decide old.progress (take count (unread_now before id))
+  pub taken : new.progress ≡ progress_after decide old.progress (take count (unread_now before id))
   pub running : (bytes : List ℕ) → old.progress ≡ progress_over decide start None 0 bytes → (m : ℕ) → m < count → final (outcome_of (bytes ++ take m (unread_now before id)) Running) ≡ false
   pub read : final (outcome_after decide unfinished old (unread_now before id) Running) ≡ false → unread_now after id ≡ []
 

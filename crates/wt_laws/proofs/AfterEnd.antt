@@ -13,7 +13,7 @@ use Rattle.wt_laws.proofs.Steps.{Keeps}
 use Rattle.wt_laws.specs.Causes.{ActionCause, OwnCauses}
 use Rattle.wt_laws.specs.Laws.{NothingAfterEnd}
 use Rattle.wt_laws.specs.Reachable.{IsReachable}
-use Rattle.wt_spec.specs.Driver.{apply_if, close_actions, established, flush, is_moment, log_and_flush, pending_actions, session_id, stream_table}
+use Rattle.wt_spec.specs.Driver.{apply_if, close_actions, established_session, flush, is_moment, log_and_flush, pending_actions, session_id, stream_table}
 use Rattle.wt_spec.specs.StreamTable.{ByFault, BySession, Ending}
 use Rattle.wt_turn.specs.declared.action.Action.TheVariants as actions
 
@@ -47,19 +47,13 @@ flush-ends side e log p = at (is_moment e) (is_open (e ∷ log)) refl
     at false b o = p
     at true false o = p
     at true true o =
-        subst NothingAfterEnd (sym (appended (before-close side (e ∷ log)) (close_actions (session_id (established (calls_of (e ∷ log)))) (stream_table side (e ∷ log)).progress.ending) (e ∷ log)))
-        (ending-last (session_id (established (calls_of (e ∷ log)))) (stream_table side (e ∷ log)).progress.ending (with_actions (before-close side (e ∷ log)) (e ∷ log))
+        subst NothingAfterEnd (sym (appended (before-close side (e ∷ log)) (close_actions (session_id (established_session (calls_of (e ∷ log)))) (stream_table side (e ∷ log)).progress.ending) (e ∷ log)))
+        (ending-last (session_id (established_session (calls_of (e ∷ log)))) (stream_table side (e ∷ log)).progress.ending (with_actions (before-close side (e ∷ log)) (e ∷ log))
         (keep-open (before-close side (e ∷ log)) (e ∷ log) (before-closes side (e ∷ log)) o) (while-open (before-close side (e ∷ log)) (e ∷ log) (before-closes side (e ∷ log)) o p))
 
 pub own-open : (side : Side) (turn : Turn) (log : Log) (a : Action) → ActionCause side turn log a → is_open log ≡ true
 own-open side turn log (actions.Dial address name) c = ap is_open c.0
-own-open side turn log (actions.Opened id) c = c.0
-own-open side turn log (actions.Send id piece) c = c.0
-own-open side turn log (actions.Finish id) c = c.0
-own-open side turn log (actions.ResetOut id code) c = c.0
-own-open side turn log (actions.StopOut id code) c = c.0
-own-open side turn log (actions.DatagramOut piece) c = c.0
-own-open side turn log (actions.Close code reason) c = c.0
+own-open side turn log _ c = c.0
 
 own-ends : (side : Side) (turn : Turn) (own : List Action) (log : Log) → OwnCauses side turn log own → NothingAfterEnd log → NothingAfterEnd (with_actions own log)
 own-ends side turn [] log c p = p

@@ -17,7 +17,7 @@ use Rattle.wt_laws.specs.Causes.{bytes_for, is_under_way}
 use Rattle.wt_laws.specs.Laws.{SendsEnd, SendsInOrder, accepted_by, is_session_stream, is_stream_of, session_frame}
 use Rattle.wt_laws.specs.Reachable.{IsReachable}
 use Rattle.wt_spec.specs.Answers.{answer_to, is_lawful, log_after}
-use Rattle.wt_spec.specs.Driver.{established}
+use Rattle.wt_spec.specs.Driver.{established_session}
 use Rattle.wt_spec.specs.Halves.{has_sending_half, is_accepted}
 
 -- the frame of the session's stream is settled: no later call begins it
@@ -33,11 +33,11 @@ settled side log turn r l n =
 
 -- ---- an established session's stream
 
-begun-before : (side : Side) (log : Log) (turn : Turn) (s at : ℕ) → IsReachable side log → established (calls_of log) ≡ Some (s, at) → Begins side log turn → ⊥
-begun-before side log turn s at r e (Connects c n) = absurd (let x = ap (λ (g : Log). established (calls_of g)) n in cc)
+begun-before : (side : Side) (log : Log) (turn : Turn) (s at : ℕ) → IsReachable side log → established_session (calls_of log) ≡ Some (s, at) → Begins side log turn → ⊥
+begun-before side log turn s at r e (Connects c n) = absurd (let x = ap (λ (g : Log). established_session (calls_of g)) n in cc)
 begun-before side log turn s at r e (Answers id c q w) = absurd (let n = (so-far-reached side log r).1.both.out.heads.given.handshakes.none_yet (ap is_under_way q) in cc)
 
-established-sends : (side : Side) (log : Log) (turn : Turn) (s at : ℕ) → IsReachable side log → is_lawful side log turn ≡ true → established (calls_of log) ≡ Some (s, at)
+established-sends : (side : Side) (log : Log) (turn : Turn) (s at : ℕ) → IsReachable side log → is_lawful side log turn ≡ true → established_session (calls_of log) ≡ Some (s, at)
     → (sent_on (actions_of (log_after side log turn)) s ≡ sent_on (actions_of log) s) × (is_accepted log s ≡ false)
 established-sends side log turn s at r l e =
     let x = settled side log turn r l (begun-before side log turn s at r e) in
@@ -84,17 +84,17 @@ no-sending : (side : Side) (log : Log) (k : ℕ) → is_accepted log k ≡ false
 no-sending side log k n = rw n refl
 
 pub sends-in-order : (side : Side) (log : Log) (turn : Turn) → IsReachable side log → is_lawful side log turn ≡ true → SendsInOrder side log turn
-sends-in-order side log turn r l k n h = from-or (is_accepted log k) _ (λ a. given-sends side log turn r l k n a) (λ x. from-or (is_stream_of (established (calls_of log)) k) _ of-session rejected x) h
+sends-in-order side log turn r l k n h = from-or (is_accepted log k) _ (λ a. given-sends side log turn r l k n a) (λ x. from-or (is_stream_of (established_session (calls_of log)) k) _ of-session rejected x) h
   where
     idle : (sent_on (actions_of (log_after side log turn)) k ≡ sent_on (actions_of log) k) × (is_accepted log k ≡ false) → sent_on (actions_of (log_after side log turn)) k ≡ sent_on (actions_of log) k ++ accepted_by (bytes_for k turn) (answer_to side log turn).reply
     idle p = p.0 ∙ sym (ap (λ xs. sent_on (actions_of log) k ++ xs) (none-accepted side k log turn (inl (no-sending side log k p.1))) ∙ append-nil (sent_on (actions_of log) k))
 
-    at : (o : Option (ℕ × ℕ)) → established (calls_of log) ≡ o → is_stream_of o k ≡ true → (sent_on (actions_of (log_after side log turn)) k ≡ sent_on (actions_of log) k) × (is_accepted log k ≡ false)
+    at : (o : Option (ℕ × ℕ)) → established_session (calls_of log) ≡ o → is_stream_of o k ≡ true → (sent_on (actions_of (log_after side log turn)) k ≡ sent_on (actions_of log) k) × (is_accepted log k ≡ false)
     at None e i = absurd (cc)
     at (Some s) e i = subst (λ j. (sent_on (actions_of (log_after side log turn)) j ≡ sent_on (actions_of log) j) × (is_accepted log j ≡ false)) (eqb-true s.0 k i) (established-sends side log turn s.0 s.1 r l e)
 
-    of-session : is_stream_of (established (calls_of log)) k ≡ true → sent_on (actions_of (log_after side log turn)) k ≡ sent_on (actions_of log) k ++ accepted_by (bytes_for k turn) (answer_to side log turn).reply
-    of-session i = idle (at (established (calls_of log)) refl i)
+    of-session : is_stream_of (established_session (calls_of log)) k ≡ true → sent_on (actions_of (log_after side log turn)) k ≡ sent_on (actions_of log) k ++ accepted_by (bytes_for k turn) (answer_to side log turn).reply
+    of-session i = idle (at (established_session (calls_of log)) refl i)
 
     rejected : (is_session_stream side (calls_of log) k && is_finished (actions_of log) k) ≡ true → sent_on (actions_of (log_after side log turn)) k ≡ sent_on (actions_of log) k ++ accepted_by (bytes_for k turn) (answer_to side log turn).reply
     rejected f = idle (rejected-sends side log turn k r l f)

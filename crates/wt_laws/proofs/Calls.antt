@@ -8,11 +8,11 @@ use Rattle.wt_message.specs.Datagram.{datagram_bytes}
 use Rattle.wt_message.specs.FixedBytes.{response_bytes}
 use Rattle.wt_seam_spec.specs.Arrivals.{event_entry, fits, may_come}
 use Rattle.wt_seam_spec.specs.Joined.{send_of}
-use Rattle.wt_seam_spec.specs.Outgoing.{covered, credit_left, if_open, may_open, next_id, opening}
-use Rattle.wt_seam_spec.specs.Reports.{credit, datagram_fact, datagrams_of, end_of, is_connected, is_running, stop_of}
+use Rattle.wt_seam_spec.specs.Outgoing.{bytes_within_credit, credit_left, if_open, may_open, next_id, actions_to_open}
+use Rattle.wt_seam_spec.specs.Reports.{datagram_fact, datagrams_of, end_of, is_connected, is_running, stop_of}
 use Rattle.wt_seam_spec.specs.Sent.{is_finished, is_reset, priority_of}
 use Rattle.wt_seam_spec.specs.Streams.{can_receive, local_bi, local_uni, peer_bi, peer_uni, stream_count}
-use Rattle.wt_turn.specs.Log.{Acked, BytesRead, Connected, Datagram, DatagramLimit, End, Event, Log, Loss, MaxBi, MaxData, MaxUni, OpeningFailed, OpeningStarted, PeerBi, PeerUni, Polled, PrioritySet, Received, Reported, Reset, ResetUnsent, Stop, StreamAccepted, StreamGivenUp, actions_of, all_events_of, calls_of, events_of, is_open, with_actions}
+use Rattle.wt_turn.specs.Log.{BytesRead, Event, Log, OpeningFailed, OpeningStarted, Polled, PrioritySet, Received, Reported, Reset, ResetUnsent, StreamAccepted, StreamGivenUp, actions_of, all_events_of, calls_of, events_of, is_open, with_actions}
 use Rattle.wt_turn.specs.declared.action.Action.{Action}
 use Rattle.wt_turn.specs.declared.call.Call.{Call}
 use Rattle.wt_turn.specs.declared.datagram_fact.DatagramFact.{DatagramFact}
@@ -25,16 +25,16 @@ use Rattle.wt_wire.specs.declared.side.Side.TheVariants.{Client, Server}
 use Rattle.wt_wire.specs.declared.side.StreamEnd.{StreamEnd}
 use Rattle.wt_laws.proofs.Caused.{Caused, caused-accept, caused-connect-to, caused-continue, caused-deliver, caused-receive, caused-start, covered-whole, either, head-out, leaf, not-stopped, own-if, own-send, polled, unrefused, unrefused-whole}
 use Rattle.wt_laws.proofs.Steps.{Brings, ByByte, ByEvent, ByLate, Nothing, Steps, blind-actions, blind-flush, calls-with}
-use Rattle.wt_laws.specs.Causes.{ByAcceptance, ByOpening, ByRejection, CloseCause, DatagramOf, FoundStream, OfCall, OfEndpoint, OfHeader, OfWrite, OwnCauses, accepted_kind, asked_size, bytes_for, frame_of, is_accept, is_receive, opened_kind, polls_opening, reads_from}
-use Rattle.wt_spec.specs.Turns.{event_of, is_call}
+use Rattle.wt_laws.specs.Causes.{ByAcceptance, ByOpening, ByRejection, CloseCause, DatagramOf, FoundStream, OfCall, OfEndpoint, OfHeader, OfWrite, OwnCauses, accepted_kind, asked_size, bytes_for, head_frame_of, is_accept, is_receive, opened_kind, polls_opening, reads_from}
+use Rattle.wt_turn.specs.Turns.{event_of, is_call}
 use Rattle.wt_laws.specs.RecordCauses.{AtEnd, HeaderStopped}
 use Rattle.wt_laws.specs.ReplyCauses.{AtClose, AtDatagram, AtEndpointClose, AtEvent, AtFinish, AtOpening, AtPriority, AtReset, AtStop, AtWrite, DoneCause, GivenStream, HeadUnsent, NoStreamToOpen, NoWriteCredit, NotClosed, NotEnded, NothingUnread, OfTheStream, ReplyCause, StoppedCause, TooFewUnread, asks_for_session, half_of, is_closed_error, needs_half, waits_for_end}
 use Rattle.wt_laws.specs.Told.{NoRecord, NonePassed, given_stream, is_quiet, read_piece}
 use Rattle.wt_spec.specs.Answers.{call_effect, in_session, is_client, is_first, is_lawful, may_call, may_respond, on_session, receive, turn_effect}
 use Rattle.wt_spec.specs.Connection.{accept_stream, close_connection, closed_reply, continue_opening, datagram_allowed, datagram_within, is_opening, open_stream, payload_limit, poll_opening, receive_datagram, send_datagram, stream_header}
-use Rattle.wt_spec.specs.Driver.{established, flush, log_and_flush}
+use Rattle.wt_spec.specs.Driver.{established_session, flush, log_and_flush}
 use Rattle.wt_spec.specs.Effect.{Effect, head_left, is_covered, log_call, poll_sending, reply_with, transport_error}
-use Rattle.wt_spec.specs.Halves.{all_written_reply, at_stream_end, exact_at_end, finishing, has_receiving_half, has_sending_half, is_done, on_half, read, read_exact, read_reply, stopped_reply, take_bytes, unread_body, write_by, write_error, written_reply}
+use Rattle.wt_spec.specs.Halves.{all_written_reply, reply_at_end, exact_at_end, finish_once, has_receiving_half, has_sending_half, is_done, on_half, read, read_exact, read_reply, stopped_reply, take_bytes, unread_body, write_by, write_error, written_reply}
 use Rattle.wt_spec.specs.Handshake.{AwaitingRequest, HandshakeState, Requested, awaits_answer, awaits_request, handshake_state, is_refused, queued_requests, response_head, start_response}
 use Rattle.wt_turn.specs.declared.action.Action.TheVariants as actions
 use Rattle.wt_turn.specs.declared.call.Call.TheVariants as calls
@@ -53,32 +53,32 @@ module _ (side : Side) (turn : Turn) (called : is_call turn ≡ true) where
   local-kind : (kind n : ℕ) → nat_lt kind 4 ≡ true → (4 * n + kind) % 4 ≡ kind
   local-kind kind n l = let f : kind < 4 = ltb-true kind 4 l in omega arith
 
-  caused-open : (log : Log) (kind s at : ℕ) → opened_kind side turn ≡ Some kind → nat_lt kind 4 ≡ true → (kind == local_uni side || kind == local_bi side) ≡ true → established (calls_of log) ≡ Some (s, at) → Caused side turn log (open_stream side log kind s)
+  caused-open : (log : Log) (kind s at : ℕ) → opened_kind side turn ≡ Some kind → nat_lt kind 4 ≡ true → (kind == local_uni side || kind == local_bi side) ≡ true → established_session (calls_of log) ≡ Some (s, at) → Caused side turn log (open_stream side log kind s)
   caused-open log kind s at q l z d =
       either side turn called (not (is_open log)) _ _ (λ o. polled side turn called log _ refl (AtOpening kind q (not-true _ o) refl)) (λ o.
       either side turn called (may_open side log kind) _ _ (λ m. opens m (not-false _ o)) (λ m. polled side turn called log replies.Pending refl (not-false _ o, NoStreamToOpen kind q m)))
     where
-      opens : may_open side log kind ≡ true → is_open log ≡ true → Caused side turn log (reply_with (log_call side log (opening side log kind) (OpeningStarted (next_id side log kind) s)) (replies.Opening (next_id side log kind)))
+      opens : may_open side log kind ≡ true → is_open log ≡ true → Caused side turn log (reply_with (log_call side log (actions_to_open side log kind) (OpeningStarted (next_id side log kind) s)) (replies.Opening (next_id side log kind)))
       opens m o =
-          leaf side turn called log (opening side log kind) (OpeningStarted (next_id side log kind) s) (replies.Opening (next_id side log kind)) (rw m ((o, kind, m, refl, z, OfCall s at q d), tt))
-          (record { cause = record { opens = q ∙ ap Some (sym (local-kind kind (stream_count side log kind) l)); at = at; is_established = ap established (calls-with (opening side log kind) log) ∙ d; earlier = log; sent = rw m refl; allowed = rw (local-kind kind (stream_count side log kind) l) m; is_next = rw (local-kind kind (stream_count side log kind) l) refl }; kind = kind; own_is = refl; may = m; next = refl; small = l }) refl (o, kind, q, m, refl)
+          leaf side turn called log (actions_to_open side log kind) (OpeningStarted (next_id side log kind) s) (replies.Opening (next_id side log kind)) (rw m ((o, kind, m, refl, z, OfCall s at q d), tt))
+          (record { cause = record { opens = q ∙ ap Some (sym (local-kind kind (stream_count side log kind) l)); at = at; is_established = ap established_session (calls-with (actions_to_open side log kind) log) ∙ d; earlier = log; sent = rw m refl; allowed = rw (local-kind kind (stream_count side log kind) l) m; is_next = rw (local-kind kind (stream_count side log kind) l) refl }; kind = kind; own_is = refl; may = m; next = refl; small = l }) refl (o, kind, q, m, refl)
 
   still-opening : (own : List Action) (log : Log) (k : ℕ) → is_opening (with_actions own log) k ≡ is_opening log k
   still-opening own log k = blind-actions (λ g. is_opening g k) (λ a g. refl) own log
 
-  module _ (log : Log) (k s at : ℕ) (p : polls_opening k turn ≡ true) (d : established (calls_of log) ≡ Some (s, at)) (i : is_opening log k ≡ true) where
+  module _ (log : Log) (k s at : ℕ) (p : polls_opening k turn ≡ true) (d : established_session (calls_of log) ≡ Some (s, at)) (i : is_opening log k ≡ true) where
     left : List ℕ
     left = head_left log k (stream_header k s)
 
     caused-header : is_open log ≡ true → is_refused log k left ≡ false → (b : Bool) → is_covered log k left ≡ b → (c : Bool) → is_bidirectional k ≡ c
-        → Caused side turn log (if b then reply_with (log_call side log (send_of k left) (StreamAccepted k)) (if c then replies.BiReady k else replies.SendReady k) else poll_sending side log (send_of k (covered log k left)) replies.Pending)
+        → Caused side turn log (if b then reply_with (log_call side log (send_of k left) (StreamAccepted k)) (if c then replies.BiReady k else replies.SendReady k) else poll_sending side log (send_of k (bytes_within_credit log k left)) replies.Pending)
     unfolding left
     caused-header o f true c x y = leaf side turn called log (send_of k left) (StreamAccepted k) _ (own-send side turn called log k left o (unrefused-whole side turn called log k left f c) (OfHeader s at p d i (sym (covered-whole log k left c)))) (ByOpening (record {
       polls = p;
       opening = still-opening (send_of k left) log k ∙ i;
       session = s;
       at = at;
-      is_established = ap established (calls-with (send_of k left) log) ∙ d;
+      is_established = ap established_session (calls-with (send_of k left) log) ∙ d;
       whole = head-out log k (stream_header k s);
     })) (told x) (ready x y)
       where
@@ -89,7 +89,7 @@ module _ (side : Side) (turn : Turn) (called : is_call turn ≡ true) where
         ready : (x : Bool) → is_bidirectional k ≡ x → ReplyCause side turn log (if x then replies.BiReady k else replies.SendReady k)
         ready true y = (record { polls = p; opening = i; still_open = o; session = s; at = at; is_established = d; covers = c }, y)
         ready false y = (record { polls = p; opening = i; still_open = o; session = s; at = at; is_established = d; covers = c }, y)
-    caused-header o f false c x y = leaf side turn called log (send_of k (covered log k left)) Polled replies.Pending (own-send side turn called log k (covered log k left) o (unrefused side turn called (stop_of (events_of log) k) left (credit_left log k) f) (OfHeader s at p d i refl)) called refl (o, HeadUnsent k (stream_header k s) (OfTheStream s at p i d refl) c (not-stopped side turn called (stop_of (events_of log) k) left (credit_left log k) f c))
+    caused-header o f false c x y = leaf side turn called log (send_of k (bytes_within_credit log k left)) Polled replies.Pending (own-send side turn called log k (bytes_within_credit log k left) o (unrefused side turn called (stop_of (events_of log) k) left (credit_left log k) f) (OfHeader s at p d i refl)) called refl (o, HeadUnsent k (stream_header k s) (OfTheStream s at p i d refl) c (not-stopped side turn called (stop_of (events_of log) k) left (credit_left log k) f c))
 
     caused-opening : Caused side turn log (continue_opening side log k left)
     unfolding left
@@ -98,7 +98,7 @@ module _ (side : Side) (turn : Turn) (called : is_call turn ≡ true) where
         either side turn called (is_refused log k left) _ _ (λ r. leaf side turn called log [] (OpeningFailed k) (replies.OpeningFailed openings.Refused) tt (HeaderStopped s at p i d r) refl (k, s, at, p, i, d, r))
         (λ r. caused-header (not-false _ o) r (is_covered log k left) refl (is_bidirectional k) refl))
 
-  caused-poll : (log : Log) (k s at : ℕ) → polls_opening k turn ≡ true → established (calls_of log) ≡ Some (s, at) → half_of side log turn ≡ Some (is_opening log k) → Caused side turn log (poll_opening side log k s)
+  caused-poll : (log : Log) (k s at : ℕ) → polls_opening k turn ≡ true → established_session (calls_of log) ≡ Some (s, at) → half_of side log turn ≡ Some (is_opening log k) → Caused side turn log (poll_opening side log k s)
   unfolding left
   caused-poll log k s at p d h = either side turn called (is_opening log k) _ _ (λ i. caused-opening log k s at p d i) (λ i. polled side turn called log replies.NoStream refl (h ∙ ap Some i))
 
@@ -114,7 +114,7 @@ module _ (side : Side) (turn : Turn) (called : is_call turn ≡ true) where
   caused-allowed log bytes None t o e = polled side turn called log _ refl (bytes, t, inr e)
   caused-allowed log bytes (Some fact) t o e = caused-within log bytes fact t o e
 
-  caused-send-datagram : (log : Log) (payload : List ℕ) (s at : ℕ) → established (calls_of log) ≡ Some (s, at) → turn ≡ turns.Call (calls.SendDatagram payload) → Caused side turn log (send_datagram side log payload s)
+  caused-send-datagram : (log : Log) (payload : List ℕ) (s at : ℕ) → established_session (calls_of log) ≡ Some (s, at) → turn ≡ turns.Call (calls.SendDatagram payload) → Caused side turn log (send_datagram side log payload s)
   caused-send-datagram log payload s at d t =
       let x : DatagramOf turn log (datagram_bytes (s / 4) payload) = record { payload = payload; session = s; at = at; sends = t; is_established = d; bytes_are = refl } in
       either side turn called (is_open log) _ _ (λ o. caused-allowed log (datagram_bytes (s / 4) payload) _ x o refl) (λ o. polled side turn called log _ refl (datagram_bytes (s / 4) payload, x, inl o))
@@ -128,7 +128,7 @@ module _ (side : Side) (turn : Turn) (called : is_call turn ≡ true) where
   closed-so log true t o = (o, NotClosed t)
   closed-so log false t o = (t, o, refl)
 
-  caused-session : (log : Log) (call : ℕ → Effect) (o : Option (ℕ × ℕ)) → asks_for_session turn ≡ true → established (calls_of log) ≡ o → ((s at : ℕ) → established (calls_of log) ≡ Some (s, at) → Caused side turn log (call s)) → Caused side turn log (in_session side log call o)
+  caused-session : (log : Log) (call : ℕ → Effect) (o : Option (ℕ × ℕ)) → asks_for_session turn ≡ true → established_session (calls_of log) ≡ o → ((s at : ℕ) → established_session (calls_of log) ≡ Some (s, at) → Caused side turn log (call s)) → Caused side turn log (in_session side log call o)
   caused-session log call None a e f = polled side turn called log replies.NoSession refl (a, e)
   caused-session log call (Some s) a e f = f s.0 s.1 e
 
@@ -159,14 +159,14 @@ module _ (side : Side) (turn : Turn) (called : is_call turn ≡ true) where
   no-length [] e = refl
   no-length (x ∷ xs) e = absurd (omega arith)
 
-  written-reply : (log : Log) (k : ℕ) (bytes : List ℕ) (n : ℕ) → turn ≡ turns.Call (calls.Write k bytes) → length (covered log k bytes) ≡ n → bytes_for k turn ≡ Some bytes → has_sending_half side log k ≡ true → write_error log k ≡ None → is_open log ≡ true → ReplyCause side turn log (written_reply bytes n)
+  written-reply : (log : Log) (k : ℕ) (bytes : List ℕ) (n : ℕ) → turn ≡ turns.Call (calls.Write k bytes) → length (bytes_within_credit log k bytes) ≡ n → bytes_for k turn ≡ Some bytes → has_sending_half side log k ≡ true → write_error log k ≡ None → is_open log ≡ true → ReplyCause side turn log (written_reply bytes n)
   written-reply log k [] n t l h c e o = (record { stream = k; bytes = []; handed_in = h; has_half = c; no_error = e; as_credit = sym (no-bytes (credit_left log k)) }, t, λ z. refl)
-  written-reply log k (b ∷ bytes) zero t l h c e o = (o, NoWriteCredit k (b ∷ bytes) t e refl (no-length (covered log k (b ∷ bytes)) l))
+  written-reply log k (b ∷ bytes) zero t l h c e o = (o, NoWriteCredit k (b ∷ bytes) t e refl (no-length (bytes_within_credit log k (b ∷ bytes)) l))
   written-reply log k (b ∷ bytes) (suc n) t l h c e o = (record { stream = k; bytes = b ∷ bytes; handed_in = h; has_half = c; no_error = e; as_credit = sym l }, t, λ z. absurd (omega arith))
 
-  all-written-reply : (log : Log) (k : ℕ) (bytes : List ℕ) (b : Bool) → turn ≡ turns.Call (calls.WriteAll k bytes) → (length (covered log k bytes) == length bytes) ≡ b → bytes_for k turn ≡ Some bytes → has_sending_half side log k ≡ true → write_error log k ≡ None → ReplyCause side turn log (if b then replies.AllWritten else replies.Count (length (covered log k bytes)))
-  all-written-reply log k bytes true t q h c e = (length (covered log k bytes), record { stream = k; bytes = bytes; handed_in = h; has_half = c; no_error = e; as_credit = refl }, t, eqb-true _ _ q)
-  all-written-reply log k bytes false t q h c e = (record { stream = k; bytes = bytes; handed_in = h; has_half = c; no_error = e; as_credit = refl }, t, fewer (length (covered log k bytes)) (length bytes) q (omega (arith, length-take (credit_left log k) bytes)))
+  all-written-reply : (log : Log) (k : ℕ) (bytes : List ℕ) (b : Bool) → turn ≡ turns.Call (calls.WriteAll k bytes) → (length (bytes_within_credit log k bytes) == length bytes) ≡ b → bytes_for k turn ≡ Some bytes → has_sending_half side log k ≡ true → write_error log k ≡ None → ReplyCause side turn log (if b then replies.AllWritten else replies.Count (length (bytes_within_credit log k bytes)))
+  all-written-reply log k bytes true t q h c e = (length (bytes_within_credit log k bytes), record { stream = k; bytes = bytes; handed_in = h; has_half = c; no_error = e; as_credit = refl }, t, eqb-true _ _ q)
+  all-written-reply log k bytes false t q h c e = (record { stream = k; bytes = bytes; handed_in = h; has_half = c; no_error = e; as_credit = refl }, t, fewer (length (bytes_within_credit log k bytes)) (length bytes) q (omega (arith, length-take (credit_left log k) bytes)))
     where
       fewer : (m n : ℕ) → (m == n) ≡ false → m ≤ n → nat_lt m n ≡ true
       fewer m n e l = grind (arith, nat_tests)
@@ -184,17 +184,17 @@ module _ (side : Side) (turn : Turn) (called : is_call turn ≡ true) where
   quiet-stopped log k failing closed (Some code) f g = f (writes.Stopped code)
   quiet-stopped log k failing closed None f g = quiet-if (is_done log k) closed _ g (quiet-if (is_open log) replies.Pending (failing writes.NotConnected) refl (f writes.NotConnected))
 
-  quiet-end : (log : Log) (e : StreamEnd) → is_quiet (at_stream_end log e) ≡ true
+  quiet-end : (log : Log) (e : StreamEnd) → is_quiet (reply_at_end log e) ≡ true
   quiet-end log ends.Running = quiet-if (is_open log) replies.Pending (replies.ReadFailed reads.NotConnected) refl refl
   quiet-end log ends.Fin = refl
   quiet-end log (ends.Reset code) = refl
 
   caused-write : (reply : List ℕ → ℕ → Reply) (log : Log) (k : ℕ) (bytes : List ℕ) (o : Option StreamWriteError) → bytes_for k turn ≡ Some bytes → has_sending_half side log k ≡ true → write_error log k ≡ o
-      → is_quiet (reply bytes (length (covered log k bytes))) ≡ true → (write_error log k ≡ None → is_open log ≡ true → ReplyCause side turn log (reply bytes (length (covered log k bytes)))) → Caused side turn log (write_by reply side log k bytes o)
+      → is_quiet (reply bytes (length (bytes_within_credit log k bytes))) ≡ true → (write_error log k ≡ None → is_open log ≡ true → ReplyCause side turn log (reply bytes (length (bytes_within_credit log k bytes)))) → Caused side turn log (write_by reply side log k bytes o)
   caused-write reply log k bytes (Some e) h c w q f = polled side turn called log (replies.WriteFailed e) refl (AtWrite k bytes h c w)
   caused-write reply log k bytes None h c w q f =
       let o = open-write log k (is_open log) _ (stop_of (events_of log) k) refl w in
-      leaf side turn called log (send_of k (covered log k bytes)) Polled (reply bytes (length (covered log k bytes))) (own-send side turn called log k (covered log k bytes) o (λ b rest e. unstopped-write log k (is_open log) _ (stop_of (events_of log) k) w) (OfWrite bytes h c w refl)) called q (f w o)
+      leaf side turn called log (send_of k (bytes_within_credit log k bytes)) Polled (reply bytes (length (bytes_within_credit log k bytes))) (own-send side turn called log k (bytes_within_credit log k bytes) o (λ b rest e. unstopped-write log k (is_open log) _ (stop_of (events_of log) k) w) (OfWrite bytes h c w refl)) called q (f w o)
 
   stopped-cause : (log : Log) (k : ℕ) (failing : StreamWriteError → Reply) (closed : Reply) (stop : Option ℕ) → ((e : StreamWriteError) → is_closed_error e ≡ false → StoppedCause log k e → ReplyCause side turn log (failing e))
       → (stop_of (events_of log) k ≡ None → is_done log k ≡ true → ReplyCause side turn log closed) → waits_for_end turn ≡ Some k → stop_of (events_of log) k ≡ stop → ReplyCause side turn log (stopped_reply log k failing closed stop)
@@ -222,7 +222,7 @@ module _ (side : Side) (turn : Turn) (called : is_call turn ≡ true) where
       → Caused side turn log (take_bytes side log k bytes reply)
   caused-take-bytes log k bytes reply r c a l q w = leaf side turn called log [] (BytesRead k (length bytes)) reply tt (record { reads = r; has_half = c; asked = a; within = l }) (bytes, q, refl, r) w
 
-  end-cause : (log : Log) (k size : ℕ) (e : StreamEnd) → turn ≡ turns.Call (calls.Read k size) → has_receiving_half side log k ≡ true → (size == 0) ≡ false → unread_body side log k ≡ [] → end_of (events_of log) k ≡ e → (o : Bool) → is_open log ≡ o → ReplyCause side turn log (at_stream_end log e)
+  end-cause : (log : Log) (k size : ℕ) (e : StreamEnd) → turn ≡ turns.Call (calls.Read k size) → has_receiving_half side log k ≡ true → (size == 0) ≡ false → unread_body side log k ≡ [] → end_of (events_of log) k ≡ e → (o : Bool) → is_open log ≡ o → ReplyCause side turn log (reply_at_end log e)
   end-cause log k size ends.Running t c z u e true o = rw o (o, NothingUnread k size t z u e)
   end-cause log k size ends.Running t c z u e false o = rw o (k, size, t, c, z, u, (o, e))
   end-cause log k size ends.Fin t c z u e b o = (k, size, t, c, z, u, e)
@@ -284,7 +284,7 @@ module _ (side : Side) (turn : Turn) (called : is_call turn ≡ true) where
   small-local Client = (refl, refl)
   small-local Server = (refl, refl)
 
-  rejects : (log : Log) (head : List ℕ) → frame_of turn ≡ Some head → may_respond side log ≡ true → Caused side turn log (start_response side log false head)
+  rejects : (log : Log) (head : List ℕ) → head_frame_of turn ≡ Some head → may_respond side log ≡ true → Caused side turn log (start_response side log false head)
   rejects log head f l = let r = responding log l in caused-start side turn called log r.0 false head r.1 (ByRejection r.0 refl f r.1)
 
   own-id : (k : ℕ) (t : (id : ℕ) → Turn) → turn ≡ t k → (f : ℕ → Turn → Bool) → f k (t k) ≡ true → f k turn ≡ true
@@ -296,7 +296,7 @@ module _ (side : Side) (turn : Turn) (called : is_call turn ≡ true) where
   accepts : (log : Log) (reply : ℕ → Reply) (kind : ℕ) → is_accept turn ≡ true → asks_for_session turn ≡ true → accepted_kind side turn ≡ kind → ((k : ℕ) → given_stream (reply k) ≡ Some k) → ((g : Log) (k : ℕ) → FoundStream side turn g k true → ReplyCause side turn g (reply k))
       → Caused side turn log (on_session side log (accept_stream side reply kind log))
   accepts log reply kind a w e t q =
-      caused-session log (accept_stream side reply kind log) (established (calls_of log)) w refl
+      caused-session log (accept_stream side reply kind log) (established_session (calls_of log)) w refl
       (λ s at d. subst (λ n. Caused side turn log (accept_stream side reply n log s)) e (caused-accept side turn called a s at reply t q log d))
 
   caused-call : (log : Log) (c : Call) → turn ≡ turns.Call c → may_call side log c ≡ true → Caused side turn log (call_effect side log c)
@@ -307,41 +307,41 @@ module _ (side : Side) (turn : Turn) (called : is_call turn ≡ true) where
   caused-call log calls.Incoming t l =
       caused-deliver side turn called log (queued_requests side log) t (not-true _ (and_parts (not (is_client side)) _ (and_parts (not (is_client side) && not (is_first log)) _ l).0).0) (awaiting (handshake_state (calls_of log)) (and_parts (not (is_client side) && not (is_first log)) _ l).1) refl
   caused-call log (calls.Accept headers) t l = let r = responding log l in caused-start side turn called log r.0 true (response_head (codes "200") headers) r.1 (ByAcceptance r.0 headers refl t refl r.1)
-  caused-call log calls.Forbidden t l = rejects log (response_bytes (codes "403")) (ap frame_of t) l
-  caused-call log calls.NotFound t l = rejects log (response_bytes (codes "404")) (ap frame_of t) l
-  caused-call log calls.TooManyRequests t l = rejects log (response_bytes (codes "429")) (ap frame_of t) l
+  caused-call log calls.Forbidden t l = rejects log (response_bytes (codes "403")) (ap head_frame_of t) l
+  caused-call log calls.NotFound t l = rejects log (response_bytes (codes "404")) (ap head_frame_of t) l
+  caused-call log calls.TooManyRequests t l = rejects log (response_bytes (codes "429")) (ap head_frame_of t) l
   caused-call log calls.Handshake t l = caused-continue side turn called log (handshake_state (calls_of log)) t refl l
   caused-call log (calls.EndpointClose code reason) t l = caused-close log code reason (OfEndpoint t) (AtEndpointClose code reason t)
   caused-call log calls.AcceptUni t l = accepts log replies.Uni (peer_uni side) (ap is_accept t) (ap asks_for_session t) (ap (accepted_kind side) t) (λ k. refl) (λ g k f. given-stream g (peer_uni side) k (ap (accepted_kind side) t) f)
   caused-call log calls.AcceptBi t l = accepts log replies.Bi (peer_bi side) (ap is_accept t) (ap asks_for_session t) (ap (accepted_kind side) t) (λ k. refl) (λ g k f. given-stream g (peer_bi side) k (ap (accepted_kind side) t) f)
   caused-call log calls.ReceiveDatagram t l =
-      caused-session log (receive_datagram side log) (established (calls_of log)) (ap asks_for_session t) refl (λ s at d. caused-receive side turn called (ap is_receive t) s at (suc (length (datagrams_of (events_of log)))) log d (omega arith))
+      caused-session log (receive_datagram side log) (established_session (calls_of log)) (ap asks_for_session t) refl (λ s at d. caused-receive side turn called (ap is_receive t) s at (suc (length (datagrams_of (events_of log)))) log d (omega arith))
   caused-call log calls.OpenUni t l =
-      caused-session log (open_stream side log (local_uni side)) (established (calls_of log)) (ap asks_for_session t) refl
+      caused-session log (open_stream side log (local_uni side)) (established_session (calls_of log)) (ap asks_for_session t) refl
       (λ s at d. caused-open log (local_uni side) s at (ap (opened_kind side) t) (small-local side).0 (or_left _ _ (eq-eqb (local_uni side) (local_uni side) refl)) d)
   caused-call log calls.OpenBi t l =
-      caused-session log (open_stream side log (local_bi side)) (established (calls_of log)) (ap asks_for_session t) refl
+      caused-session log (open_stream side log (local_bi side)) (established_session (calls_of log)) (ap asks_for_session t) refl
       (λ s at d. caused-open log (local_bi side) s at (ap (opened_kind side) t) (small-local side).1 (or_right (local_bi side == local_uni side) _ (eq-eqb (local_bi side) (local_bi side) refl)) d)
   caused-call log (calls.PollOpening id) t l =
-      caused-session log (poll_opening side log id) (established (calls_of log)) (ap asks_for_session t) refl (λ s at d. caused-poll log id s at (ap (polls_opening id) t ∙ same-id id) d (ap (half_of side log) t))
+      caused-session log (poll_opening side log id) (established_session (calls_of log)) (ap asks_for_session t) refl (λ s at d. caused-poll log id s at (ap (polls_opening id) t ∙ same-id id) d (ap (half_of side log) t))
   caused-call log (calls.SendDatagram payload) t l =
-      caused-session log (send_datagram side log payload) (established (calls_of log)) (ap asks_for_session t) refl (λ s at d. caused-send-datagram log payload s at d t)
-  caused-call log calls.MaxDatagramSize t l = caused-session log _ (established (calls_of log)) (ap asks_for_session t) refl (λ s at d. polled side turn called log (replies.Size (payload_limit s (datagram_fact (events_of log)))) refl (t, s, at, d, refl))
-  caused-call log calls.SessionId t l = caused-session log _ (established (calls_of log)) (ap asks_for_session t) refl (λ s at d. polled side turn called log (replies.Id s) refl (t, at, d))
-  caused-call log (calls.Close code reason) t l = caused-session log _ (established (calls_of log)) (ap asks_for_session t) refl (λ s at d. caused-close log code reason (OfCall s at t d) (AtClose code reason t (ap is_some d)))
-  caused-call log calls.Closed t l = caused-session log _ (established (calls_of log)) (ap asks_for_session t) refl (λ s at d. polled side turn called log (closed_reply log) (quiet-if (is_open log) replies.Pending (replies.Closed (transport_error log)) refl refl) (closed-so log (is_open log) t refl))
+      caused-session log (send_datagram side log payload) (established_session (calls_of log)) (ap asks_for_session t) refl (λ s at d. caused-send-datagram log payload s at d t)
+  caused-call log calls.MaxDatagramSize t l = caused-session log _ (established_session (calls_of log)) (ap asks_for_session t) refl (λ s at d. polled side turn called log (replies.Size (payload_limit s (datagram_fact (events_of log)))) refl (t, s, at, d, refl))
+  caused-call log calls.SessionId t l = caused-session log _ (established_session (calls_of log)) (ap asks_for_session t) refl (λ s at d. polled side turn called log (replies.Id s) refl (t, at, d))
+  caused-call log (calls.Close code reason) t l = caused-session log _ (established_session (calls_of log)) (ap asks_for_session t) refl (λ s at d. caused-close log code reason (OfCall s at t d) (AtClose code reason t (ap is_some d)))
+  caused-call log calls.Closed t l = caused-session log _ (established_session (calls_of log)) (ap asks_for_session t) refl (λ s at d. polled side turn called log (closed_reply log) (quiet-if (is_open log) replies.Pending (replies.Closed (transport_error log)) refl refl) (closed-so log (is_open log) t refl))
   caused-call log (calls.Write id bytes) t l =
       let h = ap (bytes_for id) t ∙ rw (same-id id) refl in
-      caused-half log _ id (has_sending_half side log id) (ap (half_of side log) t) (λ c. caused-write written_reply log id bytes (write_error log id) h c refl (quiet-written bytes (length (covered log id bytes))) (λ w o. written-reply log id bytes (length (covered log id bytes)) t refl h c w o))
+      caused-half log _ id (has_sending_half side log id) (ap (half_of side log) t) (λ c. caused-write written_reply log id bytes (write_error log id) h c refl (quiet-written bytes (length (bytes_within_credit log id bytes))) (λ w o. written-reply log id bytes (length (bytes_within_credit log id bytes)) t refl h c w o))
   caused-call log (calls.WriteAll id bytes) t l =
       let h = ap (bytes_for id) t ∙ rw (same-id id) refl in
-      caused-half log _ id (has_sending_half side log id) (ap (half_of side log) t) (λ c. caused-write all_written_reply log id bytes (write_error log id) h c refl (quiet-if (length (covered log id bytes) == length bytes) replies.AllWritten (replies.Count (length (covered log id bytes))) refl refl) (λ w o. all-written-reply log id bytes (length (covered log id bytes) == length bytes) t refl h c w))
+      caused-half log _ id (has_sending_half side log id) (ap (half_of side log) t) (λ c. caused-write all_written_reply log id bytes (write_error log id) h c refl (quiet-if (length (bytes_within_credit log id bytes) == length bytes) replies.AllWritten (replies.Count (length (bytes_within_credit log id bytes))) refl refl) (λ w o. all-written-reply log id bytes (length (bytes_within_credit log id bytes) == length bytes) t refl h c w))
   caused-call log (calls.Finish id) t l =
       caused-half log _ id (has_sending_half side log id) (ap (half_of side log) t)
-      (λ c. leaf side turn called log (finishing log id) Polled _ (own-finishing log id t c) called (quiet-stopped log id (λ e. replies.WriteFailed e) replies.Finished (stop_of (events_of log) id) (λ e. refl) refl)
+      (λ c. leaf side turn called log (finish_once log id) Polled _ (own-finishing log id t c) called (quiet-stopped log id (λ e. replies.WriteFailed e) replies.Finished (stop_of (events_of log) id) (λ e. refl) refl)
       (stopped-cause log id (λ e. replies.WriteFailed e) replies.Finished (stop_of (events_of log) id) (λ e n x. AtFinish id t c x n) (λ s d. (id, t, c, s, d)) (ap waits_for_end t) refl))
     where
-      own-finishing : (log : Log) (id : ℕ) → turn ≡ turns.Call (calls.Finish id) → has_sending_half side log id ≡ true → OwnCauses side turn log (finishing log id)
+      own-finishing : (log : Log) (id : ℕ) → turn ≡ turns.Call (calls.Finish id) → has_sending_half side log id ≡ true → OwnCauses side turn log (finish_once log id)
       own-finishing log id t c =
           own-if side turn called log (actions.Finish id) (is_open log && not (is_finished (actions_of log) id) && not (is_reset log id) && not (is_some (stop_of (events_of log) id)))
           (λ e. let a = and_parts (is_open log && not (is_finished (actions_of log) id) && not (is_reset log id)) _ e in
@@ -410,19 +410,7 @@ module _ (side : Side) (turn : Turn) where
   caused-turn : (log : Log) (t : Turn) → turn ≡ t → is_lawful side log t ≡ true → Caused side turn log (turn_effect side log t)
   caused-turn log (turns.Call c) t l = caused-call side turn (ap is_call t) log c t l
   caused-turn log (turns.Bytes id piece) t l = record { decided = log; before = Nothing; after = byte-steps log id piece t piece (may-run log id piece l); why = AtEvent (ap is_call t); passed = NonePassed; logged = NoRecord (same-calls log id piece) refl; at_once = λ z. refl }
-  caused-turn log (turns.Connected uni bi credit fact) t l = caused-event log (Connected uni bi credit fact) (is_open log) (ap is_call t) refl (record { told = ap event_of t; lawful = rw t l })
-  caused-turn log turns.PeerUni t l = caused-event log PeerUni (is_open log) (ap is_call t) refl (record { told = ap event_of t; lawful = rw t l })
-  caused-turn log turns.PeerBi t l = caused-event log PeerBi (is_open log) (ap is_call t) refl (record { told = ap event_of t; lawful = rw t l })
-  caused-turn log (turns.End id) t l = caused-event log (End id) (is_open log) (ap is_call t) refl (record { told = ap event_of t; lawful = rw t l })
-  caused-turn log (turns.Reset id code) t l = caused-event log (Reset id code) (is_open log) (ap is_call t) refl (record { told = ap event_of t; lawful = rw t l })
-  caused-turn log (turns.Stop id code) t l = caused-event log (Stop id code) (is_open log) (ap is_call t) refl (record { told = ap event_of t; lawful = rw t l })
-  caused-turn log (turns.Acked id) t l = caused-event log (Acked id) (is_open log) (ap is_call t) refl (record { told = ap event_of t; lawful = rw t l })
-  caused-turn log (turns.Datagram piece) t l = caused-event log (Datagram piece) (is_open log) (ap is_call t) refl (record { told = ap event_of t; lawful = rw t l })
-  caused-turn log (turns.MaxUni total) t l = caused-event log (MaxUni total) (is_open log) (ap is_call t) refl (record { told = ap event_of t; lawful = rw t l })
-  caused-turn log (turns.MaxBi total) t l = caused-event log (MaxBi total) (is_open log) (ap is_call t) refl (record { told = ap event_of t; lawful = rw t l })
-  caused-turn log (turns.MaxData id total) t l = caused-event log (MaxData id total) (is_open log) (ap is_call t) refl (record { told = ap event_of t; lawful = rw t l })
-  caused-turn log (turns.DatagramLimit fact) t l = caused-event log (DatagramLimit fact) (is_open log) (ap is_call t) refl (record { told = ap event_of t; lawful = rw t l })
-  caused-turn log (turns.Loss reason) t l = caused-event log (Loss reason) (is_open log) (ap is_call t) refl (record { told = ap event_of t; lawful = rw t l })
+  caused-turn log _ t l = caused-event log _ (is_open log) (ap is_call t) refl (record { told = ap event_of t; lawful = rw t l })
 
   -- every lawful turn
   pub caused : (log : Log) → is_lawful side log turn ≡ true → Caused side turn log (turn_effect side log turn)

@@ -21,9 +21,9 @@ use Rattle.wt_laws.proofs.Moments.{AsBi, AsUni, ClassifiedAs, IsKept, causes, ke
 use Rattle.wt_laws.specs.Laws.{ClosesFault, ClosesSession, DriverCauses, IsRefused, IsSurplus, OpensControl, ReplyHasCause, ResetsSession, SendsControl, StoppedFor, StopsStream, before_newest}
 use Rattle.wt_laws.specs.Reachable.{is_among}
 use Rattle.wt_spec.specs.Answers.{is_lawful}
-use Rattle.wt_spec.specs.Driver.{call_view, close_actions, control_actions, control_sent, established, is_moment, opened_if, pending_actions, reset_if, session_id, stop_actions, stream_table}
-use Rattle.wt_spec.specs.Scan.{listed}
-use Rattle.wt_spec.specs.StreamTable.{ByFault, BySession, Classified, Consequence, Dispatched, Ending, Stopped, StreamTable, awaits_delivery, bi_consequence, dispatched, kept_if, only, only_once, queued_behind, uni_consequence, verdict_of}
+use Rattle.wt_spec.specs.Driver.{call_view, close_actions, control_actions, control_sent, established_session, is_moment, opened_if, pending_actions, reset_if, session_id, stop_actions, stream_table}
+use Rattle.wt_spec.specs.Scan.{stop_list}
+use Rattle.wt_spec.specs.StreamTable.{ByFault, BySession, Classified, Consequence, Dispatched, Ending, Stopped, StreamTable, awaits_delivery, bi_consequence, dispatched_streams, kept_if, only, only_once, queued_behind, uni_consequence, verdict_of}
 use Rattle.wt_turn.specs.declared.action.Action.TheVariants as actions
 use Rattle.wt_wire.specs.declared.error.ErrorCode.TheVariants as h3
 use Rattle.wt_proto.specs.declared.verdict.Verdict.TheVariants as verdicts
@@ -97,19 +97,19 @@ head-other keep (x ∷ xs) c later k q n = at (x.id == k) refl n (λ r m. head-o
     at false e m f = kept-one (keep x) q e m f
 
 bi-stop : (side : Side) (log : Log) (cs : List Classified) (k : ℕ) (v : Verdict) → verdict_of k cs ≡ None → is_among (peer_bi side) (peer_count side (events_of log) (peer_bi side)) k ≡ true → bi_verdict_of (contents log k) (end_of (events_of log) k) ≡ v
-    → StopsFor side log cs (listed (bi_consequence (dispatched (call_view log) cs) k v).stop)
+    → StopsFor side log cs (stop_list (bi_consequence (dispatched_streams (call_view log) cs) k v).stop)
 bi-stop side log cs k (verdicts.Fault code) n a e = tt
 bi-stop side log cs k (verdicts.Refused code) n a e = (IsRefused a e, tt)
-bi-stop side log cs k (verdicts.Request headers at) n a e = surplus (dispatched (call_view log) cs).requests refl
+bi-stop side log cs k (verdicts.Request headers at) n a e = surplus (dispatched_streams (call_view log) cs).requests refl
   where
-    surplus : (queued : List Classified) → (dispatched (call_view log) cs).requests ≡ queued → StopsFor side log cs (listed (queued_behind queued k).stop)
+    surplus : (queued : List Classified) → (dispatched_streams (call_view log) cs).requests ≡ queued → StopsFor side log cs (stop_list (queued_behind queued k).stop)
     surplus [] q = tt
     surplus (c ∷ later) q = (IsSurplus headers at c later a e q (head-other (awaits_delivery (call_view log).delivered) cs c later k q n) refl, tt)
 bi-stop side log cs k _ n a e = tt
 
-classified-stop : (side : Side) (log : Log) (t : StreamTable) (k : ℕ) (v : Verdict) (x : Consequence) → verdict_of k t.classified ≡ None → ClassifiedAs side log t k v x → StopsFor side log t.classified (listed x.stop)
-classified-stop side log t k v x n (AsUni a b c d) = subst (λ (o : Option Stopped). StopsFor side log t.classified (listed o)) (sym (ap (λ (y : Consequence). y.stop) d ∙ no-uni-stop (dispatched (call_view log) t.classified) k v)) tt
-classified-stop side log t k v x n (AsBi a b c d) = subst (λ (o : Option Stopped). StopsFor side log t.classified (listed o)) (sym (ap (λ (y : Consequence). y.stop) d)) (bi-stop side log t.classified k v n a b)
+classified-stop : (side : Side) (log : Log) (t : StreamTable) (k : ℕ) (v : Verdict) (x : Consequence) → verdict_of k t.classified ≡ None → ClassifiedAs side log t k v x → StopsFor side log t.classified (stop_list x.stop)
+classified-stop side log t k v x n (AsUni a b c d) = subst (λ (o : Option Stopped). StopsFor side log t.classified (stop_list o)) (sym (ap (λ (y : Consequence). y.stop) d ∙ no-uni-stop (dispatched_streams (call_view log) t.classified) k v)) tt
+classified-stop side log t k v x n (AsBi a b c d) = subst (λ (o : Option Stopped). StopsFor side log t.classified (stop_list o)) (sym (ap (λ (y : Consequence). y.stop) d)) (bi-stop side log t.classified k v n a b)
 
 stops-kept : (side : Side) (log : Log) → IsKept (causes side log) (λ t. StopsFor side log t.classified t.progress.stops)
 stops-kept side log = record {
@@ -118,8 +118,8 @@ stops-kept side log = record {
   by_settings = λ t b x p. p;
   by_datagram = λ t n p. p;
   by_dequeued = λ t k p. p;
-  by_classified = λ t k v e x n still p. stops-more side log t.classified (record { id = k; verdict = v; surplus = e.surplus } ∷ []) (t.progress.stops ++ listed e.stop)
-      (stops-append side log t.classified t.progress.stops (listed e.stop) p (classified-stop side log t k v e n x));
+  by_classified = λ t k v e x n still p. stops-more side log t.classified (record { id = k; verdict = v; surplus = e.surplus } ∷ []) (t.progress.stops ++ stop_list e.stop)
+      (stops-append side log t.classified t.progress.stops (stop_list e.stop) p (classified-stop side log t k v e n x));
 }
 
 -- the stops of a moment are for streams that it classified
@@ -143,20 +143,20 @@ all-stop-so : (P Q : ℕ → Type 0) → ((k : ℕ) → P k → Q k) → (xs : L
 all-stop-so P Q f [] p = tt
 all-stop-so P Q f (x ∷ xs) p = (f x.id p.0, all-stop-so P Q f xs p.1)
 
-bi-stops : (P : ℕ → Type 0) (d : Dispatched) (k : ℕ) (v : Verdict) → P k → AllStop P (listed (bi_consequence d k v).stop)
+bi-stops : (P : ℕ → Type 0) (d : Dispatched) (k : ℕ) (v : Verdict) → P k → AllStop P (stop_list (bi_consequence d k v).stop)
 bi-stops P d k (verdicts.Fault code) n = tt
 bi-stops P d k (verdicts.Refused code) n = (n, tt)
 bi-stops P d k (verdicts.Request headers at) n = behind d.requests
   where
-    behind : (queued : List Classified) → AllStop P (listed (queued_behind queued k).stop)
+    behind : (queued : List Classified) → AllStop P (stop_list (queued_behind queued k).stop)
     behind [] = tt
     behind (c ∷ later) = (n, tt)
 bi-stops P d k _ n = tt
 
 -- what classifying a stream stops is that stream
-classified-stops : (side : Side) (log : Log) (P : ℕ → Type 0) (t : StreamTable) (k : ℕ) (v : Verdict) (x : Consequence) → P k → ClassifiedAs side log t k v x → AllStop P (listed x.stop)
-classified-stops side log P t k v x n (AsUni a b c d) = subst (λ (o : Option Stopped). AllStop P (listed o)) (sym (ap (λ (y : Consequence). y.stop) d ∙ no-uni-stop (dispatched (call_view log) t.classified) k v)) tt
-classified-stops side log P t k v x n (AsBi a b c d) = subst (λ (o : Option Stopped). AllStop P (listed o)) (sym (ap (λ (y : Consequence). y.stop) d)) (bi-stops P (dispatched (call_view log) t.classified) k v n)
+classified-stops : (side : Side) (log : Log) (P : ℕ → Type 0) (t : StreamTable) (k : ℕ) (v : Verdict) (x : Consequence) → P k → ClassifiedAs side log t k v x → AllStop P (stop_list x.stop)
+classified-stops side log P t k v x n (AsUni a b c d) = subst (λ (o : Option Stopped). AllStop P (stop_list o)) (sym (ap (λ (y : Consequence). y.stop) d ∙ no-uni-stop (dispatched_streams (call_view log) t.classified) k v)) tt
+classified-stops side log P t k v x n (AsBi a b c d) = subst (λ (o : Option Stopped). AllStop P (stop_list o)) (sym (ap (λ (y : Consequence). y.stop) d)) (bi-stops P (dispatched_streams (call_view log) t.classified) k v n)
 
 -- the stream isn't in the list
 abbrev IsNew : List Classified → ℕ → Type 0
@@ -209,8 +209,8 @@ new-kept side log before = record {
       record {
         more = p.more ++ c ∷ [];
         goes_on = ap (λ cs. cs ++ c ∷ []) p.goes_on ∙ append_assoc before p.more (c ∷ []);
-        all_new = all-stop-append (IsNew before) t.progress.stops (listed e.stop) p.all_new (classified-stops side log (IsNew before) t k v e (none-front k before p.more (ap (verdict_of k) (sym p.goes_on) ∙ n)) x);
-        all_there = all-stop-append (IsThere (t.classified ++ c ∷ [])) t.progress.stops (listed e.stop)
+        all_new = all-stop-append (IsNew before) t.progress.stops (stop_list e.stop) p.all_new (classified-stops side log (IsNew before) t k v e (none-front k before p.more (ap (verdict_of k) (sym p.goes_on) ∙ n)) x);
+        all_there = all-stop-append (IsThere (t.classified ++ c ∷ [])) t.progress.stops (stop_list e.stop)
             (all-stop-so (IsThere t.classified) (IsThere (t.classified ++ c ∷ [])) (λ j y. there-front t.classified (c ∷ []) j y) t.progress.stops p.all_there)
             (classified-stops side log (IsThere (t.classified ++ c ∷ [])) t k v e (there-last t.classified c) x);
       };
@@ -241,15 +241,15 @@ module _ (side : Side) (log : Log) where
   stop-causes [] n t p = tt
   stop-causes (x ∷ xs) n t p = (StopsStream x t.0.0 n.0 t.0.1 p.0, stop-causes xs n.1 t.1 p.1)
 
-  reset-cause : (b : Bool) (code : ℕ) (reason : List ℕ) → (stream_table side log).progress.ending ≡ Some (BySession code reason b) → DriverCauses side log (reset_if b (session_id (established (calls_of log))))
+  reset-cause : (b : Bool) (code : ℕ) (reason : List ℕ) → (stream_table side log).progress.ending ≡ Some (BySession code reason b) → DriverCauses side log (reset_if b (session_id (established_session (calls_of log))))
   reset-cause true code reason q = (ResetsSession code reason q, tt)
   reset-cause false code reason q = tt
 
-  ending-cause : (o : Option Ending) → ((stream_table side log).progress.ending ≡ o) → DriverCauses side log (close_actions (session_id (established (calls_of log))) o)
+  ending-cause : (o : Option Ending) → ((stream_table side log).progress.ending ≡ o) → DriverCauses side log (close_actions (session_id (established_session (calls_of log))) o)
   ending-cause None e = tt
   ending-cause (Some (ByFault code)) e = (ClosesFault code e, tt)
   ending-cause (Some (BySession code reason b)) e =
-      all-append side log (reset_if b (session_id (established (calls_of log)))) (actions.Close (code_of h3.NoError) [] ∷ []) (reset-cause b code reason e) (ClosesSession code reason b e, tt)
+      all-append side log (reset_if b (session_id (established_session (calls_of log)))) (actions.Close (code_of h3.NoError) [] ∷ []) (reset-cause b code reason e) (ClosesSession code reason b e, tt)
 
   allowed : nat_lt 0 (unis_allowed (events_of log)) ≡ true → unis_allowed (events_of log) ≢ 0
   allowed e z = absurd (let l = ltb-true 0 (unis_allowed (events_of log)) e in omega arith)
@@ -257,7 +257,7 @@ module _ (side : Side) (log : Log) where
   pending-causes : NewStops (stream_table side (before_newest log)).classified (stream_table side log) → StopsFor side log (stream_table side log).classified (stream_table side log).progress.stops → DriverCauses side log (pending_actions side log)
   pending-causes n p =
       all-append side log (control_actions (nat_lt 0 (unis_allowed (events_of log))) (local_uni side) (credit (events_of log) (local_uni side)) (control_sent side log) ++ stop_actions (stream_table side log).progress.stops)
-      (close_actions (session_id (established (calls_of log))) (stream_table side log).progress.ending)
+      (close_actions (session_id (established_session (calls_of log))) (stream_table side log).progress.ending)
       (all-append side log (control_actions (nat_lt 0 (unis_allowed (events_of log))) (local_uni side) (credit (events_of log) (local_uni side)) (control_sent side log)) (stop_actions (stream_table side log).progress.stops)
       (control-cause (nat_lt 0 (unis_allowed (events_of log))) allowed) (stop-causes (stream_table side log).progress.stops n.all_new n.all_there p))
       (ending-cause (stream_table side log).progress.ending refl)

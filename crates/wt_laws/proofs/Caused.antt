@@ -9,7 +9,7 @@ use Rattle.url.specs.declared.error.ParseError.{ParseError}
 use Rattle.wt_proto.specs.ResponseWalk.{response_walk_of}
 use Rattle.wt_proto.specs.declared.response_walk.ResponseWalk.{ResponseWalk}
 use Rattle.wt_seam_spec.specs.Joined.{send_of}
-use Rattle.wt_seam_spec.specs.Outgoing.{covered, credit_left, may_open, next_id, opening}
+use Rattle.wt_seam_spec.specs.Outgoing.{bytes_within_credit, credit_left, may_open, next_id, actions_to_open}
 use Rattle.wt_seam_spec.specs.Reports.{datagrams_of, end_of, is_acknowledged, is_connected, stop_of}
 use Rattle.wt_seam_spec.specs.Sent.{is_finished, sent_on}
 use Rattle.wt_seam_spec.specs.Streams.{contents, local_bi, local_count, local_uni, one_more_if, peer_count, stream_count}
@@ -32,14 +32,14 @@ use Rattle.wt_laws.proofs.Steps.{ByCall, Nothing, Steps, blind-actions, calls-lo
 use Rattle.wt_laws.specs.Causes.{ActionCause, ByAccept, ByAnswer, ByResponse, ConnectTo, Declines, DialCause, EndsStream, EstablishedBy, FoundDatagram, FoundStream, FromBefore, HandshakeCode, OfHandshake, OfPass, OfRejection, OfRequest, OfResponse, OwnCauses, Plain, Rejects, Reserves, ResponseFrom, ResponseIs, SendCause, StoppedEarly, Stops, accepted_kind, is_accept, is_receive, is_under_way}
 use Rattle.wt_laws.specs.RecordCauses.{AcceptanceEnded, AcceptanceStopped, CallCause, ConnectEnded, NoMoreRequests, OverBy, OverCause, RejectionEnded}
 use Rattle.wt_laws.specs.ReplyCauses.{AfterSuccess, AsDriver, AtResponse, BeforeConnection, BeforeRequest, BeforeResponse, BeforeSettings, BeforeStream, ByRefusal, ByReserved, ByResponseFault, ByStatus, ByStop, ByStreamEnd, ConnectFailedCause, ConnectionEnded, Dialling, Finishing, HeadUnsent, NoAddress, NoConnection, NoDatagramLeft, NoRequest, NoResponse, NoSessionStream, NoSettings, NoStreamLeft, NoUrl, NotHttps, NotProceeding, OfTheRequest, OfTheResponse, PendingCause, RejectedCause, RejectionOver, RejectionRefused, ReplyCause, Unacknowledged, is_incoming}
-use Rattle.wt_spec.specs.Turns.{is_call}
-use Rattle.wt_laws.specs.Told.{Logged, NonePassed, OnePassed, OneRecord, Passed, Tells, ThenPolled, given_stream, is_pass, is_quiet}
+use Rattle.wt_turn.specs.Turns.{is_call}
+use Rattle.wt_laws.specs.Told.{Logged, NonePassed, OnePassed, OneRecord, Passed, TellsOf, ThenPolled, given_stream, is_pass, is_quiet}
 use Rattle.wt_spec.specs.Answers.{is_client}
 use Rattle.wt_spec.specs.Connect.{address_of, authority_of, connect_to, outcome_error, path_of, port_of, request_head, reserved_name, server_name, unless_stopped, with_address}
 use Rattle.wt_spec.specs.Connection.{accept_due, accept_first, accept_stream, give_or_pass, is_for_session, next_datagram, next_due, pass_stream, receive_first, receive_next, receive_or_pass}
-use Rattle.wt_spec.specs.Driver.{established, settings_came, settled_datagrams, stream_table}
-use Rattle.wt_spec.specs.Effect.{Effect, closing, driver_error, head_left, is_covered, is_empty, log_call, pending_or_failed, poll_only, reply_with, transport_error}
-use Rattle.wt_spec.specs.Handshake.{AwaitingRequest, Connecting, HandshakeState, Requested, Responding, accept_response, await_or_fail, await_response, continue_by, continue_connect, deliver, fail_handshake, finish_rejection, handshake_state, has_success, is_continuable, is_refused, open_request, queued_requests, read_response, reject_response, request_end, request_fields_of, requested, respond, send_request, start_response, unless_reserved}
+use Rattle.wt_spec.specs.Driver.{established_session, settings_came, settled_datagrams, stream_table}
+use Rattle.wt_spec.specs.Effect.{Effect, close_when_open, driver_error, head_left, is_covered, is_empty, log_call, pending_or_failed, poll_only, reply_with, transport_error}
+use Rattle.wt_spec.specs.Handshake.{AwaitingRequest, Connecting, HandshakeState, Requested, Responding, accept_response, await_or_fail, await_response, continue_by, continue_connect, deliver, fail_handshake, finish_rejection, handshake_state, has_success, is_continuable, is_refused, open_request, queued_requests, read_response, reject_response, request_end, request_fields_of, requested_stream, respond, send_request, start_response, unless_reserved}
 use Rattle.wt_spec.specs.StreamTable.{Classified, verdict_of}
 use Rattle.wt_turn.specs.declared.action.Action.TheVariants as actions
 use Rattle.wt_turn.specs.declared.call.Call.TheVariants as calls
@@ -71,7 +71,7 @@ whole-covered n xs e = at (drop (length (take n xs)) xs) refl e
     at [] d e = let l = length-drop (length (take n xs)) xs in take_all n xs (let m = ap length d in omega (arith, length-take n xs))
     at (b ∷ rest) d e = absurd (cc)
 
-pub covered-whole : (log : Log) (k : ℕ) (bytes : List ℕ) → is_covered log k bytes ≡ true → covered log k bytes ≡ bytes
+pub covered-whole : (log : Log) (k : ℕ) (bytes : List ℕ) → is_covered log k bytes ≡ true → bytes_within_credit log k bytes ≡ bytes
 covered-whole log k bytes e = whole-covered (credit_left log k) bytes e
 
 pub sent-send : (log : Log) (k : ℕ) (piece : List ℕ) → sent_on (actions_of (with_actions (send_of k piece) log)) k ≡ sent_on (actions_of log) k ++ piece
@@ -97,7 +97,7 @@ module _ (side : Side) (turn : Turn) (called : is_call turn ≡ true) where
   either false x y f g = g refl
 
   -- one record, and the reply
-  pub leaf : (log : Log) (own : List Action) (r : CallRecord) (reply : Reply) → OwnCauses side turn log own → CallCause side turn log own r → Tells turn r reply → ReplyCause side turn log reply
+  pub leaf : (log : Log) (own : List Action) (r : CallRecord) (reply : Reply) → OwnCauses side turn log own → CallCause side turn log own r → TellsOf turn r reply → ReplyCause side turn log reply
       → Caused side turn log (reply_with (log_call side log own r) reply)
   leaf log own r reply o c q w = record { decided = log; before = Nothing; after = ByCall own r o c Nothing; why = w; passed = NonePassed; logged = OneRecord r (calls-logged side log own r) q; at_once = λ z. refl }
 
@@ -105,7 +105,7 @@ module _ (side : Side) (turn : Turn) (called : is_call turn ≡ true) where
   polled log reply q w = leaf log [] Polled reply tt called q w
 
   -- a record, then the call's own
-  settled : (log : Log) (own : List Action) (r : CallRecord) (reply : Reply) → OwnCauses side turn log own → CallCause side turn log own r → Tells turn r reply → ReplyCause side turn log reply
+  settled : (log : Log) (own : List Action) (r : CallRecord) (reply : Reply) → OwnCauses side turn log own → CallCause side turn log own r → TellsOf turn r reply → ReplyCause side turn log reply
       → Caused side turn log (poll_only side (log_call side log own r) reply)
   settled log own r reply o c q w = record {
     decided = log;
@@ -146,9 +146,9 @@ module _ (side : Side) (turn : Turn) (called : is_call turn ≡ true) where
   own-if log a true f = (f refl, tt)
   own-if log a false f = tt
 
-  own-closing : (log : Log) (own : List Action) (code : ℕ) → HandshakeCode side turn (with_actions own log) code → is_open (with_actions own log) ≡ is_open log → is_under_way (handshake_state (calls_of log)) ≡ true → OwnCauses side turn log own → OwnCauses side turn log (own ++ closing log code)
+  own-closing : (log : Log) (own : List Action) (code : ℕ) → HandshakeCode side turn (with_actions own log) code → is_open (with_actions own log) ≡ is_open log → is_under_way (handshake_state (calls_of log)) ≡ true → OwnCauses side turn log own → OwnCauses side turn log (own ++ close_when_open log code)
   own-closing log own code h s u o =
-      own-append log own (closing log code) o
+      own-append log own (close_when_open log code) o
       (own-if (with_actions own log) (actions.Close code []) (is_open log) (λ b. (s ∙ b, OfHandshake (ap (λ cs. is_under_way (handshake_state cs)) (calls-with own log) ∙ u) h refl)))
 
   -- the record of a handshake that is over
@@ -157,14 +157,14 @@ module _ (side : Side) (turn : Turn) (called : is_call turn ≡ true) where
 
   -- the handshake fails, and closes an open connection
   failed : (log : Log) (own : List Action) (code : ℕ) (reply : Reply) → HandshakeCode side turn (with_actions own log) code → is_open (with_actions own log) ≡ is_open log → is_under_way (handshake_state (calls_of log)) ≡ true → OwnCauses side turn log own → OverCause side turn log → is_quiet reply ≡ true
-      → ReplyCause side turn log reply → Caused side turn log (fail_handshake side log (own ++ closing log code) reply)
-  failed log own code reply h s u o x q w = leaf log (own ++ closing log code) HandshakeOver reply (own-closing log own code h s u o) (over log (own ++ closing log code) u x) q w
+      → ReplyCause side turn log reply → Caused side turn log (fail_handshake side log (own ++ close_when_open log code) reply)
+  failed log own code reply h s u o x q w = leaf log (own ++ close_when_open log code) HandshakeOver reply (own-closing log own code h s u o) (over log (own ++ close_when_open log code) u x) q w
 
   failed-so : (log : Log) (own : List Action) (reply : Reply) → is_under_way (handshake_state (calls_of log)) ≡ true → OwnCauses side turn log own → OverCause side turn log → is_quiet reply ≡ true → ReplyCause side turn log reply → Caused side turn log (fail_handshake side log own reply)
   failed-so log own reply u o x q w = leaf log own HandshakeOver reply o (over log own u x) q w
 
   -- a rejection is over
-  rejected : (log : Log) (code : ℕ) → HandshakeCode side turn log code → is_under_way (handshake_state (calls_of log)) ≡ true → RejectedCause side turn log → Caused side turn log (fail_handshake side log (closing log code) replies.Rejected)
+  rejected : (log : Log) (code : ℕ) → HandshakeCode side turn log code → is_under_way (handshake_state (calls_of log)) ≡ true → RejectedCause side turn log → Caused side turn log (fail_handshake side log (close_when_open log code) replies.Rejected)
   rejected log code h u v = failed log [] code replies.Rejected h refl u tt (RejectionEnded v) refl v
 
   rejected-so : (log : Log) → is_under_way (handshake_state (calls_of log)) ≡ true → RejectedCause side turn log → Caused side turn log (fail_handshake side log [] replies.Rejected)
@@ -172,7 +172,7 @@ module _ (side : Side) (turn : Turn) (called : is_call turn ≡ true) where
 
   -- a connect fails
   connect-failed : (log : Log) (own : List Action) (code : ℕ) (e : ConnectingError) → HandshakeCode side turn (with_actions own log) code → is_open (with_actions own log) ≡ is_open log → is_under_way (handshake_state (calls_of log)) ≡ true → OwnCauses side turn log own → ConnectFailedCause side turn log e
-      → Caused side turn log (fail_handshake side log (own ++ closing log code) (replies.ConnectFailed e))
+      → Caused side turn log (fail_handshake side log (own ++ close_when_open log code) (replies.ConnectFailed e))
   connect-failed log own code e h s u o v = failed log own code (replies.ConnectFailed e) h s u o (ConnectEnded e v) refl v
 
   connect-failed-so : (log : Log) (own : List Action) (e : ConnectingError) → is_under_way (handshake_state (calls_of log)) ≡ true → OwnCauses side turn log own → ConnectFailedCause side turn log e → Caused side turn log (fail_handshake side log own (replies.ConnectFailed e))
@@ -184,11 +184,11 @@ module _ (side : Side) (turn : Turn) (called : is_call turn ≡ true) where
   quiet-wait log true = refl
   quiet-wait log false = refl
 
-  pending-accept : (s at : ℕ) (log : Log) (b : Bool) → is_accept turn ≡ true → established (calls_of log) ≡ Some (s, at) → is_open log ≡ b → next_due side log (accepted_kind side turn) s ≡ None → ReplyCause side turn log (if b then replies.Pending else replies.Failed (driver_error side log))
+  pending-accept : (s at : ℕ) (log : Log) (b : Bool) → is_accept turn ≡ true → established_session (calls_of log) ≡ Some (s, at) → is_open log ≡ b → next_due side log (accepted_kind side turn) s ≡ None → ReplyCause side turn log (if b then replies.Pending else replies.Failed (driver_error side log))
   pending-accept s at log true a d o e = (o, NoStreamLeft s at a d e)
   pending-accept s at log false a d o e = AsDriver (or_left (is_accept turn || is_receive turn) (is_incoming turn) (or_left (is_accept turn) (is_receive turn) a)) o refl
 
-  found-it : (s at : ℕ) (log : Log) (c : Classified) (b : Bool) → is_accept turn ≡ true → established (calls_of log) ≡ Some (s, at) → next_due side log (accepted_kind side turn) s ≡ Some c → is_for_session s c.verdict ≡ b → FoundStream side turn log c.id b
+  found-it : (s at : ℕ) (log : Log) (c : Classified) (b : Bool) → is_accept turn ≡ true → established_session (calls_of log) ≡ Some (s, at) → next_due side log (accepted_kind side turn) s ≡ Some c → is_for_session s c.verdict ≡ b → FoundStream side turn log c.id b
   found-it s at log c b a d e n = record { accepts = a; session = s; at = at; is_established = d; found = c; next = e; same = refl; named = n }
 
   same-next : (s : ℕ) (log : Log) (k code kind : ℕ) → next_due side (Sent (actions.StopOut k code) ∷ log) kind s ≡ next_due side log kind s
@@ -205,7 +205,7 @@ module _ (side : Side) (turn : Turn) (called : is_call turn ≡ true) where
   open-due false own e n = absurd (cc)
 
   module _ (a : is_accept turn ≡ true) (s at : ℕ) (reply : ℕ → Reply) (t : (k : ℕ) → given_stream (reply k) ≡ Some k) (q : (log : Log) (k : ℕ) → FoundStream side turn log k true → ReplyCause side turn log (reply k)) where
-    caused-give : (again : Log → Effect) (log : Log) (c : Classified) (b : Bool) → (b ≡ false → Caused side turn (pass_stream side log c.id) (again (pass_stream side log c.id))) → established (calls_of log) ≡ Some (s, at)
+    caused-give : (again : Log → Effect) (log : Log) (c : Classified) (b : Bool) → (b ≡ false → Caused side turn (pass_stream side log c.id) (again (pass_stream side log c.id))) → established_session (calls_of log) ≡ Some (s, at)
         → next_due side log (accepted_kind side turn) s ≡ Some c → is_for_session s c.verdict ≡ b → (b ≡ false → is_open log ≡ true) → Caused side turn log (give_or_pass b side reply again log c.id)
     caused-give again log c true f d e n o = settled log [] (StreamAccepted c.id) (reply c.id) tt (ByAccept (found-it s at log c true a d e n)) (t c.id) (q log c.id (found-it s at log c true a d e n))
     caused-give again log c false f d e n o =
@@ -214,18 +214,18 @@ module _ (side : Side) (turn : Turn) (called : is_call turn ≡ true) where
         (f refl)
 
     caused-due : (again : Log → Effect) (log : Log) (o : Option Classified) → ((c : Classified) → next_due side log (accepted_kind side turn) s ≡ Some c → Caused side turn (pass_stream side log c.id) (again (pass_stream side log c.id)))
-        → established (calls_of log) ≡ Some (s, at) → next_due side log (accepted_kind side turn) s ≡ o → Caused side turn log (accept_due side reply again s log o)
+        → established_session (calls_of log) ≡ Some (s, at) → next_due side log (accepted_kind side turn) s ≡ o → Caused side turn log (accept_due side reply again s log o)
     caused-due again log None f d e = polled log (pending_or_failed side log) (quiet-wait log (is_open log)) (pending-accept s at log (is_open log) a d refl e)
     caused-due again log (Some c) f d e =
         caused-give again log c (is_for_session s c.verdict) (λ n. f c e) d e refl (λ n. open-due (is_open log) (is_for_session s c.verdict) (next-is-due side log (accepted_kind side turn) s c e).turn_has_come n)
 
-    caused-first : (n : ℕ) (log : Log) → established (calls_of log) ≡ Some (s, at) → left_to_release side log (accepted_kind side turn) < n → Caused side turn log (accept_first n side reply (accepted_kind side turn) s log)
+    caused-first : (n : ℕ) (log : Log) → established_session (calls_of log) ≡ Some (s, at) → left_to_release side log (accepted_kind side turn) < n → Caused side turn log (accept_first n side reply (accepted_kind side turn) s log)
     caused-first zero log d l = absurd (omega arith)
     caused-first (suc n) log d l =
         caused-due (λ later. accept_first n side reply (accepted_kind side turn) s later) log (next_due side log (accepted_kind side turn) s)
-        (λ c e. caused-first n (pass_stream side log c.id) (ap established (calls-logged side log (stopping c.id) (StreamPassed c.id)) ∙ d) (let p = pass-drops side log (accepted_kind side turn) s c (stopping c.id) e in omega arith)) d refl
+        (λ c e. caused-first n (pass_stream side log c.id) (ap established_session (calls-logged side log (stopping c.id) (StreamPassed c.id)) ∙ d) (let p = pass-drops side log (accepted_kind side turn) s c (stopping c.id) e in omega arith)) d refl
 
-    pub caused-accept : (log : Log) → established (calls_of log) ≡ Some (s, at) → Caused side turn log (accept_stream side reply (accepted_kind side turn) log s)
+    pub caused-accept : (log : Log) → established_session (calls_of log) ≡ Some (s, at) → Caused side turn log (accept_stream side reply (accepted_kind side turn) log s)
     caused-accept log d = caused-first (suc (peer_count side (events_of log) (accepted_kind side turn))) log d (at-first side log (accepted_kind side turn))
 
   -- ---- datagrams
@@ -235,16 +235,16 @@ module _ (side : Side) (turn : Turn) (called : is_call turn ≡ true) where
   pending-receive log false a o e = AsDriver (or_left (is_accept turn || is_receive turn) (is_incoming turn) (or_right (is_accept turn) (is_receive turn) a)) o refl
 
   module _ (a : is_receive turn ≡ true) (s at : ℕ) where
-    abbrev found-one : (log : Log) (d : ℕ × List ℕ) (b : Bool) → established (calls_of log) ≡ Some (s, at) → next_datagram side log ≡ Some d → (4 * d.0 == s) ≡ b → FoundDatagram side turn log b
+    abbrev found-one : (log : Log) (d : ℕ × List ℕ) (b : Bool) → established_session (calls_of log) ≡ Some (s, at) → next_datagram side log ≡ Some d → (4 * d.0 == s) ≡ b → FoundDatagram side turn log b
     found-one log d b i e n = record { receives = a; session = s; at = at; is_established = i; datagram = d; next = e; named = n }
 
     caused-take : (again : Log → Effect) (log : Log) (d : ℕ × List ℕ) (b : Bool) → Caused side turn (log_call side log [] DatagramPassed) (again (log_call side log [] DatagramPassed))
-        → established (calls_of log) ≡ Some (s, at) → next_datagram side log ≡ Some d → (4 * d.0 == s) ≡ b → Caused side turn log (receive_or_pass b side again log d.1)
+        → established_session (calls_of log) ≡ Some (s, at) → next_datagram side log ≡ Some d → (4 * d.0 == s) ≡ b → Caused side turn log (receive_or_pass b side again log d.1)
     caused-take again log d true f i e n = settled log [] DatagramReceived (replies.Datagram d.1) tt (found-one log d true i e n) (d.1, refl) (found-one log d true i e n, refl)
     caused-take again log d false f i e n = again-after log [] DatagramPassed (or_right (is_accept turn) (is_receive turn) a) refl tt (found-one log d false i e n) f
 
     caused-next : (again : Log → Effect) (log : Log) (o : Option (ℕ × List ℕ)) → ((d : ℕ × List ℕ) → next_datagram side log ≡ Some d → Caused side turn (log_call side log [] DatagramPassed) (again (log_call side log [] DatagramPassed)))
-        → established (calls_of log) ≡ Some (s, at) → next_datagram side log ≡ o → Caused side turn log (receive_next side again s log o)
+        → established_session (calls_of log) ≡ Some (s, at) → next_datagram side log ≡ o → Caused side turn log (receive_next side again s log o)
     caused-next again log None f i e = polled log (pending_or_failed side log) (quiet-wait log (is_open log)) (pending-receive log (is_open log) a refl e)
     caused-next again log (Some d) f i e = caused-take again log d (4 * d.0 == s) (f d e) i e refl
 
@@ -252,11 +252,11 @@ module _ (side : Side) (turn : Turn) (called : is_call turn ≡ true) where
     none-next log None e l = e
     none-next log (Some d) e l = let w = next-within side log d e in absurd (omega arith)
 
-    pub caused-receive : (n : ℕ) (log : Log) → established (calls_of log) ≡ Some (s, at) → length (datagrams_of (events_of log)) < settled_datagrams (calls_of log) + n → Caused side turn log (receive_first n side s log)
+    pub caused-receive : (n : ℕ) (log : Log) → established_session (calls_of log) ≡ Some (s, at) → length (datagrams_of (events_of log)) < settled_datagrams (calls_of log) + n → Caused side turn log (receive_first n side s log)
     caused-receive zero log i l = polled log (pending_or_failed side log) (quiet-wait log (is_open log)) (pending-receive log (is_open log) a refl (none-next log (next_datagram side log) refl (omega arith)))
     caused-receive (suc n) log i l =
         caused-next (λ later. receive_first n side s later) log (next_datagram side log)
-        (λ d e. caused-receive n (log_call side log [] DatagramPassed) (ap established (calls-logged side log [] DatagramPassed) ∙ i)
+        (λ d e. caused-receive n (log_call side log [] DatagramPassed) (ap established_session (calls-logged side log [] DatagramPassed) ∙ i)
         (rw (calls-logged side log [] DatagramPassed, events-logged side log [] DatagramPassed) (omega arith))) i refl
 
   -- ---- the handshake of a server
@@ -274,7 +274,7 @@ module _ (side : Side) (turn : Turn) (called : is_call turn ≡ true) where
   record Responds (log : Log) (accepts : Bool) (head : List ℕ) (waiting : CallRecord) : Type 0 where
     pub from : ResponseFrom turn (calls_of log) accepts head
     pub under_way : is_under_way (handshake_state (calls_of log)) ≡ true
-    pub quiet : Tells turn waiting replies.Pending
+    pub quiet : TellsOf turn waiting replies.Pending
     pub waits : (own : List Action) → CallCause side turn log own waiting
 
   pub not-stopped : (stop : Option ℕ) (left : List ℕ) (n : ℕ) → (is_some stop && not (is_empty left)) ≡ false → is_empty (drop (length (take n left)) left) ≡ false → stop ≡ None
@@ -285,22 +285,22 @@ module _ (side : Side) (turn : Turn) (called : is_call turn ≡ true) where
       none-of-none n = let l = length-take {A = ℕ} n [] in omega (arith, l)
   not-stopped (Some x) (b ∷ left) n r c = absurd (cc)
 
-  partly : (log : Log) (id : ℕ) (accepts : Bool) (head : List ℕ) (waiting : CallRecord) → id ≡ requested (calls_of log) → Responds log accepts head waiting → is_open log ≡ true → is_refused log id (head_left log id head) ≡ false → is_covered log id (head_left log id head) ≡ false
-      → Caused side turn log (reply_with (log_call side log (send_of id (covered log id (head_left log id head))) waiting) replies.Pending)
+  partly : (log : Log) (id : ℕ) (accepts : Bool) (head : List ℕ) (waiting : CallRecord) → id ≡ requested_stream (calls_of log) → Responds log accepts head waiting → is_open log ≡ true → is_refused log id (head_left log id head) ≡ false → is_covered log id (head_left log id head) ≡ false
+      → Caused side turn log (reply_with (log_call side log (send_of id (bytes_within_credit log id (head_left log id head))) waiting) replies.Pending)
   partly log id accepts head waiting i r o x c =
-      leaf log (send_of id (covered log id (head_left log id head))) waiting replies.Pending
-      (own-send log id (covered log id (head_left log id head)) o (unrefused (stop_of (events_of log) id) (head_left log id head) (credit_left log id) x) (OfResponse accepts head r.from i refl)) (r.waits (send_of id (covered log id (head_left log id head)))) r.quiet
+      leaf log (send_of id (bytes_within_credit log id (head_left log id head))) waiting replies.Pending
+      (own-send log id (bytes_within_credit log id (head_left log id head)) o (unrefused (stop_of (events_of log) id) (head_left log id head) (credit_left log id) x) (OfResponse accepts head r.from i refl)) (r.waits (send_of id (bytes_within_credit log id (head_left log id head)))) r.quiet
       (o, HeadUnsent id head (OfTheResponse accepts r.from i) c (not-stopped (stop_of (events_of log) id) (head_left log id head) (credit_left log id) x c))
 
   -- the whole rest of a head that isn't refused
   pub unrefused-whole : (log : Log) (k : ℕ) (left : List ℕ) → is_refused log k left ≡ false → is_covered log k left ≡ true → Unstopped log k left
   unrefused-whole log k left x c b rest e = unrefused (stop_of (events_of log) k) left (credit_left log k) x b rest (covered-whole log k left c ∙ e)
 
-  wholly : (log : Log) (id : ℕ) (accepts : Bool) (head : List ℕ) → id ≡ requested (calls_of log) → ResponseFrom turn (calls_of log) accepts head → is_open log ≡ true → is_refused log id (head_left log id head) ≡ false → is_covered log id (head_left log id head) ≡ true
+  wholly : (log : Log) (id : ℕ) (accepts : Bool) (head : List ℕ) → id ≡ requested_stream (calls_of log) → ResponseFrom turn (calls_of log) accepts head → is_open log ≡ true → is_refused log id (head_left log id head) ≡ false → is_covered log id (head_left log id head) ≡ true
       → OwnCauses side turn log (send_of id (head_left log id head))
   wholly log id accepts head i f o x c = own-send log id (head_left log id head) o (unrefused-whole log id (head_left log id head) x c) (OfResponse accepts head f i (sym (covered-whole log id (head_left log id head) c)))
 
-  caused-accepted : (log : Log) (id : ℕ) (head : List ℕ) (waiting : CallRecord) → id ≡ requested (calls_of log) → Responds log true head waiting → Caused side turn log (accept_response side log id (head_left log id head) waiting)
+  caused-accepted : (log : Log) (id : ℕ) (head : List ℕ) (waiting : CallRecord) → id ≡ requested_stream (calls_of log) → Responds log true head waiting → Caused side turn log (accept_response side log id (head_left log id head) waiting)
   caused-accepted log id head waiting i r =
       let left = head_left log id head in
       either (not (is_open log)) _ _ (λ o. failed-so log [] _ r.under_way tt (AcceptanceEnded head r.from (not-true _ o)) refl (AtResponse head r.from (not-true _ o) refl)) (λ o.
@@ -313,12 +313,12 @@ module _ (side : Side) (turn : Turn) (called : is_call turn ≡ true) where
       (λ c. partly log id true head waiting i r (not-false _ o) x c)))
 
   -- the finish of a rejection, behind what is left of it
-  own-finish : (log : Log) (id : ℕ) (head : List ℕ) → id ≡ requested (calls_of log) → ResponseFrom turn (calls_of log) false head → is_open log ≡ true → is_refused log id (head_left log id head) ≡ false → is_covered log id (head_left log id head) ≡ true → is_finished (actions_of log) id ≡ false
+  own-finish : (log : Log) (id : ℕ) (head : List ℕ) → id ≡ requested_stream (calls_of log) → ResponseFrom turn (calls_of log) false head → is_open log ≡ true → is_refused log id (head_left log id head) ≡ false → is_covered log id (head_left log id head) ≡ true → is_finished (actions_of log) id ≡ false
       → OwnCauses side turn log (send_of id (head_left log id head) ++ actions.Finish id ∷ [])
   own-finish log id head i f o x c n =
       let left = head_left log id head in
       own-append log (send_of id left) _ (wholly log id false head i f o x c)
-      ((open-send log id left ∙ o, OfRejection head (subst (λ cs. ResponseFrom turn cs false head) (sym (calls-with (send_of id left) log)) f) (i ∙ ap requested (sym (calls-with (send_of id left) log))) (head-out log id head) (finished-send left ∙ n)), tt)
+      ((open-send log id left ∙ o, OfRejection head (subst (λ cs. ResponseFrom turn cs false head) (sym (calls-with (send_of id left) log)) f) (i ∙ ap requested_stream (sym (calls-with (send_of id left) log))) (head-out log id head) (finished-send left ∙ n)), tt)
     where
       finished-send : (piece : List ℕ) → is_finished (actions_of (with_actions (send_of id piece) log)) id ≡ is_finished (actions_of log) id
       finished-send [] = refl
@@ -328,7 +328,7 @@ module _ (side : Side) (turn : Turn) (called : is_call turn ≡ true) where
   none-there None e = refl
   none-there (Some x) e = absurd (cc)
 
-  caused-rejected : (log : Log) (id : ℕ) (head : List ℕ) (waiting : CallRecord) → id ≡ requested (calls_of log) → Responds log false head waiting → is_open log ≡ true → is_refused log id (head_left log id head) ≡ false → is_covered log id (head_left log id head) ≡ true
+  caused-rejected : (log : Log) (id : ℕ) (head : List ℕ) (waiting : CallRecord) → id ≡ requested_stream (calls_of log) → Responds log false head waiting → is_open log ≡ true → is_refused log id (head_left log id head) ≡ false → is_covered log id (head_left log id head) ≡ true
       → Caused side turn log (finish_rejection side log id (head_left log id head) waiting)
   caused-rejected log id head waiting i r o n c =
       either (not (is_finished (actions_of log) id)) _ _
@@ -344,7 +344,7 @@ module _ (side : Side) (turn : Turn) (called : is_call turn ≡ true) where
             (subst (λ (n : ℕ). stop_of (events_of log) n ≡ None) i (none-there (stop_of (events_of log) id) q.0)) (subst (λ (n : ℕ). is_acknowledged (events_of log) n ≡ false) i q.1),
       )))
 
-  caused-rejecting : (log : Log) (id : ℕ) (head : List ℕ) (waiting : CallRecord) → id ≡ requested (calls_of log) → Responds log false head waiting → Caused side turn log (reject_response side log id (head_left log id head) waiting)
+  caused-rejecting : (log : Log) (id : ℕ) (head : List ℕ) (waiting : CallRecord) → id ≡ requested_stream (calls_of log) → Responds log false head waiting → Caused side turn log (reject_response side log id (head_left log id head) waiting)
   caused-rejecting log id head waiting i r =
       let left = head_left log id head in
       either (not (is_open log)) _ _ (λ o. rejected-so log r.under_way (ConnectionEnded head r.from (not-true _ o))) (λ o.
@@ -352,8 +352,8 @@ module _ (side : Side) (turn : Turn) (called : is_call turn ≡ true) where
       either (is_covered log id left) _ _ (λ c. caused-rejected log id head waiting i r (not-false _ o) x c) (λ c. partly log id false head waiting i r (not-false _ o) x c)))
 
   caused-respond : (log : Log) (accepts : Bool) (head : List ℕ) (waiting : CallRecord) → Responds log accepts head waiting → Caused side turn log (respond side log accepts head waiting)
-  caused-respond log true head waiting r = caused-accepted log (requested (calls_of log)) head waiting refl r
-  caused-respond log false head waiting r = caused-rejecting log (requested (calls_of log)) head waiting refl r
+  caused-respond log true head waiting r = caused-accepted log (requested_stream (calls_of log)) head waiting refl r
+  caused-respond log false head waiting r = caused-rejecting log (requested_stream (calls_of log)) head waiting refl r
 
   -- ---- the handshake of a client
 
@@ -411,11 +411,11 @@ module _ (side : Side) (turn : Turn) (called : is_call turn ≡ true) where
     pub left_at : head_left log (local_bi side) head ≡ left
     pub left_is : head_left (with_actions own log) (local_bi side) head ≡ left
 
-  sends-request : (log : Log) (own : List Action) (left piece : List ℕ) (w : Onward log) → Opens log own left w.head → is_open log ≡ true → is_some (stop_of (events_of log) (local_bi side)) ≡ false → piece ≡ covered log (local_bi side) left → OwnCauses side turn log (own ++ send_of (local_bi side) piece)
+  sends-request : (log : Log) (own : List Action) (left piece : List ℕ) (w : Onward log) → Opens log own left w.head → is_open log ≡ true → is_some (stop_of (events_of log) (local_bi side)) ≡ false → piece ≡ bytes_within_credit log (local_bi side) left → OwnCauses side turn log (own ++ send_of (local_bi side) piece)
   sends-request log own left piece w x o n e =
       own-append log own (send_of (local_bi side) piece) x.causes
       (own-send (with_actions own log) (local_bi side) piece (x.stays ∙ o) (λ b rest q. blind-actions (λ g. stop_of (events_of g) (local_bi side)) (λ a g. refl) own log ∙ none-there (stop_of (events_of log) (local_bi side)) n)
-      (OfRequest w.head w.call (ap handshake_state (calls-with own log) ∙ w.state) refl x.counted (e ∙ ap (λ n. take n left) (sym x.credit) ∙ ap (covered (with_actions own log) (local_bi side)) (sym x.left_is))))
+      (OfRequest w.head w.call (ap handshake_state (calls-with own log) ∙ w.state) refl x.counted (e ∙ ap (λ n. take n left) (sym x.credit) ∙ ap (bytes_within_credit (with_actions own log) (local_bi side)) (sym x.left_is))))
 
   with-appended : (as_ bs : List Action) (log : Log) → with_actions (as_ ++ bs) log ≡ with_actions bs (with_actions as_ log)
   with-appended [] bs log = refl
@@ -448,10 +448,10 @@ module _ (side : Side) (turn : Turn) (called : is_call turn ≡ true) where
       connect-failed log own 0 _ (Plain (Stops None w.head w.call (ap handshake_state (calls-with own log) ∙ w.state) (ap (is_refused (with_actions own log) (local_bi side)) x.left_is ∙ blind-actions (λ g. is_refused g (local_bi side) left) (λ a g. refl) own log ∙ y)) refl) x.stays (going log w) x.causes (ByRefusal None w.head w.call w.state (not-false _ o) (rw x.left_at y) refl)) (λ b.
       either (is_covered log (local_bi side) left) _ _
       (λ z. caused-await log (own ++ send_of (local_bi side) left) (sends-request log own left left w x (not-false _ o) b (sym (covered-whole log (local_bi side) left z))) (stays-open log left left own x.stays) w (still-counted log own left x.counted) (all-out log own left w.head x.left_is))
-      (λ z. leaf log (own ++ send_of (local_bi side) (covered log (local_bi side) left)) Polled replies.Pending (sends-request log own left (covered log (local_bi side) left) w x (not-false _ o) b refl) called refl (not-false _ o, HeadUnsent (local_bi side) w.head (OfTheRequest None w.call w.state refl) (rw x.left_at z) (none-there _ b))))))
+      (λ z. leaf log (own ++ send_of (local_bi side) (bytes_within_credit log (local_bi side) left)) Polled replies.Pending (sends-request log own left (bytes_within_credit log (local_bi side) left) w x (not-false _ o) b refl) called refl (not-false _ o, HeadUnsent (local_bi side) w.head (OfTheRequest None w.call w.state refl) (rw x.left_at z) (none-there _ b))))))
 
   -- the request's stream is opened
-  opens-first : (log : Log) (w : Onward log) (b : Bool) → local_count (actions_of log) (local_bi side) ≡ 0 → may_open side log (local_bi side) ≡ b → is_open log ≡ true → b ≡ true → Opens log (opening side log (local_bi side)) (head_left log (local_bi side) w.head) w.head
+  opens-first : (log : Log) (w : Onward log) (b : Bool) → local_count (actions_of log) (local_bi side) ≡ 0 → may_open side log (local_bi side) ≡ b → is_open log ≡ true → b ≡ true → Opens log (actions_to_open side log (local_bi side)) (head_left log (local_bi side) w.head) w.head
   opens-first log w true n m o e =
       rw m (record {
         causes = ((o, local_bi side, m, refl, or_right (local_bi side == local_uni side) _ (eq-eqb (local_bi side) (local_bi side) refl), OfRequest w.head w.call w.state w.settings refl n), tt);
@@ -478,7 +478,7 @@ module _ (side : Side) (turn : Turn) (called : is_call turn ≡ true) where
       (λ c. caused-send-request log [] (head_left log (local_bi side) w.head) w (record { causes = tt; stays = refl; counted = eqb-false (local_count (actions_of log) (local_bi side)) 0 (not-true _ c); credit = refl; left_at = refl; left_is = refl })) (λ c.
       either (not (is_open log)) _ _ (λ o. connect-failed-so log [] _ (going log w) tt (BeforeStream None w.head w.call w.state (eqb-true (local_count (actions_of log) (local_bi side)) 0 (not-false _ c)) (not-true _ o) refl)) (λ o.
       either (may_open side log (local_bi side)) _ _
-      (λ m. caused-send-request log (opening side log (local_bi side)) (head_left log (local_bi side) w.head) w (opens-first log w true (eqb-true (local_count (actions_of log) (local_bi side)) 0 (not-false _ c)) m (not-false _ o) refl))
+      (λ m. caused-send-request log (actions_to_open side log (local_bi side)) (head_left log (local_bi side) w.head) w (opens-first log w true (eqb-true (local_count (actions_of log) (local_bi side)) 0 (not-false _ c)) m (not-false _ o) refl))
       (λ m. polled log replies.Pending refl (not-false _ o, NoSessionStream None w.head w.call w.state (eqb-true (local_count (actions_of log) (local_bi side)) 0 (not-false _ c)) m))))
 
   caused-reserved : (log : Log) (o : Option (List ℕ)) (head : List ℕ) → turn ≡ turns.Call calls.Handshake → handshake_state (calls_of log) ≡ Connecting o head → settings_came side log ≡ true → Caused side turn log (unless_reserved side log o head)

@@ -8,7 +8,7 @@ use Rattle.wt_turn.specs.declared.action.Action.{Action}
 use Rattle.wt_wire.specs.declared.side.Side.{Side}
 use Rattle.wt_laws.proofs.EndLaws.{closed-table, no-ending, none-lost, same-table}
 use Rattle.wt_laws.proofs.TurnCauses.{actions-went-out}
-use Rattle.wt_laws.specs.Laws.{ByDriver, ByLoss, ClosedByCall, ClosesFault, ClosesSession, DriverCause, EndedBy, GoesOnFrom, OpenExactly, OpensControl, ResetsSession, SendsControl, StopsStream}
+use Rattle.wt_laws.specs.Laws.{ByDriver, ByLoss, ClosedByCall, ClosesFault, ClosesSession, DriverCause, EndedBy, GoesOnFrom, OpenExactly}
 use Rattle.wt_laws.specs.Reachable.{IsReachable}
 use Rattle.wt_laws.specs.TurnCauses.{AfterAction, AtOnce, SentIn, SinceMoment, WentOut}
 use Rattle.wt_laws.specs.TurnCauses as sent
@@ -70,12 +70,9 @@ since-moment side (AfterAction {log} a s) = same-table side a log ∙ since-mome
 
 -- the driver closes for what it found
 found-ending : (side : Side) (log : Log) (a : Action) → closes a ≡ true → DriverCause side log a → (x : Ending) × ((stream_table side log).progress.ending ≡ Some x)
-found-ending side log _ c (OpensControl n z) = absurd (cc)
-found-ending side log _ c (SendsControl piece e) = absurd (cc)
-found-ending side log _ c (StopsStream stop v n w f) = absurd (cc)
-found-ending side log _ c (ResetsSession code reason e) = absurd (cc)
 found-ending side log _ c (ClosesFault code e) = (ByFault code, e)
 found-ending side log _ c (ClosesSession code reason b e) = (BySession code reason b, e)
+found-ending side log _ c _ = absurd (cc)
 
 ended : (side : Side) (log : Log) → IsReachable side log → Closing log → EndedBy side log
 ended side log r (WasLost l) = ByLoss l

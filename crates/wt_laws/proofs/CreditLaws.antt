@@ -21,7 +21,7 @@ use Rattle.wt_laws.proofs.Sends.{piece_on, with-piece}
 use Rattle.wt_laws.proofs.SettingsLaws.{ControlOut, connected-fits, data-fits, first-control, keeps-control}
 use Rattle.wt_laws.proofs.Steps.{Brings, Keeps, blind-flush}
 use Rattle.wt_laws.specs.Causes.{ActionCause, OfHeader, OfRequest, OfResponse, OfWrite, OwnCauses, SendCause}
-use Rattle.wt_spec.specs.Turns.{event_of}
+use Rattle.wt_turn.specs.Turns.{event_of}
 use Rattle.wt_laws.specs.Laws.{WithinCredit}
 use Rattle.wt_laws.specs.Reachable.{IsReachable}
 use Rattle.wt_spec.specs.Driver.{apply_if, flush, is_moment, log_and_flush, pending_actions}

@@ -3,7 +3,7 @@ use Rattle.std.specs.Prelude.{[], ◌++◌, ◌-◌, ◌==◌, ◌∷◌, ◌≡
 use Rattle.std.proofs.Common.{◌∙◌, ap, arith, refl, sym}
 use Rattle.std.proofs.lemmas.Bool.{eq-eqb, eqb-true}
 use Rattle.std.proofs.lemmas.List.{append_assoc, length-append}
-use Rattle.wt_seam_spec.specs.Joined.{join_all, join_one, join_two, joined}
+use Rattle.wt_seam_spec.specs.Joined.{join_all, join_one, join_two, joined_actions}
 use Rattle.wt_turn.specs.Log.{Called, Log, Received, Reported, ReportedLate, Sent, actions_of, is_open}
 use Rattle.wt_turn.specs.declared.action.Action.{Action}
 use Rattle.wt_wire.specs.declared.side.Side.{Side}
@@ -51,9 +51,9 @@ join-later as_ (b ∷ []) a = join-two as_ b a
 join-later as_ (b ∷ c ∷ bs) a = join-later (join_one as_ b) (c ∷ bs) a
 
 -- (both lists have the newest first)
-joined-parts : (as_ bs : List Action) → join_all (joined as_) (joined bs) ≡ joined (bs ++ as_)
+joined-parts : (as_ bs : List Action) → join_all (joined_actions as_) (joined_actions bs) ≡ joined_actions (bs ++ as_)
 joined-parts as_ [] = refl
-joined-parts as_ (b ∷ bs) = sym (join-later (joined as_) (joined bs) b) ∙ ap (λ xs. join_one xs b) (joined-parts as_ bs)
+joined-parts as_ (b ∷ bs) = sym (join-later (joined_actions as_) (joined_actions bs) b) ∙ ap (λ xs. join_one xs b) (joined-parts as_ bs)
 
 -- ---- what a turn adds
 
@@ -73,10 +73,10 @@ take-front xs ys = let n : length (xs ++ ys) - length ys ≡ length xs = omega (
     front (z ∷ zs) = ap (λ ws. z ∷ ws) (front zs)
 
 -- the new actions of a log that goes on
-new-actions : (log later : Log) (x : GoesOnFrom log later) → actions_since log later ≡ joined (actions_of x.0)
+new-actions : (log later : Log) (x : GoesOnFrom log later) → actions_since log later ≡ joined_actions (actions_of x.0)
 new-actions log later x =
     let e = ap actions_of x.1 ∙ actions-append x.0 log in
-    ap (λ as_. joined (take (length as_ - length (actions_of log)) as_)) e ∙ ap joined (take-front (actions_of x.0) (actions_of log))
+    ap (λ as_. joined_actions (take (length as_ - length (actions_of log)) as_)) e ∙ ap joined_actions (take-front (actions_of x.0) (actions_of log))
 
 -- ---- a cut piece
 
@@ -101,6 +101,6 @@ cuts-well side log id first second =
       same_log = same;
       later = λ all. ap (λ g. run_from side g all) same;
       actions =
-          ap (λ xs. join_all xs (actions_since (receive side log id first) (receive side (receive side log id first) id second))) (new-actions log _ a) ∙ ap (join_all (joined (actions_of a.0))) (new-actions (receive side log id first) _ b)
-          ∙ joined-parts (actions_of a.0) (actions_of b.0) ∙ ap joined (sym (actions-append b.0 a.0)) ∙ sym (new-actions log _ (extend a b)) ∙ ap (actions_since log) same;
+          ap (λ xs. join_all xs (actions_since (receive side log id first) (receive side (receive side log id first) id second))) (new-actions log _ a) ∙ ap (join_all (joined_actions (actions_of a.0))) (new-actions (receive side log id first) _ b)
+          ∙ joined-parts (actions_of a.0) (actions_of b.0) ∙ ap joined_actions (sym (actions-append b.0 a.0)) ∙ sym (new-actions log _ (extend a b)) ∙ ap (actions_since log) same;
     }

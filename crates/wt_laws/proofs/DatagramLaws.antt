@@ -6,7 +6,7 @@ use Rattle.std.proofs.lemmas.List.{append-nil, append_assoc, length-append, take
 use Rattle.std.proofs.lemmas.Option.{slice_get_within}
 use Rattle.wt_seam_spec.specs.Reports.{datagrams_of}
 use Rattle.wt_seam_spec.specs.Streams.{one_more_if}
-use Rattle.wt_turn.specs.Log.{BytesRead, CallRecord, Called, Datagram, DatagramPassed, DatagramReceived, Entry, Log, Received, Reported, ReportedLate, RequestDelivered, Sent, SessionEstablished, StreamAccepted, StreamPassed, calls_of, events_of}
+use Rattle.wt_turn.specs.Log.{BytesRead, CallRecord, Called, Datagram, DatagramPassed, DatagramReceived, Entry, Log, Received, Reported, ReportedLate, Sent, SessionEstablished, StreamPassed, calls_of, events_of}
 use Rattle.wt_reply.specs.declared.reply.Reply.{Reply}
 use Rattle.wt_turn.specs.declared.turn.Turn.{Turn}
 use Rattle.wt_wire.specs.declared.side.Side.{Side}
@@ -16,16 +16,16 @@ use Rattle.wt_laws.proofs.Reached.{Law, holds, keeps-turn}
 use Rattle.wt_laws.proofs.SessionLaws.{Handshakes, handshakes-before, handshakes-first, handshakes-record, handshakes-same}
 use Rattle.wt_laws.proofs.Steps.{Keeps, by-entries, calls-with, keeps-steps}
 use Rattle.wt_laws.specs.Causes.{EstablishedBy, FoundDatagram, is_receive}
-use Rattle.wt_spec.specs.Turns.{event_of}
+use Rattle.wt_turn.specs.Turns.{event_of}
 use Rattle.wt_laws.specs.Datagrams.{receives}
 use Rattle.wt_laws.specs.Laws.{DatagramsInOrder, more_received, payload_for, payloads_for, received_by}
 use Rattle.wt_laws.specs.Reachable.{AllLawful, Exchange, exchanges}
 use Rattle.wt_laws.specs.RecordCauses.{RecordCause}
 use Rattle.wt_laws.specs.ReplyCauses.{ReplyCause}
-use Rattle.wt_laws.specs.Told.{Logged, NoRecord, NonePassed, OnePassed, OneRecord, Passed, Tells, ThenPolled, datagram_told, is_pass, is_quiet}
+use Rattle.wt_laws.specs.Told.{Logged, NoRecord, NonePassed, OnePassed, OneRecord, Passed, TellsOf, ThenPolled, datagram_told, is_pass, is_quiet}
 use Rattle.wt_spec.specs.Answers.{answer_to, is_lawful, log_after, log_from}
 use Rattle.wt_spec.specs.Connection.{next_datagram, read_datagram, well_formed}
-use Rattle.wt_spec.specs.Driver.{established, establishes, or_earlier, session_id, settled_datagrams, settles_datagram, stream_table}
+use Rattle.wt_spec.specs.Driver.{established_session, establishes, or_earlier, session_id, settled_datagrams, settles_datagram, stream_table}
 use Rattle.wt_reply.specs.declared.reply.Reply.TheVariants as replies
 use Rattle.wt_turn.specs.declared.turn.Turn.TheVariants as turns
 
@@ -104,8 +104,8 @@ pub record DatagramsSoFar (side : Side) (log : Log) : Type 0 where
   pub handshakes : Handshakes side log
   pub within : settled_datagrams (calls_of log) ≤ length (datagrams_of (events_of log))
   pub dequeued : settled_datagrams (calls_of log) ≤ (stream_table side log).progress.datagrams
-  pub none : established (calls_of log) ≡ None → (settled_datagrams (calls_of log) ≡ 0) × (received (datagrams_of (events_of log)) (calls_of log) ≡ [])
-  pub prefix : (s at : ℕ) → established (calls_of log) ≡ Some (s, at) → received (datagrams_of (events_of log)) (calls_of log) ≡ payloads_for s (take (settled_datagrams (calls_of log)) (datagrams_of (events_of log)))
+  pub none : established_session (calls_of log) ≡ None → (settled_datagrams (calls_of log) ≡ 0) × (received (datagrams_of (events_of log)) (calls_of log) ≡ [])
+  pub prefix : (s at : ℕ) → established_session (calls_of log) ≡ Some (s, at) → received (datagrams_of (events_of log)) (calls_of log) ≡ payloads_for s (take (settled_datagrams (calls_of log)) (datagrams_of (events_of log)))
 
 arrives : (e : Entry) (log : Log) → (more : List (List ℕ)) × (datagrams_of (events_of (e ∷ log)) ≡ datagrams_of (events_of log) ++ more)
 arrives (Reported (Datagram piece)) log = (piece ∷ [], refl)
@@ -123,15 +123,15 @@ so-far-same side e log c h p =
       handshakes = h;
       within = rw (c, g.1) (let w = p.within in omega (arith, length-append xs g.0));
       dequeued = rw c (dequeued-stay side n e log p.dequeued);
-      none = λ q. let z = p.none (ap established (sym c) ∙ q) in (ap settled_datagrams c ∙ z.0, same ∙ z.1);
-      prefix = λ s at q. same ∙ p.prefix s at (ap established (sym c) ∙ q) ∙ ap (payloads_for s) (sym first ∙ ap (λ (cs : List CallRecord). take (settled_datagrams cs) (datagrams_of (events_of (e ∷ log)))) (sym c));
+      none = λ q. let z = p.none (ap established_session (sym c) ∙ q) in (ap settled_datagrams c ∙ z.0, same ∙ z.1);
+      prefix = λ s at q. same ∙ p.prefix s at (ap established_session (sym c) ∙ q) ∙ ap (payloads_for s) (sym first ∙ ap (λ (cs : List CallRecord). take (settled_datagrams cs) (datagrams_of (events_of (e ∷ log)))) (sym c));
     }
 
 -- a record that neither settles a datagram nor establishes a session
 so-far-other : (side : Side) (r : CallRecord) (log : Log) → settles_datagram r ≡ false → receives r ≡ false → establishes r ≡ None → Handshakes side (Called r ∷ log) → DatagramsSoFar side log → DatagramsSoFar side (Called r ∷ log)
 so-far-other side r log s i e h p =
     let c : settled_datagrams (r ∷ calls_of log) ≡ settled_datagrams (calls_of log) = ap (λ b. one_more_if b (settled_datagrams (calls_of log))) s in
-    let d : established (r ∷ calls_of log) ≡ established (calls_of log) = ap (λ o. or_earlier o (established (calls_of log))) e in
+    let d : established_session (r ∷ calls_of log) ≡ established_session (calls_of log) = ap (λ o. or_earlier o (established_session (calls_of log))) e in
     let xs = datagrams_of (events_of log) in
     let w : received xs (r ∷ calls_of log) ≡ received xs (calls_of log) = ap (λ b. with_received b (payload_at (slice_get xs (settled_datagrams (calls_of log)))) (received xs (calls_of log))) i in
     record {
@@ -166,7 +166,7 @@ so-far-settled side turn r log b s i e f h p =
     let xs = datagrams_of (events_of log) in
     let x = next-is side log f.datagram f.next in
     let c : settled_datagrams (r ∷ calls_of log) ≡ suc n = ap (λ z. one_more_if z n) s ∙ (let q : n + 1 ≡ suc n = omega arith in q) in
-    let d : established (r ∷ calls_of log) ≡ established (calls_of log) = ap (λ o. or_earlier o (established (calls_of log))) e in
+    let d : established_session (r ∷ calls_of log) ≡ established_session (calls_of log) = ap (λ o. or_earlier o (established_session (calls_of log))) e in
     let w : received xs (r ∷ calls_of log) ≡ with_received b (payload_at (slice_get xs n)) (received xs (calls_of log)) = ap (λ z. with_received z (payload_at (slice_get xs n)) (received xs (calls_of log))) i in
     record {
       handshakes = h;
@@ -189,7 +189,7 @@ so-far-settled side turn r log b s i e f h p =
 
 so-far-established : (side : Side) (turn : Turn) (id at : ℕ) (log : Log) → EstablishedBy side turn log id at → Handshakes side (Called (SessionEstablished id at) ∷ log) → DatagramsSoFar side log → DatagramsSoFar side (Called (SessionEstablished id at) ∷ log)
 so-far-established side turn id at log c h p =
-    let o = ap established (ap calls_of c.is ∙ calls-with c.own c.before) in
+    let o = ap established_session (ap calls_of c.is ∙ calls-with c.own c.before) in
     let n = (handshakes-before side c.own c.before (subst (Handshakes side) c.is p.handshakes)).none_yet c.under_way in
     let z = p.none (o ∙ n) in
     record {
@@ -244,15 +244,11 @@ quiet-datagram : (reply : Reply) (got : List (List ℕ)) → is_quiet reply ≡ 
 quiet-datagram (replies.Datagram piece) got q = absurd (cc)
 quiet-datagram _ got q = refl
 
-other-told : (turn : Turn) (r : CallRecord) (reply : Reply) (got : List (List ℕ)) → receives r ≡ false → Tells turn r reply → more_received (datagram_told reply) got ≡ got
+other-told : (turn : Turn) (r : CallRecord) (reply : Reply) (got : List (List ℕ)) → receives r ≡ false → TellsOf turn r reply → more_received (datagram_told reply) got ≡ got
 other-told turn r (replies.Datagram piece) got i t = at r i t
   where
-    at : (r : CallRecord) → receives r ≡ false → Tells turn r (replies.Datagram piece) → got ++ piece ∷ [] ≡ got
+    at : (r : CallRecord) → receives r ≡ false → TellsOf turn r (replies.Datagram piece) → got ++ piece ∷ [] ≡ got
     at (BytesRead k n) i t = absurd (let z = t.1 in cc)
-    at (StreamAccepted k) i t = absurd (cc)
-    at DatagramReceived i t = absurd (cc)
-    at (SessionEstablished s a) i t = absurd (cc)
-    at (RequestDelivered k) i t = absurd (cc)
     at _ i t = absurd (cc)
 other-told turn r _ got i t = refl
 
@@ -285,7 +281,7 @@ record DatagramsHold (side : Side) (before : List Exchange) (log : Log) : Type 0
   pub so_far : DatagramsSoFar side log
   pub told : received_by before ≡ received (datagrams_of (events_of log)) (calls_of log)
 
-by-record : (side : Side) (turn : Turn) (xs got : List (List ℕ)) (decided : Log) (reply : Reply) (r : CallRecord) (b : Bool) → receives r ≡ b → got ≡ received xs (calls_of decided) → ReplyCause side turn decided reply → Tells turn r reply
+by-record : (side : Side) (turn : Turn) (xs got : List (List ℕ)) (decided : Log) (reply : Reply) (r : CallRecord) (b : Bool) → receives r ≡ b → got ≡ received xs (calls_of decided) → ReplyCause side turn decided reply → TellsOf turn r reply
     → (event_of turn ≡ None → xs ≡ datagrams_of (events_of decided)) → more_received (datagram_told reply) got ≡ received xs (r ∷ calls_of decided)
 by-record side turn xs got decided reply r false i g w t k = other-told turn r reply got i t ∙ g ∙ ap (λ b. with_received b (payload_at (slice_get xs (settled_datagrams (calls_of decided)))) (received xs (calls_of decided))) (sym i)
 by-record side turn xs got decided reply DatagramReceived true i g w t k =

@@ -3,7 +3,7 @@ use Rattle.std.specs.Prelude.{[], ◌*◌, ◌++◌, ◌==◌, ◌∷◌, ◌≡
 use Rattle.std.proofs.Common.{◌∙◌, ap, arith, refl, subst, sym}
 use Rattle.std.proofs.lemmas.List.{append-nil, append_assoc}
 use Rattle.wt_seam_spec.specs.Reports.{datagrams_of}
-use Rattle.wt_turn.specs.Log.{BytesRead, CallRecord, Called, DatagramPassed, DatagramReceived, Entry, Log, RequestDelivered, SessionEstablished, StreamAccepted, StreamPassed, calls_of, events_of}
+use Rattle.wt_turn.specs.Log.{BytesRead, CallRecord, Called, DatagramPassed, DatagramReceived, Entry, Log, StreamPassed, calls_of, events_of}
 use Rattle.wt_reply.specs.declared.reply.Reply.{Reply}
 use Rattle.wt_turn.specs.declared.turn.Turn.{Turn}
 use Rattle.wt_wire.specs.declared.side.Side.{Side}
@@ -15,10 +15,10 @@ use Rattle.wt_laws.proofs.Steps.{keeps-steps}
 use Rattle.wt_laws.specs.Datagrams.{DatagramTold, DatagramsStay, received_places}
 use Rattle.wt_laws.specs.Laws.{payload_for, payloads_for}
 use Rattle.wt_laws.specs.Reachable.{IsReachable}
-use Rattle.wt_laws.specs.Told.{Logged, NoRecord, NonePassed, OnePassed, OneRecord, Passed, Tells, ThenPolled, is_pass, is_quiet}
+use Rattle.wt_laws.specs.Told.{Logged, NoRecord, NonePassed, OnePassed, OneRecord, Passed, TellsOf, ThenPolled, is_pass, is_quiet}
 use Rattle.wt_spec.specs.Answers.{answer_to, is_lawful, log_after}
 use Rattle.wt_spec.specs.Connection.{well_formed}
-use Rattle.wt_spec.specs.Driver.{established, settled_datagrams}
+use Rattle.wt_spec.specs.Driver.{established_session, settled_datagrams}
 use Rattle.wt_reply.specs.declared.reply.Reply.TheVariants as replies
 
 -- ---- between two places
@@ -42,7 +42,7 @@ none-between s n m xs l e = nothing-more (payloads_for s (take n xs)) _ (sym (pa
 
 -- ---- what is passed
 
-pass-establishes : (r : CallRecord) (cs : List CallRecord) → is_pass r ≡ true → established (r ∷ cs) ≡ established cs
+pass-establishes : (r : CallRecord) (cs : List CallRecord) → is_pass r ≡ true → established_session (r ∷ cs) ≡ established_session cs
 pass-establishes (StreamPassed k) cs p = refl
 pass-establishes DatagramPassed cs p = refl
 pass-establishes _ cs p = absurd (cc)
@@ -52,7 +52,7 @@ pass-places (StreamPassed k) cs p = refl
 pass-places DatagramPassed cs p = refl
 pass-places _ cs p = absurd (cc)
 
-passed-established : (after before : List CallRecord) → Passed after before → established after ≡ established before
+passed-established : (after before : List CallRecord) → Passed after before → established_session after ≡ established_session before
 passed-established after before NonePassed = refl
 passed-established after before (OnePassed r p s) = passed-established after (r ∷ before) s ∙ pass-establishes r before p
 
@@ -70,19 +70,16 @@ record OneMore (before after : List CallRecord) : Type 0 where
   pub settled : settled_datagrams after ≡ suc (settled_datagrams before)
   pub received : received_places after ≡ received_places before ++ settled_datagrams before ∷ []
 
-one-received : (turn : Turn) (r : CallRecord) (before : List CallRecord) (payload : List ℕ) → Tells turn r (replies.Datagram payload) → OneMore before (r ∷ before)
+one-received : (turn : Turn) (r : CallRecord) (before : List CallRecord) (payload : List ℕ) → TellsOf turn r (replies.Datagram payload) → OneMore before (r ∷ before)
 one-received turn (BytesRead k n) before payload t = absurd (let z = t.1 in cc)
-one-received turn (StreamAccepted k) before payload t = absurd (cc)
 one-received turn DatagramReceived before payload t = record { settled = omega arith; received = refl }
-one-received turn (SessionEstablished s a) before payload t = absurd (cc)
-one-received turn (RequestDelivered k) before payload t = absurd (cc)
 one-received turn _ before payload t = absurd (cc)
 
 one-more : (turn : Turn) (before after : List CallRecord) (reply : Reply) (payload : List ℕ) → reply ≡ replies.Datagram payload → Logged turn before after reply → OneMore before after
 one-more turn before after reply payload e (NoRecord a q) = absurd (let z = subst (λ (x : Reply). is_quiet x ≡ true) e q in cc)
-one-more turn before after reply payload e (OneRecord r a t) = subst (OneMore before) (sym a) (one-received turn r before payload (subst (Tells turn r) e t))
+one-more turn before after reply payload e (OneRecord r a t) = subst (OneMore before) (sym a) (one-received turn r before payload (subst (TellsOf turn r) e t))
 one-more turn before after reply payload e (ThenPolled r a t) =
-    let m = one-received turn r before payload (subst (Tells turn r) e t) in
+    let m = one-received turn r before payload (subst (TellsOf turn r) e t) in
     subst (OneMore before) (sym a) (record { settled = m.settled; received = m.received })
 
 -- ---- the datagram that is given
@@ -102,7 +99,7 @@ datagram-told side log turn r l payload e =
     let same : datagrams_of (events_of c.decided) ≡ ds = keeps-steps (keeps-arrivals side turn ds (receive-brings turn f.receives)) c.before refl in
     let p = reached (DatagramsSoFar side) (datagrams-first side) (keeps-datagrams side) log r in
     let q = keeps-decided (keeps-datagrams side turn) log l p in
-    let stands : established (calls_of log) ≡ Some (f.session, f.at) = sym (passed-established (calls_of c.decided) (calls_of log) c.passed) ∙ f.is_established in
+    let stands : established_session (calls_of log) ≡ Some (f.session, f.at) = sym (passed-established (calls_of c.decided) (calls_of log) c.passed) ∙ f.is_established in
     let most : n ≤ place = passed-settled (calls_of c.decided) (calls_of log) c.passed in
     let all : payloads_for f.session (take place ds) ≡ payloads_for f.session (take n ds) =
     ap (λ ys. payloads_for f.session (take place ys)) (sym same) ∙ sym (q.prefix f.session f.at f.is_established) ∙ ap (λ ys. received ys (calls_of c.decided)) same ∙ passed-same ds (calls_of c.decided) (calls_of log) c.passed ∙ p.prefix f.session f.at stands in

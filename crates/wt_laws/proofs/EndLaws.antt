@@ -20,7 +20,7 @@ use Rattle.wt_laws.proofs.Steps.{Keeps, blind-flush, by-entries}
 use Rattle.wt_laws.specs.Laws.{FaultCloses, ResultStays}
 use Rattle.wt_laws.specs.Reachable.{IsReachable}
 use Rattle.wt_spec.specs.Answers.{is_lawful}
-use Rattle.wt_spec.specs.Driver.{ControlSent, apply_if, call_view, close_actions, control_actions, control_sent, established, flush, is_moment, log_and_flush, opened_if, pending_actions, reset_if, session_id, stop_actions, stream_table, transport_view}
+use Rattle.wt_spec.specs.Driver.{ControlSent, apply_if, call_view, close_actions, control_actions, control_sent, established_session, flush, is_moment, log_and_flush, opened_if, pending_actions, reset_if, session_id, stop_actions, stream_table, transport_view}
 use Rattle.wt_spec.specs.Effect.{driver_error, error_of_ending, loss_or_local, transport_error}
 use Rattle.wt_spec.specs.Scan.{scan_order}
 use Rattle.wt_spec.specs.StreamTable.{ByFault, BySession, Ending, Stopped, StreamTable}
@@ -71,17 +71,17 @@ before-closes side log =
 none-closes : (side : Side) (log : Log) → (stream_table side log).progress.ending ≡ None → list_any closes (pending_actions side log) ≡ false
 unfolding before-close
 none-closes side log e =
-    none-of closes (before-close side log) (close_actions (session_id (established (calls_of log))) (stream_table side log).progress.ending)
+    none-of closes (before-close side log) (close_actions (session_id (established_session (calls_of log))) (stream_table side log).progress.ending)
     (before-closes side log)
-    (ending-closes (session_id (established (calls_of log))) (stream_table side log).progress.ending e)
+    (ending-closes (session_id (established_session (calls_of log))) (stream_table side log).progress.ending e)
 
 pub fault-closes : (side : Side) (log : Log) → FaultCloses side log
 unfolding before-close
 fault-closes side log = record {
-  fault = λ code e. (before-close side log, ap (λ o. before-close side log ++ close_actions (session_id (established (calls_of log))) o) e);
+  fault = λ code e. (before-close side log, ap (λ o. before-close side log ++ close_actions (session_id (established_session (calls_of log))) o) e);
   session = λ code reason b e. (
     before-close side log,
-    ap (λ o. before-close side log ++ close_actions (session_id (established (calls_of log))) o) e ∙ sym (append_assoc (before-close side log) (reset_if b (session_id (established (calls_of log)))) (actions.Close (code_of h3.NoError) [] ∷ [])),
+    ap (λ o. before-close side log ++ close_actions (session_id (established_session (calls_of log))) o) e ∙ sym (append_assoc (before-close side log) (reset_if b (session_id (established_session (calls_of log)))) (actions.Close (code_of h3.NoError) [] ∷ [])),
   );
   none = none-closes side log;
 }
@@ -141,7 +141,7 @@ flushed side log true g (Some x) e t = λ p. absurd (let y = open-none (pending_
     ending-shown side log (ByFault code) e = let w = (fault-closes side log).fault code e in rw w.1 (any-later w.0 (actions.Close (code_of code) [] ∷ []) refl)
     ending-shown side log (BySession code reason b) e =
         let w = (fault-closes side log).session code reason b e in
-        rw w.1 (any-later (w.0 ++ reset_if b (session_id (established (calls_of log)))) (actions.Close (code_of h3.NoError) [] ∷ []) refl)
+        rw w.1 (any-later (w.0 ++ reset_if b (session_id (established_session (calls_of log)))) (actions.Close (code_of h3.NoError) [] ∷ []) refl)
 
 end-flush : (side : Side) (e : Entry) (log : Log) → (is_moment e ≡ true) → NoEnding side (log_and_flush side log e)
 unfolding flush

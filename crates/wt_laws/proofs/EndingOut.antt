@@ -2,7 +2,7 @@
 use Rattle.std.specs.Prelude.{[], ◌&&◌, ◌++◌, ◌-◌, ◌∷◌, ◌≡◌, Bool, List, None, Option, Some, false, length, take, true, ℕ}
 use Rattle.std.proofs.Common.{◌∙◌, ap, refl, sym}
 use Rattle.std.specs.List.{list_any}
-use Rattle.wt_seam_spec.specs.Joined.{join_one, joined, newest_first}
+use Rattle.wt_seam_spec.specs.Joined.{join_one, joined_actions, newest_first}
 use Rattle.wt_turn.specs.Log.{Called, Entry, Log, Received, Reported, Sent, actions_of, calls_of, closes, is_open, with_actions}
 use Rattle.wt_turn.specs.declared.action.Action.{Action}
 use Rattle.wt_turn.specs.declared.turn.Turn.{Turn}
@@ -14,9 +14,9 @@ use Rattle.wt_laws.proofs.EndLaws.{closed-table, fault-closes, late-table, none-
 use Rattle.wt_laws.proofs.Reached.{keeps-turn}
 use Rattle.wt_laws.proofs.Steps.{Keeps, blind-actions}
 use Rattle.wt_laws.specs.Causes.{OwnCauses}
-use Rattle.wt_laws.specs.Ended.{EndingGoesOut, EndsWith, close_of, ending_of}
+use Rattle.wt_laws.specs.Ended.{EndingGoesOut, EndsWith, closing_action, ending_of}
 use Rattle.wt_spec.specs.Answers.{answer_to, is_lawful, log_after}
-use Rattle.wt_spec.specs.Driver.{apply_if, established, flush, is_moment, log_and_flush, pending_actions, reset_if, session_id}
+use Rattle.wt_spec.specs.Driver.{apply_if, established_session, flush, is_moment, log_and_flush, pending_actions, reset_if, session_id}
 use Rattle.wt_spec.specs.StreamTable.{ByFault, BySession, Ending, StreamTable}
 use Rattle.wt_turn.specs.declared.action.Action.TheVariants as actions
 use Rattle.wt_wire.specs.declared.error.ErrorCode.TheVariants as h3
@@ -41,15 +41,15 @@ newest-last (b ∷ as_) a xs = newest-last as_ a (b ∷ xs)
 record Since (side : Side) (start log : Log) : Type 0 where
   pub more : List Action
   pub grown : actions_of log ≡ more ++ actions_of start
-  pub ended : (x : Ending) → ending_of side log ≡ Some x → (rest : List Action) × (more ≡ close_of x ∷ rest)
+  pub ended : (x : Ending) → ending_of side log ≡ Some x → (rest : List Action) × (more ≡ closing_action x ∷ rest)
 
-pending-close : (side : Side) (log : Log) (x : Ending) → ending_of side log ≡ Some x → EndsWith (close_of x) (pending_actions side log)
+pending-close : (side : Side) (log : Log) (x : Ending) → ending_of side log ≡ Some x → EndsWith (closing_action x) (pending_actions side log)
 pending-close side log (ByFault code) e = (fault-closes side log).fault code e
 pending-close side log (BySession code reason b) e =
     let w = (fault-closes side log).session code reason b e in
-    (w.0 ++ reset_if b (session_id (established (calls_of log))), w.1)
+    (w.0 ++ reset_if b (session_id (established_session (calls_of log))), w.1)
 
-closes-so : (x : Ending) → closes (close_of x) ≡ true
+closes-so : (x : Ending) → closes (closing_action x) ≡ true
 closes-so (ByFault code) = refl
 closes-so (BySession code reason b) = refl
 
@@ -84,7 +84,7 @@ module _ (side : Side) (start : Log) (e : Entry) (log : Log) (a : actions_of (e 
         actions-with (pending_actions side (e ∷ log)) (e ∷ log) ∙ ap (newest_first (pending_actions side (e ∷ log))) (a ∙ s.grown) ∙ newest-before (pending_actions side (e ∷ log)) s.more (actions_of start);
     ended = λ x q.
         let w = pending-close side (e ∷ log) x (sym (same-ending side (pending_actions side (e ∷ log)) (e ∷ log)) ∙ q) in
-        (newest_first w.0 s.more, ap (λ as_. newest_first as_ s.more) w.1 ∙ newest-last w.0 (close_of x) s.more);
+        (newest_first w.0 s.more, ap (λ as_. newest_first as_ s.more) w.1 ∙ newest-last w.0 (closing_action x) s.more);
   }
 
   -- and nothing on one that isn't
@@ -124,7 +124,7 @@ join-last (actions.Send id piece ∷ []) code reason = refl
 join-last (_ ∷ []) code reason = refl
 join-last (x ∷ y ∷ xs) code reason = ap (λ zs. x ∷ zs) (join-last (y ∷ xs) code reason)
 
-join-close : (x : Ending) (xs : List Action) → join_one xs (close_of x) ≡ xs ++ close_of x ∷ []
+join-close : (x : Ending) (xs : List Action) → join_one xs (closing_action x) ≡ xs ++ closing_action x ∷ []
 join-close (ByFault code) xs = join-last xs (code_of code) []
 join-close (BySession code reason b) xs = join-last xs (code_of h3.NoError) []
 
@@ -132,12 +132,12 @@ module _ (side : Side) (log : Log) (turn : Turn) (l : is_lawful side log turn �
   since-start : ending_of side log ≡ None → Since side log (log_after side log turn)
   since-start n = keeps-turn (keeps-since side turn log) log l (record { more = []; grown = refl; ended = λ x e. absurd (cc) })
 
-  answer-ends : (x : Ending) → ending_of side log ≡ None → ending_of side (log_after side log turn) ≡ Some x → EndsWith (close_of x) (answer_to side log turn).actions
+  answer-ends : (x : Ending) → ending_of side log ≡ None → ending_of side (log_after side log turn) ≡ Some x → EndsWith (closing_action x) (answer_to side log turn).actions
   answer-ends x n e =
       let s = since-start n in
       let w = s.ended x e in (
-        joined w.0,
-        ap (λ as_. joined (take (length as_ - length (actions_of log)) as_)) s.grown ∙ ap joined (take-front s.more (actions_of log) ∙ w.1) ∙ join-close x (joined w.0),
+        joined_actions w.0,
+        ap (λ as_. joined_actions (take (length as_ - length (actions_of log)) as_)) s.grown ∙ ap joined_actions (take-front s.more (actions_of log) ∙ w.1) ∙ join-close x (joined_actions w.0),
       )
 
 pub ending-goes-out : (side : Side) (log : Log) (turn : Turn) → is_lawful side log turn ≡ true → EndingGoesOut side log turn

@@ -11,7 +11,7 @@ use Rattle.wt_laws.proofs.Moments.{OfEach}
 use Rattle.wt_laws.proofs.OrderLaws.{has-self}
 use Rattle.wt_laws.specs.Faults.{TakenLast}
 use Rattle.wt_spec.specs.Scan.{Scan, SlotRule, classify, dequeue, fault_ending, has, in_order, scan, unless_ended, visit, with_classified, with_dequeued}
-use Rattle.wt_spec.specs.StreamTable.{CallView, Classified, Ending, Progress, StreamTable, dispatched, verdict_of}
+use Rattle.wt_spec.specs.StreamTable.{CallView, Classified, Ending, DriverProgress, StreamTable, dispatched_streams, verdict_of}
 
 -- ---- the scan
 
@@ -24,8 +24,8 @@ pub record EndsAt (P : ℕ → Type 0) (calls : CallView) (rule : SlotRule) (bef
   pub goes_on : table.classified ≡ before ++ more
   pub dequeued : has stream table.dequeued ≡ true
   pub fresh : verdict_of stream table.classified ≡ None
-  pub fault : fault_ending (rule.consequence (dispatched calls table.classified) stream (rule.verdict stream)).fault ≡ Some x
-  pub is : after ≡ with_classified stream (rule.verdict stream) (rule.consequence (dispatched calls table.classified) stream (rule.verdict stream)) table
+  pub fault : fault_ending (rule.consequence (dispatched_streams calls table.classified) stream (rule.verdict stream)).fault ≡ Some x
+  pub is : after ≡ with_classified stream (rule.verdict stream) (rule.consequence (dispatched_streams calls table.classified) stream (rule.verdict stream)) table
 
 -- some are classified behind those before
 abbrev pub GrowsFrom : List Classified → List Classified → Type 0
@@ -59,7 +59,7 @@ module _ (ready : Bool) (calls : CallView) (rule : SlotRule) where
   -- ---- what was classified stands in front
 
   classify-grows : (b : Bool) (k : ℕ) (s : Scan) → GrowsFrom s.table.classified (classify b calls rule k s).table.classified
-  classify-grows true k s = (record { id = k; verdict = rule.verdict k; surplus = (rule.consequence (dispatched calls s.table.classified) k (rule.verdict k)).surplus } ∷ [], refl)
+  classify-grows true k s = (record { id = k; verdict = rule.verdict k; surplus = (rule.consequence (dispatched_streams calls s.table.classified) k (rule.verdict k)).surplus } ∷ [], refl)
   classify-grows false k s = ([], sym (append-nil s.table.classified))
 
   dequeue-grows : (b : Bool) (k : ℕ) (s : Scan) → GrowsFrom s.table.classified (dequeue b calls rule k s).table.classified
@@ -139,7 +139,7 @@ verdict-last k (c ∷ cs) x i n = at (c.id == k) n (verdict-last k cs x i)
 pub taken-last : {P : ℕ → Type 0} {calls : CallView} {rule : SlotRule} (before after : StreamTable) (x : Ending) (r : EndsAt P calls rule before.classified after x) → TakenLast before after r.stream (rule.verdict r.stream)
 taken-last {P} {calls} {rule} before after x r =
     let v = rule.verdict r.stream in
-    let e = rule.consequence (dispatched calls r.table.classified) r.stream v in
+    let e = rule.consequence (dispatched_streams calls r.table.classified) r.stream v in
     record {
       dequeued = ap (λ (t : StreamTable). has r.stream t.dequeued) r.is ∙ r.dequeued;
       fresh = none-front r.stream before.classified r.more (ap (verdict_of r.stream) (sym r.goes_on) ∙ r.fresh);
@@ -153,12 +153,12 @@ taken-last {P} {calls} {rule} before after x r =
 -- ---- the checks
 
 -- behind an ending none is made
-pub checks-stay : (fs : List (Progress → Progress)) (p : Progress) (x : Ending) → p.ending ≡ Some x → in_order fs p ≡ p
+pub checks-stay : (fs : List (DriverProgress → DriverProgress)) (p : DriverProgress) (x : Ending) → p.ending ≡ Some x → in_order fs p ≡ p
 checks-stay [] p x e = refl
 checks-stay (f ∷ fs) p x e = ap (λ (o : Option Ending). in_order fs (unless_ended o f p)) e ∙ checks-stay fs p x e
 
 -- the first check ends the connection, or it finds nothing and a later one does
-pub first-check : {R : Type 0} (f : Progress → Progress) (fs : List (Progress → Progress)) (p : Progress) (x : Ending) → p.ending ≡ None → (in_order (f ∷ fs) p).ending ≡ Some x
+pub first-check : {R : Type 0} (f : DriverProgress → DriverProgress) (fs : List (DriverProgress → DriverProgress)) (p : DriverProgress) (x : Ending) → p.ending ≡ None → (in_order (f ∷ fs) p).ending ≡ Some x
     → ((f p).ending ≡ Some x → in_order (f ∷ fs) p ≡ f p → R) → ((f p).ending ≡ None → (in_order fs (f p)).ending ≡ Some x → R) → R
 first-check {R} f fs p x n e here later = at (f p).ending refl
   where
@@ -166,5 +166,5 @@ first-check {R} f fs p x n e here later = at (f p).ending refl
     goes = ap (λ (o : Option Ending). in_order fs (unless_ended o f p)) n
 
     at : (o : Option Ending) → (f p).ending ≡ o → R
-    at None q = later q (ap (λ (z : Progress). z.ending) (sym goes) ∙ e)
-    at (Some y) q = let s = goes ∙ checks-stay fs (f p) y q in here (ap (λ (z : Progress). z.ending) (sym s) ∙ e) s
+    at None q = later q (ap (λ (z : DriverProgress). z.ending) (sym goes) ∙ e)
+    at (Some y) q = let s = goes ∙ checks-stay fs (f p) y q in here (ap (λ (z : DriverProgress). z.ending) (sym s) ∙ e) s

@@ -8,7 +8,7 @@ use Rattle.url.specs.declared.error.ParseError.{ParseError}
 use Rattle.wt_message.specs.Datagram.{datagram_bytes}
 use Rattle.wt_message.specs.FixedBytes.{response_bytes}
 use Rattle.wt_proto.specs.declared.response_walk.ResponseWalk.{ResponseWalk}
-use Rattle.wt_seam_spec.specs.Outgoing.{covered, credit_left, may_open, next_id, opening}
+use Rattle.wt_seam_spec.specs.Outgoing.{bytes_within_credit, credit_left, may_open, next_id, actions_to_open}
 use Rattle.wt_seam_spec.specs.Joined.{send_of}
 use Rattle.wt_seam_spec.specs.Reports.{datagram_fact, end_of, is_acknowledged, is_connected, stop_of}
 use Rattle.wt_seam_spec.specs.Sent.{is_finished}
@@ -32,10 +32,10 @@ use Rattle.wt_laws.specs.ReplyCauses.{asks_for_session, half_of}
 use Rattle.wt_spec.specs.Answers.{call_effect, in_session}
 use Rattle.wt_spec.specs.Connect.{address_of, connect, connect_to, outcome_error, port_of, unless_stopped, with_address}
 use Rattle.wt_spec.specs.Connection.{close_connection, closed_reply, continue_opening, datagram_allowed, is_opening, open_stream, poll_opening, send_datagram, stream_header}
-use Rattle.wt_spec.specs.Driver.{established, settings_came}
+use Rattle.wt_spec.specs.Driver.{established_session, settings_came}
 use Rattle.wt_spec.specs.Effect.{Effect, head_left, is_covered, is_empty, poll_only, transport_error}
-use Rattle.wt_spec.specs.Halves.{all_written_reply, at_stream_end, exact_at_end, finish, has_receiving_half, has_sending_half, is_done, on_half, priority, read, read_exact, read_reply, reset, set_priority, stop_receiving, stopped, stopped_reply, unread_body, write, write_all, write_by, write_error, written_reply}
-use Rattle.wt_spec.specs.Handshake.{Connecting, HandshakeState, Responding, accept_response, continue_by, continue_connect, deliver, finish_rejection, handshake_state, has_success, incoming, is_refused, open_request, queued_requests, read_response, reject_response, requested, respond, response_head, send_request, unless_reserved}
+use Rattle.wt_spec.specs.Halves.{all_written_reply, reply_at_end, exact_at_end, finish, has_receiving_half, has_sending_half, is_done, on_half, priority, read, read_exact, read_reply, reset, set_priority, stop_receiving, stopped, stopped_reply, unread_body, write, write_all, write_by, write_error, written_reply}
+use Rattle.wt_spec.specs.Handshake.{Connecting, HandshakeState, Responding, accept_response, continue_by, continue_connect, deliver, finish_rejection, handshake_state, has_success, incoming, is_refused, open_request, queued_requests, read_response, reject_response, requested_stream, respond, response_head, send_request, unless_reserved}
 use Rattle.wt_spec.specs.StreamTable.{Classified}
 use Rattle.wt_turn.specs.declared.call.Call.TheVariants as calls
 use Rattle.wt_error.specs.declared.connecting_error.ConnectingError.TheVariants as connects
@@ -81,7 +81,7 @@ module _ (side : Side) (log : Log) where
 
   -- ---- the calls on a session
 
-  module _ (s at : ℕ) (d : established (calls_of log) ≡ Some (s, at)) where
+  module _ (s at : ℕ) (d : established_session (calls_of log) ≡ Some (s, at)) where
     opens-ended : (kind : ℕ) → is_open log ≡ false → Gives (replies.Failed (transport_error log)) (open_stream side log kind s)
     opens-ended kind o = yes (not (is_open log)) _ _ (ap not o) refl
 
@@ -124,7 +124,7 @@ module _ (side : Side) (log : Log) where
     writes-by : (reply : List ℕ → ℕ → Reply) (bytes : List ℕ) (o : Option StreamWriteError) (r : Reply) → write_error log k ≡ o → Gives r (write_by reply side log k bytes o) → Gives r (write_by reply side log k bytes (write_error log k))
     writes-by reply bytes o r e p = subst (λ z. Gives r (write_by reply side log k bytes z)) (sym e) p
 
-    written-some : (bytes : List ℕ) (b : ℕ) (more : List ℕ) → covered log k bytes ≡ b ∷ more → written_reply bytes (length (covered log k bytes)) ≡ replies.Written (length (b ∷ more))
+    written-some : (bytes : List ℕ) (b : ℕ) (more : List ℕ) → bytes_within_credit log k bytes ≡ b ∷ more → written_reply bytes (length (bytes_within_credit log k bytes)) ≡ replies.Written (length (b ∷ more))
     written-some [] b more c = absurd (let n = none-of (credit_left log k) in cc)
       where
         none-of : (n : ℕ) → take {A = ℕ} n [] ≡ []
@@ -142,8 +142,8 @@ module _ (side : Side) (log : Log) where
       write_none = λ w. on-it _ (λ j. write side log j []) k h (writes-by written_reply [] None _ w refl);
       written = λ bytes b more w c. on-it _ (λ j. write side log j bytes) k h (writes-by written_reply bytes None _ w (written-some bytes b more c));
       write_all_failed = λ bytes e w. on-it _ (λ j. write_all side log j bytes) k h (writes-by all_written_reply bytes (Some e) _ w refl);
-      all_written = λ bytes w e. on-it _ (λ j. write_all side log j bytes) k h (writes-by all_written_reply bytes None _ w (yes-reply (length (covered log k bytes) == length bytes) _ _ e));
-      some_written = λ bytes w e. on-it _ (λ j. write_all side log j bytes) k h (writes-by all_written_reply bytes None _ w (no-reply (length (covered log k bytes) == length bytes) _ _ e));
+      all_written = λ bytes w e. on-it _ (λ j. write_all side log j bytes) k h (writes-by all_written_reply bytes None _ w (yes-reply (length (bytes_within_credit log k bytes) == length bytes) _ _ e));
+      some_written = λ bytes w e. on-it _ (λ j. write_all side log j bytes) k h (writes-by all_written_reply bytes None _ w (no-reply (length (bytes_within_credit log k bytes) == length bytes) _ _ e));
       finish_stopped = λ code s. on-it _ (λ j. finish side log j) k h (ends-by (λ e. replies.WriteFailed e) replies.Finished (Some code) s);
       finished = λ s n. on-it _ (λ j. finish side log j) k h (ends-by (λ e. replies.WriteFailed e) replies.Finished None s ∙ yes-reply (is_done log k) _ _ n);
       finish_ended = λ s n o. on-it _ (λ j. finish side log j) k h (ends-by (λ e. replies.WriteFailed e) replies.Finished None s ∙ no-reply (is_done log k) _ _ n ∙ no-reply (is_open log) _ _ o);
@@ -163,8 +163,8 @@ module _ (side : Side) (log : Log) where
     reads-by : (size : ℕ) (bytes : List ℕ) (r : Reply) → (size == 0) ≡ false → unread_body side log k ≡ bytes → Gives r (read_reply side log k size bytes) → Gives r (read side log k size)
     reads-by size bytes r z u p = no (size == 0) _ _ z (subst (λ ys. Gives r (read_reply side log k size ys)) (sym u) p)
 
-    at-end : (e : StreamEnd) → end_of (events_of log) k ≡ e → at_stream_end log (end_of (events_of log) k) ≡ at_stream_end log e
-    at-end e q = ap (at_stream_end log) q
+    at-end : (e : StreamEnd) → end_of (events_of log) k ≡ e → reply_at_end log (end_of (events_of log) k) ≡ reply_at_end log e
+    at-end e q = ap (reply_at_end log) q
 
     exacts-by : (size : ℕ) (e : StreamEnd) (r : Reply) → nat_lt (length (unread_body side log k)) size ≡ true → end_of (events_of log) k ≡ e → Gives r (exact_at_end side log k (unread_body side log k) e) → Gives r (read_exact side log k size)
     exacts-by size e r l q p = yes (nat_lt (length (unread_body side log k)) size) _ _ l (subst (λ x. Gives r (exact_at_end side log k (unread_body side log k) x)) (sym q) p)
@@ -231,26 +231,26 @@ module _ (side : Side) (log : Log) where
   by-response _ accepts head e = absurd (cc)
 
   module _ (call : Call) where
-    accepting : (head : List ℕ) (r : Reply) → response_by (handshake_state (calls_of log)) call ≡ Some (true, head) → ((waiting : CallRecord) → Gives r (accept_response side log (requested (calls_of log)) (response_rest log head) waiting)) → reply_to side log call ≡ r
+    accepting : (head : List ℕ) (r : Reply) → response_by (handshake_state (calls_of log)) call ≡ Some (true, head) → ((waiting : CallRecord) → Gives r (accept_response side log (requested_stream (calls_of log)) (response_rest log head) waiting)) → reply_to side log call ≡ r
     accepting head r e f = let w = by-response call true head e in reply-of _ _ r w.1 (f w.0)
 
-    rejecting : (head : List ℕ) (r : Reply) → response_by (handshake_state (calls_of log)) call ≡ Some (false, head) → ((waiting : CallRecord) → Gives r (reject_response side log (requested (calls_of log)) (response_rest log head) waiting)) → reply_to side log call ≡ r
+    rejecting : (head : List ℕ) (r : Reply) → response_by (handshake_state (calls_of log)) call ≡ Some (false, head) → ((waiting : CallRecord) → Gives r (reject_response side log (requested_stream (calls_of log)) (response_rest log head) waiting)) → reply_to side log call ≡ r
     rejecting head r e f = let w = by-response call false head e in reply-of _ _ r w.1 (f w.0)
 
     pub responses-answer : ResponsesAnswer side log call
     responses-answer = record {
       accept_ended = λ head e o. accepting head _ e (λ w. yes (not (is_open log)) _ _ (ap not o) refl);
-      accept_refused = λ head e o r. accepting head _ e (λ w. no (not (is_open log)) _ _ (ap not o) (yes (is_refused log (requested (calls_of log)) (response_rest log head)) _ _ r refl));
-      accept_out = λ head e o r c. accepting head _ e (λ w. no (not (is_open log)) _ _ (ap not o) (no (is_refused log (requested (calls_of log)) (response_rest log head)) _ _ r (yes (is_covered log (requested (calls_of log)) (response_rest log head)) _ _ c refl)));
+      accept_refused = λ head e o r. accepting head _ e (λ w. no (not (is_open log)) _ _ (ap not o) (yes (is_refused log (requested_stream (calls_of log)) (response_rest log head)) _ _ r refl));
+      accept_out = λ head e o r c. accepting head _ e (λ w. no (not (is_open log)) _ _ (ap not o) (no (is_refused log (requested_stream (calls_of log)) (response_rest log head)) _ _ r (yes (is_covered log (requested_stream (calls_of log)) (response_rest log head)) _ _ c refl)));
       reject_ended = λ head e o. rejecting head _ e (λ w. yes (not (is_open log)) _ _ (ap not o) refl);
-      reject_refused = λ head e o r. rejecting head _ e (λ w. no (not (is_open log)) _ _ (ap not o) (yes (is_refused log (requested (calls_of log)) (response_rest log head)) _ _ r refl));
-      rejected = λ head e o r c f. rejecting head _ e (λ w. no (not (is_open log)) _ _ (ap not o) (no (is_refused log (requested (calls_of log)) (response_rest log head)) _ _ r (yes (is_covered log (requested (calls_of log)) (response_rest log head)) _ _ c (over w f (response_rest log head)))));
+      reject_refused = λ head e o r. rejecting head _ e (λ w. no (not (is_open log)) _ _ (ap not o) (yes (is_refused log (requested_stream (calls_of log)) (response_rest log head)) _ _ r refl));
+      rejected = λ head e o r c f. rejecting head _ e (λ w. no (not (is_open log)) _ _ (ap not o) (no (is_refused log (requested_stream (calls_of log)) (response_rest log head)) _ _ r (yes (is_covered log (requested_stream (calls_of log)) (response_rest log head)) _ _ c (over w f (response_rest log head)))));
     }
       where
-        over : (waiting : CallRecord) → is_response_over log (requested (calls_of log)) ≡ true → (left : List ℕ) → Gives replies.Rejected (finish_rejection side log (requested (calls_of log)) left waiting)
+        over : (waiting : CallRecord) → is_response_over log (requested_stream (calls_of log)) ≡ true → (left : List ℕ) → Gives replies.Rejected (finish_rejection side log (requested_stream (calls_of log)) left waiting)
         over w f left =
-            let a = and_parts (is_finished (actions_of log) (requested (calls_of log))) _ f in
-            no (not (is_finished (actions_of log) (requested (calls_of log)))) _ _ (ap not a.0) (yes (is_some (stop_of (events_of log) (requested (calls_of log))) || is_acknowledged (events_of log) (requested (calls_of log))) _ _ a.1 refl)
+            let a = and_parts (is_finished (actions_of log) (requested_stream (calls_of log))) _ f in
+            no (not (is_finished (actions_of log) (requested_stream (calls_of log)))) _ _ (ap not a.0) (yes (is_some (stop_of (events_of log) (requested_stream (calls_of log))) || is_acknowledged (events_of log) (requested_stream (calls_of log))) _ _ a.1 refl)
 
   -- ---- a connect goes on
 
@@ -296,7 +296,7 @@ module _ (side : Side) (log : Log) where
             (yes (is_covered log (local_bi side) (head_left log (local_bi side) head)) _ _ c (f (own ++ send_of (local_bi side) (head_left log (local_bi side) head))))))
 
         at : (b : Bool) → (local_count (actions_of log) (local_bi side) == 0) ≡ b → Gives r (open_request side log head)
-        at true z = no (not (local_count (actions_of log) (local_bi side) == 0)) _ _ (ap not z) (no (not (is_open log)) _ _ (ap not o) (yes (may_open side log (local_bi side)) _ _ (may (eqb-true (local_count (actions_of log) (local_bi side)) 0 z)) (sent (opening side log (local_bi side)))))
+        at true z = no (not (local_count (actions_of log) (local_bi side) == 0)) _ _ (ap not z) (no (not (is_open log)) _ _ (ap not o) (yes (may_open side log (local_bi side)) _ _ (may (eqb-true (local_count (actions_of log) (local_bi side)) 0 z)) (sent (actions_to_open side log (local_bi side)))))
         at false z = yes (not (local_count (actions_of log) (local_bi side) == 0)) _ _ (ap not z) (sent [])
 
     walked : (w : ResponseWalk) (r : Reply) (own : List Action) → walk_at side log ≡ w → Gives r (read_response side log (local_bi side) own w) → Gives r (read_response side log (local_bi side) own (walk_at side log))
@@ -326,19 +326,19 @@ module _ (side : Side) (log : Log) where
   lacks true call k e = absurd (cc)
   lacks false call k e = refl
 
-  no-session : (call : Call) → asks_for_session (turns.Call call) ≡ true → established (calls_of log) ≡ None → reply_to side log call ≡ replies.NoSession
+  no-session : (call : Call) → asks_for_session (turns.Call call) ≡ true → established_session (calls_of log) ≡ None → reply_to side log call ≡ replies.NoSession
   unfolding call_effect
-  no-session calls.AcceptUni a d = without _ (established (calls_of log)) d
-  no-session calls.AcceptBi a d = without _ (established (calls_of log)) d
-  no-session calls.ReceiveDatagram a d = without _ (established (calls_of log)) d
-  no-session calls.OpenUni a d = without _ (established (calls_of log)) d
-  no-session calls.OpenBi a d = without _ (established (calls_of log)) d
-  no-session (calls.PollOpening id) a d = without _ (established (calls_of log)) d
-  no-session (calls.SendDatagram payload) a d = without _ (established (calls_of log)) d
-  no-session calls.MaxDatagramSize a d = without _ (established (calls_of log)) d
-  no-session calls.SessionId a d = without _ (established (calls_of log)) d
-  no-session (calls.Close code reason) a d = without _ (established (calls_of log)) d
-  no-session calls.Closed a d = without _ (established (calls_of log)) d
+  no-session calls.AcceptUni a d = without _ (established_session (calls_of log)) d
+  no-session calls.AcceptBi a d = without _ (established_session (calls_of log)) d
+  no-session calls.ReceiveDatagram a d = without _ (established_session (calls_of log)) d
+  no-session calls.OpenUni a d = without _ (established_session (calls_of log)) d
+  no-session calls.OpenBi a d = without _ (established_session (calls_of log)) d
+  no-session (calls.PollOpening id) a d = without _ (established_session (calls_of log)) d
+  no-session (calls.SendDatagram payload) a d = without _ (established_session (calls_of log)) d
+  no-session calls.MaxDatagramSize a d = without _ (established_session (calls_of log)) d
+  no-session calls.SessionId a d = without _ (established_session (calls_of log)) d
+  no-session (calls.Close code reason) a d = without _ (established_session (calls_of log)) d
+  no-session calls.Closed a d = without _ (established_session (calls_of log)) d
   no-session _ a d = absurd (cc)
 
   no-half : (call : Call) → asks_for_session (turns.Call call) ≡ false → half_of side log (turns.Call call) ≡ Some false → reply_to side log call ≡ replies.NoStream

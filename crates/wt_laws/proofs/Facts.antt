@@ -24,7 +24,7 @@ use Rattle.wt_laws.proofs.Moments.{AsBi, AsUni, ClassifiedAs}
 use Rattle.wt_laws.proofs.Reached.{reached}
 use Rattle.wt_laws.proofs.Steps.{Brings, Keeps, KeepsEntries, by-entries}
 use Rattle.wt_laws.specs.Causes.{ByAccept, ByOpening, FoundStream, accepted_kind, opened_kind}
-use Rattle.wt_spec.specs.Turns.{event_of}
+use Rattle.wt_turn.specs.Turns.{event_of}
 use Rattle.wt_laws.specs.Reachable.{IsReachable, is_among}
 use Rattle.wt_laws.specs.RecordCauses.{RecordCause}
 use Rattle.wt_spec.specs.Connection.{accepts_stream, is_for_session, starts_opening}

@@ -23,9 +23,9 @@ use Rattle.wt_laws.proofs.NoFault.{Faultless, faultless, faultless-kept}
 use Rattle.wt_laws.proofs.OnceLaws.{bi-not-once, no-offset, once-each, once-kept}
 use Rattle.wt_laws.specs.Faults.{AtMostOne, ComesOnce, ControlOnce, DecoderOnce, EncoderOnce, NoneFaulty, TakesDatagram, is_fault}
 use Rattle.wt_laws.specs.FirstFault.{ControlPasses, DatagramPasses, FirstIsTold, PassesUpToControl, SessionPasses, StreamsPass, TellsFirst}
-use Rattle.wt_spec.specs.Driver.{call_view, established, is_moment, settled_datagrams, stream_table, transport_view}
+use Rattle.wt_spec.specs.Driver.{call_view, established_session, is_moment, settled_datagrams, stream_table, transport_view}
 use Rattle.wt_spec.specs.Scan.{SlotRule, bi_ids, bi_rule, check_control, check_datagram, check_qpack, check_session, checks, critical_if, dequeued_datagram, fault_ending, in_order, parsed_datagram, scan_bis, scan_order, scan_unis, session_ends, uni_ids, uni_rule, unless_ended, with_fault, without_stops}
-use Rattle.wt_spec.specs.StreamTable.{ByFault, CallView, Classified, Dispatched, Ending, Progress, StreamTable, TransportView, bi_consequence, control_start, decoder_start, dispatched, encoder_start, first_at, only_once, or_later, paired, queued_behind, uni_consequence}
+use Rattle.wt_spec.specs.StreamTable.{ByFault, CallView, Classified, Dispatched, Ending, DriverProgress, StreamTable, TransportView, bi_consequence, control_start, decoder_start, dispatched_streams, encoder_start, first_at, only_once, or_later, offset_with_id, queued_behind, uni_consequence}
 use Rattle.wt_wire.specs.declared.side.StreamEnd.TheVariants as ends
 use Rattle.wt_wire.specs.declared.error.ErrorCode.TheVariants as h3
 use Rattle.wt_proto.specs.declared.verdict.Verdict.TheVariants as verdicts
@@ -40,10 +40,10 @@ last-faultless (c ∷ cs) x n = last-faultless cs x n.1
 first-more : (offset : Verdict → Option ℕ) (cs : List Classified) (x : Classified) → is_some (offset x.verdict) ≡ true → first_at offset (cs ++ x ∷ []) ≡ None → ⊥
 first-more offset [] x s n = at (offset x.verdict) s n
   where
-    at : (o : Option ℕ) → is_some o ≡ true → or_later (paired x.id o) None ≡ None → ⊥
+    at : (o : Option ℕ) → is_some o ≡ true → or_later (offset_with_id x.id o) None ≡ None → ⊥
     at None s n = absurd (cc)
     at (Some m) s n = absurd (cc)
-first-more offset (c ∷ cs) x s n = at (paired c.id (offset c.verdict)) n (first-more offset cs x s)
+first-more offset (c ∷ cs) x s n = at (offset_with_id c.id (offset c.verdict)) n (first-more offset cs x s)
   where
     at : (o : Option (ℕ × ℕ)) → or_later o (first_at offset (cs ++ x ∷ [])) ≡ None → (first_at offset (cs ++ x ∷ []) ≡ None → ⊥) → ⊥
     at None n f = f n
@@ -53,7 +53,7 @@ not-second : (offset : Verdict → Option ℕ) (cs : List Classified) (x : Class
 not-second offset [] x first s e a = absurd (cc)
 not-second offset (c ∷ cs) x first s e a = at (offset c.verdict) e a.0 (λ f. not-second offset cs x first s f a.1)
   where
-    at : (o : Option ℕ) → or_later (paired c.id o) (first_at offset cs) ≡ Some first → (is_some o ≡ true → first_at offset (cs ++ x ∷ []) ≡ None) → (first_at offset cs ≡ Some first → ⊥) → ⊥
+    at : (o : Option ℕ) → or_later (offset_with_id c.id o) (first_at offset cs) ≡ Some first → (is_some o ≡ true → first_at offset (cs ++ x ∷ []) ≡ None) → (first_at offset cs ≡ Some first → ⊥) → ⊥
     at None e a f = f e
     at (Some m) e a f = first-more offset cs x s (a refl)
 
@@ -62,16 +62,16 @@ module _ (calls : CallView) (cs : List Classified) (x : Classified) (p : Streams
   once-passes offset c s None e = refl
   once-passes offset c s (Some first) e = absurd (not-second offset cs x first s e (p.once offset c))
 
-  uni-passes : (v : Verdict) → x.verdict ≡ v → (uni_consequence (dispatched calls cs) x.id v).fault ≡ None
+  uni-passes : (v : Verdict) → x.verdict ≡ v → (uni_consequence (dispatched_streams calls cs) x.id v).fault ≡ None
   uni-passes (verdicts.Fault code) e = absurd (let y = last-faultless cs x p.faultless in let z = ap is_fault e in cc)
   uni-passes (verdicts.Control m) e = once-passes control_start ControlOnce (ap (λ v. is_some (control_start v)) e) (first_at control_start cs) refl
   uni-passes (verdicts.Encoder m) e = once-passes encoder_start EncoderOnce (ap (λ v. is_some (encoder_start v)) e) (first_at encoder_start cs) refl
   uni-passes (verdicts.Decoder m) e = once-passes decoder_start DecoderOnce (ap (λ v. is_some (decoder_start v)) e) (first_at decoder_start cs) refl
   uni-passes _ e = refl
 
-  bi-passes : (v : Verdict) → x.verdict ≡ v → (bi_consequence (dispatched calls cs) x.id v).fault ≡ None
+  bi-passes : (v : Verdict) → x.verdict ≡ v → (bi_consequence (dispatched_streams calls cs) x.id v).fault ≡ None
   bi-passes (verdicts.Fault code) e = absurd (let y = last-faultless cs x p.faultless in let z = ap is_fault e in cc)
-  bi-passes (verdicts.Request headers m) e = at (dispatched calls cs).requests
+  bi-passes (verdicts.Request headers m) e = at (dispatched_streams calls cs).requests
     where
       at : (queued : List Classified) → (queued_behind queued x.id).fault ≡ None
       at [] = refl
@@ -94,7 +94,7 @@ module _ (side : Side) (log : Log) (before : StreamTable) (n : before.progress.e
       at-bis (Some y) e u =
           let r = bis-end side log before n u y e in
           let v = bi_verdict_of (contents log r.stream) (end_of (events_of log) r.stream) in
-          let x : Classified = record { id = r.stream; verdict = v; surplus = (bi_consequence (dispatched (call_view log) r.table.classified) r.stream v).surplus } in
+          let x : Classified = record { id = r.stream; verdict = v; surplus = (bi_consequence (dispatched_streams (call_view log) r.table.classified) r.stream v).surplus } in
           let q : StreamsPass (r.table.classified ++ x ∷ []) = subst StreamsPass (ap (λ (t : StreamTable). t.classified) r.is) p in
           absurd (let f = ap fault_ending (bi-passes (call_view log) r.table.classified x q v refl) in let g = r.fault in cc)
 
@@ -103,7 +103,7 @@ module _ (side : Side) (log : Log) (before : StreamTable) (n : before.progress.e
       at-unis (Some y) e =
           let r = unis-end side log before n y e in
           let v = uni_verdict_of (contents log r.stream) (end_of (events_of log) r.stream) in
-          let x : Classified = record { id = r.stream; verdict = v; surplus = (uni_consequence (dispatched (call_view log) r.table.classified) r.stream v).surplus } in
+          let x : Classified = record { id = r.stream; verdict = v; surplus = (uni_consequence (dispatched_streams (call_view log) r.table.classified) r.stream v).surplus } in
           let q : StreamsPass (r.table.classified ++ x ∷ []) = subst StreamsPass (ap (λ (t : StreamTable). t.classified) (bis-stay side log before n y e ∙ r.is)) p in
           absurd (let f = ap fault_ending (uni-passes (call_view log) r.table.classified x q v refl) in let g = r.fault in cc)
 
@@ -138,58 +138,58 @@ scan-settings t calls u =
     kept-scan (λ (w : StreamTable). w.progress.settings ≡ b) (scan-keeps b) calls (bi_rule t) t.ready (bi_ids t) (record { occupied = 0; table = scan_unis t calls u }) (any-scan calls (bi_rule t) (bi_ids t))
     (kept-scan (λ (w : StreamTable). w.progress.settings ≡ b) (scan-keeps b) calls (uni_rule t) t.ready (uni_ids t) (record { occupied = 0; table = u }) (any-scan calls (uni_rule t) (uni_ids t)) refl)
 
-parsed-settings : (r : Result (ℕ × List ℕ) ErrorCode) (u : Progress) → (parsed_datagram r u).settings ≡ u.settings
+parsed-settings : (r : Result (ℕ × List ℕ) ErrorCode) (u : DriverProgress) → (parsed_datagram r u).settings ≡ u.settings
 parsed-settings (Ok d) u = refl
 parsed-settings (Err code) u = refl
 
-dequeued-settings : (o : Option (List ℕ)) (u : Progress) → (dequeued_datagram o u).settings ≡ u.settings
+dequeued-settings : (o : Option (List ℕ)) (u : DriverProgress) → (dequeued_datagram o u).settings ≡ u.settings
 dequeued-settings None u = refl
 dequeued-settings (Some piece) u = parsed-settings (datagram_of piece) (record u { datagrams = suc u.datagrams })
 
-datagram-settings : (b : Bool) (t : TransportView) (u : Progress) → (check_datagram b t u).settings ≡ u.settings
+datagram-settings : (b : Bool) (t : TransportView) (u : DriverProgress) → (check_datagram b t u).settings ≡ u.settings
 datagram-settings false t u = refl
 datagram-settings true t u = dequeued-settings (t.datagram u.datagrams) u
 
-ends-settings : (w : SessionWalk) (b : Bool) (u : Progress) → (session_ends w b u).settings ≡ u.settings
+ends-settings : (w : SessionWalk) (b : Bool) (u : DriverProgress) → (session_ends w b u).settings ≡ u.settings
 ends-settings walks.Running b u = refl
 ends-settings (walks.Closed code reason) b u = refl
 ends-settings (walks.Fault code) b u = refl
 
-session-settings : (t : TransportView) (o : Option (ℕ × ℕ)) (u : Progress) → (check_session t o u).settings ≡ u.settings
+session-settings : (t : TransportView) (o : Option (ℕ × ℕ)) (u : DriverProgress) → (check_session t o u).settings ≡ u.settings
 session-settings t None u = refl
 session-settings t (Some s) u = ends-settings (session_walk_of (drop s.1 (t.contents s.0)) (t.end s.0)) _ u
 
 -- where SETTINGS come by the checks that are left, nothing was found before them
-not-yet : (fs : List (Progress → Progress)) (q : Progress) → q.settings ≡ false → (in_order fs q).settings ≡ true → q.ending ≡ None
+not-yet : (fs : List (DriverProgress → DriverProgress)) (q : DriverProgress) → q.settings ≡ false → (in_order fs q).settings ≡ true → q.ending ≡ None
 not-yet fs q n c = at q.ending refl
   where
     at : (o : Option Ending) → q.ending ≡ o → o ≡ None
     at None e = refl
-    at (Some x) e = absurd (let y = ap (λ (z : Progress). z.settings) (checks-stay fs q x e) in cc)
+    at (Some x) e = absurd (let y = ap (λ (z : DriverProgress). z.settings) (checks-stay fs q x e) in cc)
 
 -- ---- the checks, as far as they pass
 
-fault-goes : (o : Option ErrorCode) (u : Progress) → o ≡ None → u.ending ≡ None → (with_fault o u).ending ≡ None
+fault-goes : (o : Option ErrorCode) (u : DriverProgress) → o ≡ None → u.ending ≡ None → (with_fault o u).ending ≡ None
 fault-goes None u e n = n
 fault-goes (Some code) u e n = absurd (cc)
 
-fault-told : (o : Option ErrorCode) (u : Progress) (code : ErrorCode) → o ≡ Some code → (with_fault o u).ending ≡ Some (ByFault code)
+fault-told : (o : Option ErrorCode) (u : DriverProgress) (code : ErrorCode) → o ≡ Some code → (with_fault o u).ending ≡ Some (ByFault code)
 fault-told None u code e = absurd (cc)
 fault-told (Some c) u code e = let y : c ≡ code = cc in ap (λ z. Some (ByFault z)) y
 
-critical-told : (b : Bool) (u : Progress) → b ≡ true → (critical_if b u).ending ≡ Some (ByFault h3.ClosedCriticalStream)
+critical-told : (b : Bool) (u : DriverProgress) → b ≡ true → (critical_if b u).ending ≡ Some (ByFault h3.ClosedCriticalStream)
 critical-told true u e = refl
 critical-told false u e = absurd (cc)
 
-critical-goes : (b : Bool) (u : Progress) → b ≡ false → u.ending ≡ None → (critical_if b u).ending ≡ None
+critical-goes : (b : Bool) (u : DriverProgress) → b ≡ false → u.ending ≡ None → (critical_if b u).ending ≡ None
 critical-goes true u e n = absurd (cc)
 critical-goes false u e n = n
 
-parsed-told : (r : Result (ℕ × List ℕ) ErrorCode) (u : Progress) (code : ErrorCode) → r ≡ Err code → (parsed_datagram r u).ending ≡ Some (ByFault code)
+parsed-told : (r : Result (ℕ × List ℕ) ErrorCode) (u : DriverProgress) (code : ErrorCode) → r ≡ Err code → (parsed_datagram r u).ending ≡ Some (ByFault code)
 parsed-told (Ok d) u code e = absurd (cc)
 parsed-told (Err c) u code e = let y : c ≡ code = cc in ap (λ z. Some (ByFault z)) y
 
-dequeued-told : (o : Option (List ℕ)) (u : Progress) (piece : List ℕ) (code : ErrorCode) → o ≡ Some piece → datagram_of piece ≡ Err code → (dequeued_datagram o u).ending ≡ Some (ByFault code)
+dequeued-told : (o : Option (List ℕ)) (u : DriverProgress) (piece : List ℕ) (code : ErrorCode) → o ≡ Some piece → datagram_of piece ≡ Err code → (dequeued_datagram o u).ending ≡ Some (ByFault code)
 dequeued-told None u piece code e d = absurd (cc)
 dequeued-told (Some x) u piece code e d = let y : x ≡ piece = cc in parsed-told (datagram_of x) (record u { datagrams = suc u.datagrams }) code (ap datagram_of y ∙ d)
 
@@ -198,52 +198,52 @@ module _ (side : Side) (log : Log) (before after : StreamTable) where
   view = transport_view side log
 
   abbrev sorted : Dispatched
-  sorted = dispatched (call_view log) after.classified
+  sorted = dispatched_streams (call_view log) after.classified
 
-  abbrev from_encoder : List (Progress → Progress)
+  abbrev from_encoder : List (DriverProgress → DriverProgress)
   from_encoder = check_qpack view sorted.encoder ∷ check_qpack view sorted.decoder ∷ []
 
-  abbrev from_control : List (Progress → Progress)
+  abbrev from_control : List (DriverProgress → DriverProgress)
   from_control = check_control view sorted.control ∷ from_encoder
 
-  abbrev from_stop : List (Progress → Progress)
+  abbrev from_stop : List (DriverProgress → DriverProgress)
   from_stop = critical_if view.control_stopped ∷ from_control
 
-  abbrev from_session : List (Progress → Progress)
-  from_session = check_session view (established (calls_of log)) ∷ from_stop
+  abbrev from_session : List (DriverProgress → DriverProgress)
+  from_session = check_session view (established_session (calls_of log)) ∷ from_stop
 
   -- these checks are left to be made, and nothing was found before them
-  record Left (fs : List (Progress → Progress)) (q : Progress) : Type 0 where
+  record Left (fs : List (DriverProgress → DriverProgress)) (q : DriverProgress) : Type 0 where
     pub is : after.progress ≡ in_order fs q
     pub still : q.ending ≡ None
 
-  passes : (f : Progress → Progress) (fs : List (Progress → Progress)) (q : Progress) → Left (f ∷ fs) q → (f q).ending ≡ None → Left fs (f q)
+  passes : (f : DriverProgress → DriverProgress) (fs : List (DriverProgress → DriverProgress)) (q : DriverProgress) → Left (f ∷ fs) q → (f q).ending ≡ None → Left fs (f q)
   passes f fs q a e = record { is = a.is ∙ ap (λ (o : Option Ending). in_order fs (unless_ended o f q)) a.still; still = e }
 
-  tells : (f : Progress → Progress) (fs : List (Progress → Progress)) (q : Progress) (x : Ending) → Left (f ∷ fs) q → (f q).ending ≡ Some x → after.progress.ending ≡ Some x
-  tells f fs q x a e = ap (λ (z : Progress). z.ending) (a.is ∙ ap (λ (o : Option Ending). in_order fs (unless_ended o f q)) a.still ∙ checks-stay fs (f q) x e) ∙ e
+  tells : (f : DriverProgress → DriverProgress) (fs : List (DriverProgress → DriverProgress)) (q : DriverProgress) (x : Ending) → Left (f ∷ fs) q → (f q).ending ≡ Some x → after.progress.ending ≡ Some x
+  tells f fs q x a e = ap (λ (z : DriverProgress). z.ending) (a.is ∙ ap (λ (o : Option Ending). in_order fs (unless_ended o f q)) a.still ∙ checks-stay fs (f q) x e) ∙ e
 
   -- a check that leaves them as they were, where they come, found nothing
-  came-on : (f : Progress → Progress) (fs : List (Progress → Progress)) (q : Progress) → Left (f ∷ fs) q → (f q).settings ≡ false → after.progress.settings ≡ true → Left fs (f q)
+  came-on : (f : DriverProgress → DriverProgress) (fs : List (DriverProgress → DriverProgress)) (q : DriverProgress) → Left (f ∷ fs) q → (f q).settings ≡ false → after.progress.settings ≡ true → Left fs (f q)
   came-on f fs q a n m =
       let e = a.is ∙ ap (λ (o : Option Ending). in_order fs (unless_ended o f q)) a.still in
-      record { is = e; still = not-yet fs (f q) n (sym (ap (λ (z : Progress). z.settings) e) ∙ m) }
+      record { is = e; still = not-yet fs (f q) n (sym (ap (λ (z : DriverProgress). z.settings) e) ∙ m) }
 
-  module _ (p : Progress) (s : p.datagrams ≡ before.progress.datagrams) (l : Left (checks view (call_view log) sorted) p) where
-    abbrev behind_datagram : Progress
+  module _ (p : DriverProgress) (s : p.datagrams ≡ before.progress.datagrams) (l : Left (checks view (call_view log) sorted) p) where
+    abbrev behind_datagram : DriverProgress
     behind_datagram = first_check view (call_view log) p
 
-    abbrev behind_session : Progress
-    behind_session = check_session view (established (calls_of log)) behind_datagram
+    abbrev behind_session : DriverProgress
+    behind_session = check_session view (established_session (calls_of log)) behind_datagram
 
-    abbrev behind_stop : Progress
+    abbrev behind_stop : DriverProgress
     behind_stop = critical_if view.control_stopped behind_session
 
-    abbrev behind_control : Progress
+    abbrev behind_control : DriverProgress
     behind_control = check_control view sorted.control behind_stop
 
     counted : after.progress.datagrams ≡ behind_datagram.datagrams
-    counted = ap (λ (z : Progress). z.datagrams) l.is ∙ as-first view (call_view log) sorted p ∙ ap (λ (o : Option Ending). (unless_ended o (first_check view (call_view log)) p).datagrams) l.still
+    counted = ap (λ (z : DriverProgress). z.datagrams) l.is ∙ as-first view (call_view log) sorted p ∙ ap (λ (o : Option Ending). (unless_ended o (first_check view (call_view log)) p).datagrams) l.still
 
     datagram-goes : DatagramPasses log before after → (b : Bool) → (view.ready && settled_datagrams (calls_of log) == p.datagrams) ≡ b → after.progress.datagrams ≡ (check_datagram b view p).datagrams → (check_datagram b view p).ending ≡ None
     datagram-goes d false e c = l.still
@@ -270,29 +270,29 @@ module _ (side : Side) (log : Log) (before after : StreamTable) where
     left-session : DatagramPasses log before after → Left from_session behind_datagram
     left-session d = passes (first_check view (call_view log)) from_session p l (datagram-goes d (view.ready && settled_datagrams (calls_of log) == p.datagrams) refl counted)
 
-    session-goes : SessionPasses log → (q : Progress) → q.ending ≡ None → (o : Option (ℕ × ℕ)) → established (calls_of log) ≡ o → (check_session view o q).ending ≡ None
+    session-goes : SessionPasses log → (q : DriverProgress) → q.ending ≡ None → (o : Option (ℕ × ℕ)) → established_session (calls_of log) ≡ o → (check_session view o q).ending ≡ None
     session-goes c q n None e = n
     session-goes c q n (Some x) e = ap (λ (w : SessionWalk). (session_ends w (is_over (session_walk_of (drop x.1 (contents log x.0)) ends.Running)) q).ending) (c x e) ∙ n
 
     left-stop : DatagramPasses log before after → SessionPasses log → Left from_stop behind_session
-    left-stop d c = let a = left-session d in passes (check_session view (established (calls_of log))) from_stop behind_datagram a (session-goes c behind_datagram a.still (established (calls_of log)) refl)
+    left-stop d c = let a = left-session d in passes (check_session view (established_session (calls_of log))) from_stop behind_datagram a (session-goes c behind_datagram a.still (established_session (calls_of log)) refl)
 
     left-control : PassesUpToControl side log before after → Left from_control behind_stop
     left-control c = let a = left-stop c.datagram c.session in passes (critical_if view.control_stopped) from_control behind_session a (critical-goes view.control_stopped behind_session c.unstopped a.still)
 
-    control-goes : ControlPasses log after.classified → (q : Progress) → q.ending ≡ None → (o : Option (ℕ × ℕ)) → sorted.control ≡ o → (check_control view o q).ending ≡ None
+    control-goes : ControlPasses log after.classified → (q : DriverProgress) → q.ending ≡ None → (o : Option (ℕ × ℕ)) → sorted.control ≡ o → (check_control view o q).ending ≡ None
     control-goes c q n None e = n
     control-goes c q n (Some x) e = fault-goes (control_walk_of (drop x.1 (contents log x.0)) (end_of (events_of log) x.0)).fault _ (c x e) n
 
     left-encoder : PassesUpToControl side log before after → ControlPasses log after.classified → Left from_encoder behind_control
     left-encoder c d = let a = left-control c in passes (check_control view sorted.control) from_encoder behind_stop a (control-goes d behind_stop a.still sorted.control refl)
 
-    qpack-told : (x : ℕ × ℕ) (q : Progress) (o : Option (ℕ × ℕ)) → o ≡ Some x → is_running (end_of (events_of log) x.0) ≡ false → (check_qpack view o q).ending ≡ Some (ByFault h3.ClosedCriticalStream)
+    qpack-told : (x : ℕ × ℕ) (q : DriverProgress) (o : Option (ℕ × ℕ)) → o ≡ Some x → is_running (end_of (events_of log) x.0) ≡ false → (check_qpack view o q).ending ≡ Some (ByFault h3.ClosedCriticalStream)
     qpack-told x q None e r = absurd (cc)
     qpack-told x q (Some y) e r = let z : y ≡ x = cc in critical-told (not (is_running (end_of (events_of log) y.0))) q (ap (λ (w : ℕ × ℕ). not (is_running (end_of (events_of log) w.0))) z ∙ ap not r)
 
     -- the decoder's end is told, or the encoder's, with the same code
-    decoder-told : (x : ℕ × ℕ) (q : Progress) → Left from_encoder q → sorted.decoder ≡ Some x → is_running (end_of (events_of log) x.0) ≡ false → after.progress.ending ≡ Some (ByFault h3.ClosedCriticalStream)
+    decoder-told : (x : ℕ × ℕ) (q : DriverProgress) → Left from_encoder q → sorted.decoder ≡ Some x → is_running (end_of (events_of log) x.0) ≡ false → after.progress.ending ≡ Some (ByFault h3.ClosedCriticalStream)
     decoder-told x q a e r = at sorted.encoder refl
       where
         later : (check_qpack view sorted.encoder q).ending ≡ None → after.progress.ending ≡ Some (ByFault h3.ClosedCriticalStream)
@@ -308,13 +308,13 @@ module _ (side : Side) (log : Log) (before after : StreamTable) where
         at None f = later (ap (λ (o : Option (ℕ × ℕ)). (check_qpack view o q).ending) f ∙ a.still)
         at (Some y) f = of-end y f (is_running (end_of (events_of log) y.0)) refl
 
-    session-told : (x : ℕ × ℕ) (w : SessionWalk) (e : Ending) → DatagramPasses log before after → established (calls_of log) ≡ Some x → session_walk_of (drop x.1 (contents log x.0)) (end_of (events_of log) x.0) ≡ w
+    session-told : (x : ℕ × ℕ) (w : SessionWalk) (e : Ending) → DatagramPasses log before after → established_session (calls_of log) ≡ Some x → session_walk_of (drop x.1 (contents log x.0)) (end_of (events_of log) x.0) ≡ w
         → (session_ends w (is_over (session_walk_of (drop x.1 (contents log x.0)) ends.Running)) behind_datagram).ending ≡ Some e → after.progress.ending ≡ Some e
     session-told x w e d c f g =
-        tells (check_session view (established (calls_of log))) from_stop behind_datagram e (left-session d)
+        tells (check_session view (established_session (calls_of log))) from_stop behind_datagram e (left-session d)
         (ap (λ (o : Option (ℕ × ℕ)). (check_session view o behind_datagram).ending) c ∙ ap (λ (z : SessionWalk). (session_ends z (is_over (session_walk_of (drop x.1 (contents log x.0)) ends.Running)) behind_datagram).ending) f ∙ g)
 
-    control-told : (x : ℕ × ℕ) (code : ErrorCode) (q : Progress) (o : Option (ℕ × ℕ)) → o ≡ Some x → (control_walk_of (drop x.1 (contents log x.0)) (end_of (events_of log) x.0)).fault ≡ Some code → (check_control view o q).ending ≡ Some (ByFault code)
+    control-told : (x : ℕ × ℕ) (code : ErrorCode) (q : DriverProgress) (o : Option (ℕ × ℕ)) → o ≡ Some x → (control_walk_of (drop x.1 (contents log x.0)) (end_of (events_of log) x.0)).fault ≡ Some code → (check_control view o q).ending ≡ Some (ByFault code)
     control-told x code q None e f = absurd (cc)
     control-told x code q (Some y) e f =
         let z : y ≡ x = cc in
@@ -333,11 +333,11 @@ module _ (side : Side) (log : Log) (before after : StreamTable) where
     control-ends x code c e f = tells (check_control view sorted.control) from_encoder behind_stop (ByFault code) (left-control c) (control-told x code behind_stop sorted.control e f)
 
     -- the checks of the QPACK streams leave what is known of SETTINGS
-    kept-settings : (o : Option Ending) (f : Progress → Progress) (q : Progress) → (f q).settings ≡ q.settings → (unless_ended o f q).settings ≡ q.settings
+    kept-settings : (o : Option Ending) (f : DriverProgress → DriverProgress) (q : DriverProgress) → (f q).settings ≡ q.settings → (unless_ended o f q).settings ≡ q.settings
     kept-settings None f q s = s
     kept-settings (Some e) f q s = refl
 
-    encoder-settings : (q : Progress) → (in_order from_encoder q).settings ≡ q.settings
+    encoder-settings : (q : DriverProgress) → (in_order from_encoder q).settings ≡ q.settings
     encoder-settings q =
         let r = unless_ended q.ending (check_qpack view sorted.encoder) q in
         kept-settings r.ending (check_qpack view sorted.decoder) r (qpack-settings view sorted.decoder r) ∙ kept-settings q.ending (check_qpack view sorted.encoder) q (qpack-settings view sorted.encoder q)
@@ -345,22 +345,22 @@ module _ (side : Side) (log : Log) (before after : StreamTable) where
     settings-come : (x : ℕ × ℕ) → PassesUpToControl side log before after → sorted.control ≡ Some x → is_some (control_walk_of (drop x.1 (contents log x.0)) (end_of (events_of log) x.0)).settings ≡ true → after.progress.settings ≡ true
     settings-come x c e r =
         let a = left-control c in
-        ap (λ (z : Progress). z.settings) (a.is ∙ ap (λ (o : Option Ending). in_order from_encoder (unless_ended o (check_control view sorted.control) behind_stop)) a.still)
+        ap (λ (z : DriverProgress). z.settings) (a.is ∙ ap (λ (o : Option Ending). in_order from_encoder (unless_ended o (check_control view sorted.control) behind_stop)) a.still)
         ∙ encoder-settings behind_control ∙ settings-read view (call_view log) sorted sorted.control behind_stop x e r
 
     -- where SETTINGS come, what is looked at before the control stream passes
     came-past : StreamsPass after.classified → p.settings ≡ false → after.progress.settings ≡ true → PassesUpToControl side log before after
     came-past c n m =
         let n1 = datagram-settings (view.ready && settled_datagrams (calls_of log) == p.datagrams) view p ∙ n in
-        let n2 = session-settings view (established (calls_of log)) behind_datagram ∙ n1 in
+        let n2 = session-settings view (established_session (calls_of log)) behind_datagram ∙ n1 in
         let n3 = critical-settings view.control_stopped behind_session ∙ n2 in
         let a = came-on (first_check view (call_view log)) from_session p l n1 m in
-        let b = came-on (check_session view (established (calls_of log))) from_stop behind_datagram a n2 m in
+        let b = came-on (check_session view (established_session (calls_of log))) from_stop behind_datagram a n2 m in
         let d = came-on (critical_if view.control_stopped) from_control behind_session b n3 m in
         record {
           streams = c;
           datagram = λ piece t. well piece t a.still (datagram_of piece) refl;
-          session = λ x e. walks-on view (call_view log) sorted (established (calls_of log)) behind_datagram b.still x e;
+          session = λ x e. walks-on view (call_view log) sorted (established_session (calls_of log)) behind_datagram b.still x e;
           unstopped = not-critical view.control_stopped behind_session d.still;
         }
       where
@@ -394,31 +394,29 @@ last-same (w ∷ xs) (z ∷ ys) x y e =
     (ap (λ c. c ∷ xs) i ∙ ap (λ zs. z ∷ zs) rest.0, rest.1)
 
 -- a second of a kind that comes once
-uni-second : (offset : Verdict → Option ℕ) → ComesOnce offset → (calls : CallView) (cs : List Classified) (first : ℕ × ℕ) (k : ℕ) (v : Verdict) → is_some (offset v) ≡ true → first_at offset cs ≡ Some first → (uni_consequence (dispatched calls cs) k v).fault ≡ Some h3.StreamCreation
+uni-second : (offset : Verdict → Option ℕ) → ComesOnce offset → (calls : CallView) (cs : List Classified) (first : ℕ × ℕ) (k : ℕ) (v : Verdict) → is_some (offset v) ≡ true → first_at offset cs ≡ Some first → (uni_consequence (dispatched_streams calls cs) k v).fault ≡ Some h3.StreamCreation
 uni-second _ ControlOnce calls cs first k (verdicts.Control m) s e = ap (λ (o : Option (ℕ × ℕ)). (only_once o).fault) e
-uni-second _ ControlOnce calls cs first k _ s e = absurd (cc)
 uni-second _ EncoderOnce calls cs first k (verdicts.Encoder m) s e = ap (λ (o : Option (ℕ × ℕ)). (only_once o).fault) e
-uni-second _ EncoderOnce calls cs first k _ s e = absurd (cc)
 uni-second _ DecoderOnce calls cs first k (verdicts.Decoder m) s e = ap (λ (o : Option (ℕ × ℕ)). (only_once o).fault) e
-uni-second _ DecoderOnce calls cs first k _ s e = absurd (cc)
+uni-second _ _ calls cs first k _ s e = absurd (cc)
 
 module _ (side : Side) (log : Log) (before : StreamTable) (n : before.progress.ending ≡ None) (g : Faultless before) (o : (offset : Verdict → Option ℕ) → ComesOnce offset → AtMostOne offset before.classified) where
   abbrev last : StreamTable
   last = scan_order (transport_view side log) (call_view log) before
 
-  abbrev start : Progress
+  abbrev start : DriverProgress
   start = (table side log before n).progress
 
   none-scanned : start.datagrams ≡ before.progress.datagrams
   none-scanned = scan-datagrams (transport_view side log) (call_view log) (without_stops before)
 
-  all-left : StreamsPass last.classified → Left side log before last (checks (transport_view side log) (call_view log) (dispatched (call_view log) last.classified)) start
+  all-left : StreamsPass last.classified → Left side log before last (checks (transport_view side log) (call_view log) (dispatched_streams (call_view log) last.classified)) start
   all-left c = record { is = refl; still = streams-go-on side log before n c }
 
   came-so : before.progress.settings ≡ false → last.progress.settings ≡ true → PassesUpToControl side log before last
   came-so f m =
       let n0 = scan-settings (transport_view side log) (call_view log) (without_stops before) ∙ f in
-      let e = not-yet (checks (transport_view side log) (call_view log) (dispatched (call_view log) last.classified)) start n0 m in
+      let e = not-yet (checks (transport_view side log) (call_view log) (dispatched_streams (call_view log) last.classified)) start n0 m in
       let c : StreamsPass last.classified = record {
         faultless = (kept-streams Faultless side log (faultless-kept side log) before g).0 e;
         once = λ offset w. kept-streams (λ (t : StreamTable). t.progress.ending ≡ None → AtMostOne offset t.classified) side log (once-kept side log offset w) before (λ z. o offset w) e;
@@ -434,21 +432,21 @@ module _ (side : Side) (log : Log) (before : StreamTable) (n : before.progress.e
       at-bis (Some y) e u =
           let r = bis-end side log before n u y e in
           let v = bi_verdict_of (contents log r.stream) (end_of (events_of log) r.stream) in
-          let x : Classified = record { id = r.stream; verdict = v; surplus = (bi_consequence (dispatched (call_view log) r.table.classified) r.stream v).surplus } in
+          let x : Classified = record { id = r.stream; verdict = v; surplus = (bi_consequence (dispatched_streams (call_view log) r.table.classified) r.stream v).surplus } in
           let l = last-stays side log before n y e in
           let same = (last-same r.table.classified earlier x c (sym (ap (λ (t : StreamTable). t.classified) (l ∙ r.is)) ∙ q)).1 in
-          ap (λ (t : StreamTable). t.progress.ending) l ∙ e ∙ sym r.fault ∙ ap (λ (z : Verdict). fault_ending (bi_consequence (dispatched (call_view log) r.table.classified) r.stream z).fault) (ap (λ (z : Classified). z.verdict) same ∙ f)
+          ap (λ (t : StreamTable). t.progress.ending) l ∙ e ∙ sym r.fault ∙ ap (λ (z : Verdict). fault_ending (bi_consequence (dispatched_streams (call_view log) r.table.classified) r.stream z).fault) (ap (λ (z : Classified). z.verdict) same ∙ f)
 
       at-unis : (o : Option Ending) → (scanned side log before n).progress.ending ≡ o → last.progress.ending ≡ Some (ByFault code)
       at-unis None e = at-bis start.ending refl e
       at-unis (Some y) e =
           let r = unis-end side log before n y e in
           let v = uni_verdict_of (contents log r.stream) (end_of (events_of log) r.stream) in
-          let x : Classified = record { id = r.stream; verdict = v; surplus = (uni_consequence (dispatched (call_view log) r.table.classified) r.stream v).surplus } in
+          let x : Classified = record { id = r.stream; verdict = v; surplus = (uni_consequence (dispatched_streams (call_view log) r.table.classified) r.stream v).surplus } in
           let b = bis-stay side log before n y e in
           let l = last-stays side log before n y (ap (λ (t : StreamTable). t.progress.ending) b ∙ e) ∙ b in
           let same = (last-same r.table.classified earlier x c (sym (ap (λ (t : StreamTable). t.classified) (l ∙ r.is)) ∙ q)).1 in
-          ap (λ (t : StreamTable). t.progress.ending) l ∙ e ∙ sym r.fault ∙ ap (λ (z : Verdict). fault_ending (uni_consequence (dispatched (call_view log) r.table.classified) r.stream z).fault) (ap (λ (z : Classified). z.verdict) same ∙ f)
+          ap (λ (t : StreamTable). t.progress.ending) l ∙ e ∙ sym r.fault ∙ ap (λ (z : Verdict). fault_ending (uni_consequence (dispatched_streams (call_view log) r.table.classified) r.stream z).fault) (ap (λ (z : Classified). z.verdict) same ∙ f)
 
   -- and so did a second stream of a kind that comes once
   second-told : (earlier : List Classified) (c : Classified) (offset : Verdict → Option ℕ) (first : ℕ × ℕ) → last.classified ≡ earlier ++ c ∷ [] → ComesOnce offset → is_some (offset c.verdict) ≡ true → first_at offset earlier ≡ Some first
@@ -461,7 +459,7 @@ module _ (side : Side) (log : Log) (before : StreamTable) (n : before.progress.e
       at-bis (Some y) e u =
           let r = bis-end side log before n u y e in
           let v = bi_verdict_of (contents log r.stream) (end_of (events_of log) r.stream) in
-          let x : Classified = record { id = r.stream; verdict = v; surplus = (bi_consequence (dispatched (call_view log) r.table.classified) r.stream v).surplus } in
+          let x : Classified = record { id = r.stream; verdict = v; surplus = (bi_consequence (dispatched_streams (call_view log) r.table.classified) r.stream v).surplus } in
           let same = (last-same r.table.classified earlier x c (sym (ap (λ (t : StreamTable). t.classified) (last-stays side log before n y e ∙ r.is)) ∙ q)).1 in
           absurd (let i = ap (λ (z : Classified). is_some (offset z.verdict)) same ∙ s in let k = ap is_some (no-offset offset m v (bi-not-once (contents log r.stream) (end_of (events_of log) r.stream))) in cc)
 
@@ -470,7 +468,7 @@ module _ (side : Side) (log : Log) (before : StreamTable) (n : before.progress.e
       at-unis (Some y) e =
           let r = unis-end side log before n y e in
           let v = uni_verdict_of (contents log r.stream) (end_of (events_of log) r.stream) in
-          let x : Classified = record { id = r.stream; verdict = v; surplus = (uni_consequence (dispatched (call_view log) r.table.classified) r.stream v).surplus } in
+          let x : Classified = record { id = r.stream; verdict = v; surplus = (uni_consequence (dispatched_streams (call_view log) r.table.classified) r.stream v).surplus } in
           let b = bis-stay side log before n y e in
           let l = last-stays side log before n y (ap (λ (t : StreamTable). t.progress.ending) b ∙ e) ∙ b in
           let w = sym (ap (λ (t : StreamTable). t.classified) (l ∙ r.is)) ∙ q in

@@ -16,14 +16,14 @@ use Rattle.wt_laws.proofs.TurnCauses.{reply-is-recorded}
 use Rattle.wt_laws.specs.GivenOnce.{GivenOnce, gives_stream, gave_stream}
 use Rattle.wt_laws.specs.Laws.{AcceptedRightly, GoesOnFrom, IsDuring}
 use Rattle.wt_laws.specs.Reachable.{AfterTurn, AllLawful, AtStart, Exchange, IsReachable, exchanges}
-use Rattle.wt_laws.specs.Told.{Logged, NoRecord, OneRecord, Tells, ThenPolled}
+use Rattle.wt_laws.specs.Told.{Logged, NoRecord, OneRecord, TellsOf, ThenPolled}
 use Rattle.wt_spec.specs.Answers.{answer_to, is_lawful, log_after}
 use Rattle.wt_spec.specs.Driver.{releases}
 use Rattle.wt_reply.specs.declared.reply.Reply.TheVariants as replies
 
 -- ---- a reply that gives a stream leaves its record
 
-uni-told : (turn : Turn) (j : ℕ) (r : CallRecord) → Tells turn r (replies.Uni j) → releases j r ≡ true
+uni-told : (turn : Turn) (j : ℕ) (r : CallRecord) → TellsOf turn r (replies.Uni j) → releases j r ≡ true
 uni-told turn j (StreamAccepted i) q = let e : j ≡ i = cc in at e
   where
     at : j ≡ i → (i == j) ≡ true
@@ -34,7 +34,7 @@ uni-told turn j (SessionEstablished i n) q = absurd (cc)
 uni-told turn j (RequestDelivered i) q = absurd (cc)
 uni-told turn j _ q = absurd (cc)
 
-bi-told : (turn : Turn) (j : ℕ) (r : CallRecord) → Tells turn r (replies.Bi j) → releases j r ≡ true
+bi-told : (turn : Turn) (j : ℕ) (r : CallRecord) → TellsOf turn r (replies.Bi j) → releases j r ≡ true
 bi-told turn j (StreamAccepted i) q = let e : j ≡ i = cc in subst (λ z. (z == j) ≡ true) e (eq-eqb j j refl)
 bi-told turn j (BytesRead i n) (piece, e, count, rest) = absurd (cc)
 bi-told turn j DatagramReceived (piece, e) = absurd (cc)
@@ -42,7 +42,7 @@ bi-told turn j (SessionEstablished i n) q = absurd (cc)
 bi-told turn j (RequestDelivered i) q = absurd (cc)
 bi-told turn j _ q = absurd (cc)
 
-told : (turn : Turn) (k : ℕ) (r : CallRecord) (reply : Reply) → gives_stream k reply ≡ true → Tells turn r reply → releases k r ≡ true
+told : (turn : Turn) (k : ℕ) (r : CallRecord) (reply : Reply) → gives_stream k reply ≡ true → TellsOf turn r reply → releases k r ≡ true
 told turn k r (replies.Uni j) g q = subst (λ z. releases z r ≡ true) (eqb-true j k g) (uni-told turn j r q)
 told turn k r (replies.Bi j) g q = subst (λ z. releases z r ≡ true) (eqb-true j k g) (bi-told turn j r q)
 told turn k r _ g q = absurd (cc)

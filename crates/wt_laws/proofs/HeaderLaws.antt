@@ -5,7 +5,7 @@ use Rattle.std.proofs.Math.Seq.{take-add}
 use Rattle.std.proofs.lemmas.Bool.{and_parts, eq-eqb, eqb-true, ltb-true, not-true, or_parts, or_right}
 use Rattle.std.proofs.lemmas.List.{append-nil, append_assoc}
 use Rattle.std.specs.List.{list_any}
-use Rattle.wt_seam_spec.specs.Outgoing.{covered, credit_left, next_id}
+use Rattle.wt_seam_spec.specs.Outgoing.{bytes_within_credit, credit_left, next_id}
 use Rattle.wt_seam_spec.specs.Reports.{end_of, is_running}
 use Rattle.wt_seam_spec.specs.Sent.{sent_on}
 use Rattle.wt_seam_spec.specs.Streams.{local_bi, local_count, local_uni, one_more_if, opens, peer_count, stream_count}
@@ -29,10 +29,10 @@ use Rattle.wt_laws.specs.Laws.{HeadersOut}
 use Rattle.wt_laws.specs.Reachable.{IsReachable}
 use Rattle.wt_laws.specs.RecordCauses.{CallCause, NewOpening, RecordCause}
 use Rattle.wt_spec.specs.Connection.{accepts_stream, ends_opening, is_opening, starts_opening, stream_header}
-use Rattle.wt_spec.specs.Driver.{apply_if, established, establishes, flush, is_moment, log_and_flush, pending_actions, session_id, stream_table}
+use Rattle.wt_spec.specs.Driver.{apply_if, established_session, establishes, flush, is_moment, log_and_flush, pending_actions, session_id, stream_table}
 use Rattle.wt_spec.specs.Effect.{head_left, is_empty}
 use Rattle.wt_spec.specs.Halves.{is_accepted}
-use Rattle.wt_spec.specs.Handshake.{handshake_state, requested}
+use Rattle.wt_spec.specs.Handshake.{handshake_state, requested_stream}
 use Rattle.wt_spec.specs.StreamTable.{verdict_of}
 use Rattle.wt_turn.specs.declared.action.Action.TheVariants as actions
 
@@ -41,17 +41,17 @@ pub record Heads (side : Side) (log : Log) : Type 0 where
   pub no_control : list_any (starts_opening (local_uni side)) (calls_of log) ≡ false
   pub counted : (k : ℕ) → list_any (starts_opening k) (calls_of log) ≡ true → k / 4 < local_count (actions_of log) (k % 4)
   pub local_accepted : (k : ℕ) → is_local side k ≡ true → list_any (accepts_stream k) (calls_of log) ≡ true → list_any (starts_opening k) (calls_of log) ≡ true
-  pub in_session : (k : ℕ) → list_any (starts_opening k) (calls_of log) ≡ true → is_some (established (calls_of log)) ≡ true
+  pub in_session : (k : ℕ) → list_any (starts_opening k) (calls_of log) ≡ true → is_some (established_session (calls_of log)) ≡ true
   pub fresh : (k : ℕ) → is_local side k ≡ true → k ≢ local_uni side → local_count (actions_of log) (k % 4) ≤ k / 4 → sent_on (actions_of log) k ≡ []
-  pub begun : (k s at : ℕ) → is_opening log k ≡ true → established (calls_of log) ≡ Some (s, at) → (n : ℕ) × (sent_on (actions_of log) k ≡ take n (stream_header k s))
-  pub ungiven : (k s at : ℕ) → list_any (starts_opening k) (calls_of log) ≡ true → is_accepted log k ≡ false → established (calls_of log) ≡ Some (s, at) → (n : ℕ) × (sent_on (actions_of log) k ≡ take n (stream_header k s))
-  pub whole : (k s at : ℕ) → is_local side k ≡ true → is_accepted log k ≡ true → established (calls_of log) ≡ Some (s, at) → (rest : List ℕ) × (sent_on (actions_of log) k ≡ stream_header k s ++ rest)
+  pub begun : (k s at : ℕ) → is_opening log k ≡ true → established_session (calls_of log) ≡ Some (s, at) → (n : ℕ) × (sent_on (actions_of log) k ≡ take n (stream_header k s))
+  pub ungiven : (k s at : ℕ) → list_any (starts_opening k) (calls_of log) ≡ true → is_accepted log k ≡ false → established_session (calls_of log) ≡ Some (s, at) → (n : ℕ) × (sent_on (actions_of log) k ≡ take n (stream_header k s))
+  pub whole : (k s at : ℕ) → is_local side k ≡ true → is_accepted log k ≡ true → established_session (calls_of log) ≡ Some (s, at) → (rest : List ℕ) × (sent_on (actions_of log) k ≡ stream_header k s ++ rest)
 
 -- ---- an action of a call's own
 
-no-request : (side : Side) (log : Log) (k : ℕ) → Heads side log → is_local side k ≡ true → has_request (handshake_state (calls_of log)) ≡ true → requested (calls_of log) ≢ k
+no-request : (side : Side) (log : Log) (k : ℕ) → Heads side log → is_local side k ≡ true → has_request (handshake_state (calls_of log)) ≡ true → requested_stream (calls_of log) ≢ k
 no-request side log k h l r e =
-    let w = h.given.handshakes.delivered (requested (calls_of log)) (h.given.handshakes.has_one r) in
+    let w = h.given.handshakes.delivered (requested_stream (calls_of log)) (h.given.handshakes.has_one r) in
     absurd (let n = local-unclassified side log k l in let x = ap (λ j. verdict_of j (stream_table side log).classified) e in let v = w.verdict in cc)
 
 fresh-piece : (side : Side) (turn : Turn) (log : Log) (k : ℕ) (a : Action) → Heads side log → is_local side k ≡ true → local_count (actions_of log) (k % 4) ≤ k / 4 → ActionCause side turn log a → piece_on k a ≡ []
@@ -83,7 +83,7 @@ not-accepted : (log : Log) (k : ℕ) → is_opening log k ≡ true → is_accept
 not-accepted log k o a = absurd (let x = accepted-ends k (calls_of log) a in let y = not-true (list_any (ends_opening k) (calls_of log)) (and_parts (list_any (starts_opening k) (calls_of log)) _ o).1 in cc)
 
 -- what a poll sends of a header goes on with it
-header-more : (log : Log) (k s : ℕ) (piece : List ℕ) → piece ≡ covered log k (head_left log k (stream_header k s)) → (n : ℕ) × (sent_on (actions_of log) k ≡ take n (stream_header k s))
+header-more : (log : Log) (k s : ℕ) (piece : List ℕ) → piece ≡ bytes_within_credit log k (head_left log k (stream_header k s)) → (n : ℕ) × (sent_on (actions_of log) k ≡ take n (stream_header k s))
     → (n : ℕ) × (sent_on (actions_of log) k ++ piece ≡ take n (stream_header k s))
 header-more log k s piece y p = (
   length (sent_on (actions_of log) k) + credit_left log k,
@@ -91,7 +91,7 @@ header-more log k s piece y p = (
       ∙ subst (λ xs. xs ++ take (credit_left log k) (drop (length xs) (stream_header k s)) ≡ take (length xs + credit_left log k) (stream_header k s)) (sym p.1) (further (credit_left log k) p.0 (stream_header k s)),
 )
 
-begun-piece : (side : Side) (turn : Turn) (log : Log) (k s t : ℕ) (a : Action) → Heads side log → is_opening log k ≡ true → established (calls_of log) ≡ Some (s, t) → ActionCause side turn log a
+begun-piece : (side : Side) (turn : Turn) (log : Log) (k s t : ℕ) (a : Action) → Heads side log → is_opening log k ≡ true → established_session (calls_of log) ≡ Some (s, t) → ActionCause side turn log a
     → (n : ℕ) × (sent_on (actions_of log) k ++ piece_on k a ≡ take n (stream_header k s))
 begun-piece side turn log k s t (actions.Send id piece) h o d c = at (id == k) refl c.1
   where
@@ -103,14 +103,14 @@ begun-piece side turn log k s t (actions.Send id piece) h o d c = at (id == k) r
     at true e (OfWrite bytes b w m q) = absurd (not-accepted log k o (subst (λ (j : ℕ). is_accepted log j ≡ true) (eqb-true id k e) (and_parts (is_accepted log id) _ w).0))
     at true e (OfHeader session u z i j q) =
         let same : session ≡ s = ap session_id (sym i ∙ d) in
-        let x = subst (λ (m : ℕ). piece ≡ covered log m (head_left log m (stream_header m session))) (eqb-true id k e) q in
-        let y = subst (λ (m : ℕ). piece ≡ covered log k (head_left log k (stream_header k m))) same x in header-more log k s piece y p
+        let x = subst (λ (m : ℕ). piece ≡ bytes_within_credit log m (head_left log m (stream_header m session))) (eqb-true id k e) q in
+        let y = subst (λ (m : ℕ). piece ≡ bytes_within_credit log k (head_left log k (stream_header k m))) same x in header-more log k s piece y p
     at true e (OfResponse accepts head f i q) = absurd (no-request side log k h (local-opening side log k h o) (from-request turn (calls_of log) accepts head f) (sym i ∙ eqb-true id k e))
     at true e (OfRequest head c i j z q) = absurd (let x = h.given.handshakes.none_yet (ap is_under_way i) in cc)
 begun-piece side turn log k s t _ h o d c = ((h.begun k s t o d).0, append-nil (sent_on (actions_of log) k) ∙ (h.begun k s t o d).1)
 
 -- the same of a stream that isn't given yet, or never is
-ungiven-piece : (side : Side) (turn : Turn) (log : Log) (k s t : ℕ) (a : Action) → Heads side log → list_any (starts_opening k) (calls_of log) ≡ true → is_accepted log k ≡ false → established (calls_of log) ≡ Some (s, t) → ActionCause side turn log a
+ungiven-piece : (side : Side) (turn : Turn) (log : Log) (k s t : ℕ) (a : Action) → Heads side log → list_any (starts_opening k) (calls_of log) ≡ true → is_accepted log k ≡ false → established_session (calls_of log) ≡ Some (s, t) → ActionCause side turn log a
     → (n : ℕ) × (sent_on (actions_of log) k ++ piece_on k a ≡ take n (stream_header k s))
 ungiven-piece side turn log k s t (actions.Send id piece) h o g d c = at (id == k) refl c.1
   where
@@ -122,8 +122,8 @@ ungiven-piece side turn log k s t (actions.Send id piece) h o g d c = at (id == 
     at true e (OfWrite bytes b w m q) = absurd (let y = subst (λ (j : ℕ). is_accepted log j ≡ true) (eqb-true id k e) (and_parts (is_accepted log id) _ w).0 in cc)
     at true e (OfHeader session u z i j q) =
         let same : session ≡ s = ap session_id (sym i ∙ d) in
-        let x = subst (λ (m : ℕ). piece ≡ covered log m (head_left log m (stream_header m session))) (eqb-true id k e) q in
-        let y = subst (λ (m : ℕ). piece ≡ covered log k (head_left log k (stream_header k m))) same x in header-more log k s piece y p
+        let x = subst (λ (m : ℕ). piece ≡ bytes_within_credit log m (head_left log m (stream_header m session))) (eqb-true id k e) q in
+        let y = subst (λ (m : ℕ). piece ≡ bytes_within_credit log k (head_left log k (stream_header k m))) same x in header-more log k s piece y p
     at true e (OfResponse accepts head f i q) = absurd (no-request side log k h (h.given.facts_hold.openings k o) (from-request turn (calls_of log) accepts head f) (sym i ∙ eqb-true id k e))
     at true e (OfRequest head c i j z q) = absurd (let x = h.given.handshakes.none_yet (ap is_under_way i) in cc)
 ungiven-piece side turn log k s t _ h o g d c = ((h.ungiven k s t o g d).0, append-nil (sent_on (actions_of log) k) ∙ (h.ungiven k s t o g d).1)
@@ -248,15 +248,15 @@ still true true c e = absurd (cc)
 still true false c e = e
 still false b c e = absurd (cc)
 
-pub no-new-session : (side : Side) (log : Log) (c : List Action) (before : Log) → log ≡ with_actions c before → is_under_way (handshake_state (calls_of before)) ≡ true → Handshakes side log → is_some (established (calls_of log)) ≡ true → ⊥
+pub no-new-session : (side : Side) (log : Log) (c : List Action) (before : Log) → log ≡ with_actions c before → is_under_way (handshake_state (calls_of before)) ≡ true → Handshakes side log → is_some (established_session (calls_of log)) ≡ true → ⊥
 no-new-session side log own before i u f s =
-    absurd (let n = (handshakes-before side own before (subst (Handshakes side) i f)).none_yet u in let e = ap established (ap calls_of i ∙ calls-with own before) in cc)
+    absurd (let n = (handshakes-before side own before (subst (Handshakes side) i f)).none_yet u in let e = ap established_session (ap calls_of i ∙ calls-with own before) in cc)
 
 module _ (side : Side) (turn : Turn) (log : Log) (own : List Action) where
   abbrev then_ : Log
   then_ = with_actions own log
 
-  new-begun : (r : CallRecord) → ControlOut side log → Heads side log → Heads side then_ → CallCause side turn log own r → (k s t : ℕ) → is_opening (Called r ∷ then_) k ≡ true → established (r ∷ calls_of then_) ≡ Some (s, t) → (n : ℕ) × (sent_on (actions_of then_) k ≡ take n (stream_header k s))
+  new-begun : (r : CallRecord) → ControlOut side log → Heads side log → Heads side then_ → CallCause side turn log own r → (k s t : ℕ) → is_opening (Called r ∷ then_) k ≡ true → established_session (r ∷ calls_of then_) ≡ Some (s, t) → (n : ℕ) × (sent_on (actions_of then_) k ≡ take n (stream_header k s))
   new-begun (OpeningStarted id i) p b h c k s t o d = at (id == k) refl o
     where
       at : (x : Bool) → (id == k) ≡ x → ((x || list_any (starts_opening k) (calls_of then_)) && not (list_any (ends_opening k) (calls_of then_))) ≡ true → (n : ℕ) × (sent_on (actions_of then_) k ≡ take n (stream_header k s))
@@ -267,7 +267,7 @@ module _ (side : Side) (turn : Turn) (log : Log) (own : List Action) where
   new-begun (OpeningFailed id) p b h c k s t o d = h.begun k s t (still (list_any (starts_opening k) (calls_of then_)) (id == k) (list_any (ends_opening k) (calls_of then_)) o) d
   new-begun _ p b h c k s t o d = h.begun k s t o d
 
-  new-ungiven : (r : CallRecord) → ControlOut side log → Heads side log → Heads side then_ → CallCause side turn log own r → (k s t : ℕ) → list_any (starts_opening k) (r ∷ calls_of then_) ≡ true → is_accepted (Called r ∷ then_) k ≡ false → established (r ∷ calls_of then_) ≡ Some (s, t)
+  new-ungiven : (r : CallRecord) → ControlOut side log → Heads side log → Heads side then_ → CallCause side turn log own r → (k s t : ℕ) → list_any (starts_opening k) (r ∷ calls_of then_) ≡ true → is_accepted (Called r ∷ then_) k ≡ false → established_session (r ∷ calls_of then_) ≡ Some (s, t)
       → (n : ℕ) × (sent_on (actions_of then_) k ≡ take n (stream_header k s))
   new-ungiven (OpeningStarted id i) p b h c k s t o g d = at (id == k) refl o
     where
@@ -281,7 +281,7 @@ module _ (side : Side) (turn : Turn) (log : Log) (own : List Action) where
   pub all-of-it : (n : ℕ) (xs sent : List ℕ) → sent ≡ take n xs → drop (length sent) xs ≡ [] → sent ≡ xs
   all-of-it n xs sent e d = e ∙ whole-covered n xs (ap is_empty (ap (λ ys. drop (length ys) xs) (sym e) ∙ d))
 
-  new-whole : (r : CallRecord) → Heads side then_ → RecordCause side turn then_ r → (k s t : ℕ) → is_local side k ≡ true → is_accepted (Called r ∷ then_) k ≡ true → established (r ∷ calls_of then_) ≡ Some (s, t) → (rest : List ℕ) × (sent_on (actions_of then_) k ≡ stream_header k s ++ rest)
+  new-whole : (r : CallRecord) → Heads side then_ → RecordCause side turn then_ r → (k s t : ℕ) → is_local side k ≡ true → is_accepted (Called r ∷ then_) k ≡ true → established_session (r ∷ calls_of then_) ≡ Some (s, t) → (rest : List ℕ) × (sent_on (actions_of then_) k ≡ stream_header k s ++ rest)
   new-whole (StreamAccepted id) h c k s t l a d = at (id == k) refl a c
     where
       at : (x : Bool) → (id == k) ≡ x → (x || list_any (accepts_stream k) (calls_of then_)) ≡ true → AcceptCause side turn then_ id → (rest : List ℕ) × (sent_on (actions_of then_) k ≡ stream_header k s ++ rest)
@@ -307,7 +307,7 @@ module _ (side : Side) (turn : Turn) (log : Log) (own : List Action) where
   new-local (StreamAccepted id) (ByOpening f) k l e = subst (λ (j : ℕ). list_any (starts_opening j) (calls_of then_) ≡ true) (eqb-true id k e) (and_parts (list_any (starts_opening id) (calls_of then_)) _ f.opening).0
   new-local _ c k l e = absurd (cc)
 
-  new-session : (r : CallRecord) → RecordCause side turn then_ r → (k : ℕ) → starts_opening k r ≡ true → is_some (established (calls_of then_)) ≡ true
+  new-session : (r : CallRecord) → RecordCause side turn then_ r → (k : ℕ) → starts_opening k r ≡ true → is_some (established_session (calls_of then_)) ≡ true
   new-session (OpeningStarted id s) c k e = ap is_some c.is_established
   new-session _ c k e = absurd (cc)
 
@@ -319,7 +319,7 @@ module _ (side : Side) (turn : Turn) (log : Log) (own : List Action) where
         no_control = none-either (starts_opening (local_uni side) r) _ (new-opening-record side turn log own r p c) h.no_control;
         counted = λ k o. from-or (starts_opening k r) _ (new-count r c k) (h.counted k) o;
         local_accepted = λ k l a. or_right (starts_opening k r) _ (from-or (accepts_stream k r) _ (new-local r x k l) (h.local_accepted k l) a);
-        in_session = λ k o. still-some (establishes r) (established (calls_of then_)) (from-or (starts_opening k r) _ (new-session r x k) (h.in_session k) o);
+        in_session = λ k o. still-some (establishes r) (established_session (calls_of then_)) (from-or (starts_opening k r) _ (new-session r x k) (h.in_session k) o);
         fresh = h.fresh;
         begun = new-begun r p b h c;
         ungiven = new-ungiven r p b h c;

@@ -6,12 +6,12 @@ use Rattle.std.specs.List.{list_any}
 use Rattle.wt_proto.specs.ResponseWalk.{response_walk_of}
 use Rattle.wt_proto.specs.declared.response_walk.ResponseWalk.{ResponseWalk}
 use Rattle.wt_seam_spec.specs.Arrivals.{event_entry}
-use Rattle.wt_seam_spec.specs.Joined.{joined}
+use Rattle.wt_seam_spec.specs.Joined.{joined_actions}
 use Rattle.wt_seam_spec.specs.Outgoing.{if_open}
 use Rattle.wt_seam_spec.specs.Reports.{datagram_fact, datagrams_of, end_of, is_acknowledged, is_connected, loss_of, stop_of}
 use Rattle.wt_seam_spec.specs.Sent.{is_finished, is_reset, priority_of, resets, sent_on}
 use Rattle.wt_seam_spec.specs.Streams.{contents, local_bi, local_count, local_uni, peer_bi, peer_count, peer_uni}
-use Rattle.wt_turn.specs.Log.{Acked, BytesRead, CallRecord, Called, Connected, Datagram, DatagramLimit, DatagramPassed, DatagramReceived, End, Event, HandshakeOver, Log, Loss, MaxBi, MaxData, MaxUni, OpeningFailed, PeerBi, PeerUni, Polled, PrioritySet, ReportedLate, RequestDelivered, Reset, ResetUnsent, Stop, StreamAccepted, StreamGivenUp, actions_of, calls_of, events_of, is_open, with_actions}
+use Rattle.wt_turn.specs.Log.{BytesRead, CallRecord, Called, DatagramPassed, DatagramReceived, Event, HandshakeOver, Log, OpeningFailed, Polled, PrioritySet, ReportedLate, RequestDelivered, Reset, ResetUnsent, StreamAccepted, StreamGivenUp, actions_of, calls_of, events_of, is_open, with_actions}
 use Rattle.wt_turn.specs.declared.action.Action.{Action}
 use Rattle.wt_turn.specs.declared.answer.Answer.{Answer}
 use Rattle.wt_turn.specs.declared.call.Call.{Call}
@@ -30,11 +30,11 @@ use Rattle.wt_laws.specs.Reachable.{AllLawful}
 use Rattle.wt_laws.specs.Runs.{LateChangesNothing}
 use Rattle.wt_spec.specs.Answers.{actions_since, answer_to, answers_from, call_effect, in_session, is_client, is_first, is_lawful, log_after, may_call, receive, turn_effect}
 use Rattle.wt_spec.specs.Connection.{accept_due, accept_first, accept_stream, accepts_stream, close_connection, ends_opening, first_of, give_or_pass, is_due, is_for_session, is_opening, next_datagram, next_due, open_stream, payload_limit, poll_opening, read_datagram, receive_datagram, receive_first, receive_next, receive_or_pass, send_datagram, starts_opening}
-use Rattle.wt_spec.specs.Driver.{apply_if, call_view, delivers, established, flush, log_and_flush, releases, settings_came, settled_datagrams, stream_table, transport_view}
+use Rattle.wt_spec.specs.Driver.{apply_if, call_view, delivers, established_session, flush, log_and_flush, releases, settings_came, settled_datagrams, stream_table, transport_view}
 use Rattle.wt_spec.specs.Scan.{scan_order}
-use Rattle.wt_spec.specs.Effect.{Effect, closing, driver_error, error_of_ending, head_left, is_empty, log_call, loss_or_local, pending_or_failed, poll_only, reply_with, transport_error}
-use Rattle.wt_spec.specs.Halves.{all_written_reply, at_stream_end, body_start, exact_at_end, finish, finishing, gives_up, has_receiving_half, has_sending_half, is_done, on_half, priority, read, read_exact, read_reply, reset, set_priority, stop_receiving, stopped, stopped_reply, total_read, unread_body, write, write_all, write_by, write_error, written_reply}
-use Rattle.wt_spec.specs.Handshake.{Connecting, HandshakeState, Responding, await_or_fail, await_response, continue_by, continue_connect, continue_handshake, deliver, fail_connect, handshake_state, has_success, incoming, lost, open_request, queued_requests, read_response, respond, send_request, unless_reserved}
+use Rattle.wt_spec.specs.Effect.{Effect, close_when_open, driver_error, error_of_ending, head_left, is_empty, log_call, loss_or_local, pending_or_failed, poll_only, reply_with, transport_error}
+use Rattle.wt_spec.specs.Halves.{all_written_reply, reply_at_end, body_start, exact_at_end, finish, finish_once, gives_up, has_receiving_half, has_sending_half, is_done, on_half, priority, read, read_exact, read_reply, reset, set_priority, stop_receiving, stopped, stopped_reply, total_read, unread_body, write, write_all, write_by, write_error, written_reply}
+use Rattle.wt_spec.specs.Handshake.{Connecting, HandshakeState, Responding, await_or_fail, await_response, continue_by, continue_connect, continue_handshake, deliver, fail_connect, handshake_state, has_success, incoming, loss_to_connect, open_request, queued_requests, read_response, respond, send_request, unless_reserved}
 use Rattle.wt_spec.specs.StreamTable.{ByFault, BySession, Classified, Ending, StreamTable, awaits_accept, awaits_delivery, only, verdict_of}
 use Rattle.wt_turn.specs.declared.action.Action.TheVariants as actions
 use Rattle.wt_turn.specs.declared.call.Call.TheVariants as calls
@@ -149,8 +149,8 @@ module _ (side : Side) (a b : Log) (p : EndedAlike side a b) where
   same-wait : pending_or_failed side a ≡ pending_or_failed side b
   same-wait = closed-reply (is_open a) (is_open b) _ _ _ _ p.closed p.closed_too (ap (λ e. replies.Failed e) same-driver)
 
-  in-session : (call too : ℕ → Effect) → ((s : ℕ) → Alike side a b (call s) (too s)) → Alike side a b (in_session side a call (established (calls_of a))) (in_session side b too (established (calls_of b)))
-  in-session call too f = subst (λ z. Alike side a b (in_session side a call (established (calls_of a))) (in_session side b too z)) (ap established p.calls) (at (established (calls_of a)))
+  in-session : (call too : ℕ → Effect) → ((s : ℕ) → Alike side a b (call s) (too s)) → Alike side a b (in_session side a call (established_session (calls_of a))) (in_session side b too (established_session (calls_of b)))
+  in-session call too f = subst (λ z. Alike side a b (in_session side a call (established_session (calls_of a))) (in_session side b too z)) (ap established_session p.calls) (at (established_session (calls_of a)))
     where
       at : (o : Option (ℕ × ℕ)) → Alike side a b (in_session side a call o) (in_session side b too o)
       at None = polled replies.NoSession replies.NoSession refl
@@ -250,11 +250,11 @@ module _ (side : Side) (a b : Log) (p : EndedAlike side a b) where
           ap (λ (d : Bool). if d then ended else (if is_open a then replies.Pending else failing writes.NotConnected)) (same-done k)
           ∙ ap (λ (o : Bool). if is_done b k then ended else (if o then replies.Pending else failing writes.NotConnected)) (p.closed ∙ sym p.closed_too)
 
-  none-finishing : (log : Log) (k : ℕ) → is_open log ≡ false → finishing log k ≡ []
+  none-finishing : (log : Log) (k : ℕ) → is_open log ≡ false → finish_once log k ≡ []
   none-finishing log k o = ap (λ (c : Bool). if c && not (is_finished (actions_of log) k) && not (is_reset log k) && not (is_some (stop_of (events_of log) k)) then actions.Finish k ∷ [] else []) o
 
   alike-finish : (k : ℕ) → Alike side a b (finish side a k) (finish side b k)
-  alike-finish k = leaf side a b p (finishing a k) (finishing b k) Polled Polled _ _ (none-finishing a k p.closed) (none-finishing b k p.closed_too) refl (same-stopped k (λ e. replies.WriteFailed e) replies.Finished)
+  alike-finish k = leaf side a b p (finish_once a k) (finish_once b k) Polled Polled _ _ (none-finishing a k p.closed) (none-finishing b k p.closed_too) refl (same-stopped k (λ e. replies.WriteFailed e) replies.Finished)
 
   alike-reset : (k code : ℕ) → Alike side a b (reset side a k code) (reset side b k code)
   alike-reset k code =
@@ -267,7 +267,7 @@ module _ (side : Side) (a b : Log) (p : EndedAlike side a b) where
   alike-set : (k : ℕ) (n : ℤ) → Alike side a b (set_priority side a k n) (set_priority side b k n)
   alike-set k n = same-if side a b p (is_done a k) (is_done b k) _ _ _ _ (same-done k) (λ d. polled _ _ refl) (λ d. leaf side a b p [] [] (PrioritySet k n) (PrioritySet k n) _ _ refl refl refl refl)
 
-  same-end : (e : StreamEnd) → at_stream_end a e ≡ at_stream_end b e
+  same-end : (e : StreamEnd) → reply_at_end a e ≡ reply_at_end b e
   same-end ends.Running = closed-reply (is_open a) (is_open b) _ _ _ _ p.closed p.closed_too refl
   same-end ends.Fin = refl
   same-end (ends.Reset code) = refl
@@ -278,7 +278,7 @@ module _ (side : Side) (a b : Log) (p : EndedAlike side a b) where
       (λ z. subst (λ xs. Alike side a b (read_reply side a k size (unread_body side a k)) (read_reply side b k size xs)) (same-unread k) (at (unread_body side a k)))
     where
       at : (bytes : List ℕ) → Alike side a b (read_reply side a k size bytes) (read_reply side b k size bytes)
-      at [] = polled _ _ (same-end (end_of (events_of a) k) ∙ ap (λ es. at_stream_end b (end_of es k)) p.events)
+      at [] = polled _ _ (same-end (end_of (events_of a) k) ∙ ap (λ es. reply_at_end b (end_of es k)) p.events)
       at (x ∷ bytes) = leaf side a b p [] [] (BytesRead k (length (take size (x ∷ bytes)))) (BytesRead k (length (take size (x ∷ bytes)))) _ _ refl refl refl refl
 
   alike-exact : (k size : ℕ) → Alike side a b (read_exact side a k size) (read_exact side b k size)
@@ -317,10 +317,10 @@ module _ (side : Side) (a b : Log) (p : EndedAlike side a b) where
   failing : (e f : ConnectingError) → e ≡ f → Alike side a b (fail_connect side a [] e) (fail_connect side b [] f)
   failing e f q = leaf side a b p [] [] HandshakeOver HandshakeOver _ _ refl refl refl (ap (λ x. replies.ConnectFailed x) q)
 
-  abandoning : (code : ℕ) (e f : ConnectingError) → e ≡ f → Alike side a b (fail_connect side a (closing a code) e) (fail_connect side b (closing b code) f)
-  abandoning code e f q = leaf side a b p (closing a code) (closing b code) HandshakeOver HandshakeOver _ _ (none-if a (actions.Close code []) p.closed) (none-if b (actions.Close code []) p.closed_too) refl (ap (λ x. replies.ConnectFailed x) q)
+  abandoning : (code : ℕ) (e f : ConnectingError) → e ≡ f → Alike side a b (fail_connect side a (close_when_open a code) e) (fail_connect side b (close_when_open b code) f)
+  abandoning code e f q = leaf side a b p (close_when_open a code) (close_when_open b code) HandshakeOver HandshakeOver _ _ (none-if a (actions.Close code []) p.closed) (none-if b (actions.Close code []) p.closed_too) refl (ap (λ x. replies.ConnectFailed x) q)
 
-  same-lost : lost a ≡ lost b
+  same-lost : loss_to_connect a ≡ loss_to_connect b
   same-lost = ap (λ e. connects.ConnectionError e) same-transport
 
   alike-walk : (id : ℕ) (r : ResponseWalk) → Alike side a b (read_response side a id [] r) (read_response side b id [] r)
@@ -397,9 +397,6 @@ unfolding call_effect
 alike-call side a b p (calls.Connect options lookup outcome) l = absurd (not-first side a p.closed l)
 alike-call side a b p calls.Incoming l = alike-incoming side a b p
 alike-call side a b p (calls.Accept headers) l = alike-respond side a b p true _ _
-alike-call side a b p calls.Forbidden l = alike-respond side a b p false _ _
-alike-call side a b p calls.NotFound l = alike-respond side a b p false _ _
-alike-call side a b p calls.TooManyRequests l = alike-respond side a b p false _ _
 alike-call side a b p calls.Handshake l = alike-handshake side a b p
 alike-call side a b p (calls.EndpointClose code reason) l = alike-close side a b p code reason
 alike-call side a b p calls.AcceptUni l = in-session side a b p _ _ (λ s. alike-accept side a b p replies.Uni (peer_uni side) s)
@@ -424,6 +421,7 @@ alike-call side a b p (calls.ResetSend id code) l = on-half side a b p _ _ _ (λ
 alike-call side a b p (calls.Read id size) l = on-half side a b p _ _ _ (λ k. read side b k size) id (same-receiving side a b p id) (alike-read side a b p id size)
 alike-call side a b p (calls.ReadExact id size) l = on-half side a b p _ _ _ (λ k. read_exact side b k size) id (same-receiving side a b p id) (alike-exact side a b p id size)
 alike-call side a b p (calls.StopRecv id code) l = on-half side a b p _ _ _ (λ k. stop_receiving side b k code) id (same-receiving side a b p id) (alike-stop side a b p id code)
+alike-call side a b p _ l = alike-respond side a b p false _ _
 
 late-logged : (side : Side) (log : Log) (e : Event) (b : Bool) → b ≡ false → flush side (event_entry b e ∷ log) ≡ ReportedLate e ∷ log
 unfolding flush
@@ -444,19 +442,7 @@ alike-turn side a b p (turns.Bytes id piece) l = record {
   after = subst (λ g. EndedAlike side (receive side a id piece) g) (sym (late-bytes side b id piece p.closed_too)) (subst (λ g. EndedAlike side g b) (sym (late-bytes side a id piece p.closed)) p);
   none = ap actions_of (late-bytes side a id piece p.closed);
 }
-alike-turn side a b p (turns.Connected uni bi credit fact) l = alike-event side a b (Connected uni bi credit fact) p
-alike-turn side a b p turns.PeerUni l = alike-event side a b PeerUni p
-alike-turn side a b p turns.PeerBi l = alike-event side a b PeerBi p
-alike-turn side a b p (turns.End id) l = alike-event side a b (End id) p
-alike-turn side a b p (turns.Reset id code) l = alike-event side a b (Reset id code) p
-alike-turn side a b p (turns.Stop id code) l = alike-event side a b (Stop id code) p
-alike-turn side a b p (turns.Acked id) l = alike-event side a b (Acked id) p
-alike-turn side a b p (turns.Datagram piece) l = alike-event side a b (Datagram piece) p
-alike-turn side a b p (turns.MaxUni total) l = alike-event side a b (MaxUni total) p
-alike-turn side a b p (turns.MaxBi total) l = alike-event side a b (MaxBi total) p
-alike-turn side a b p (turns.MaxData id total) l = alike-event side a b (MaxData id total) p
-alike-turn side a b p (turns.DatagramLimit fact) l = alike-event side a b (DatagramLimit fact) p
-alike-turn side a b p (turns.Loss reason) l = alike-event side a b (Loss reason) p
+alike-turn side a b p _ l = alike-event side a b _ p
 
 abbrev record_of : Reply → List Action → Answer
 record_of reply actions = record { reply = reply; actions = actions }
@@ -465,7 +451,7 @@ same-answer : (r s : Reply) (xs ys : List Action) → r ≡ s → xs ≡ ys → 
 same-answer r s xs ys p q = ap (λ x. record_of x xs) p ∙ ap (record_of s) q
 
 since : (a x : Log) → actions_of x ≡ actions_of a → actions_since a x ≡ []
-since a x e = ap (λ as_. joined (take (length as_ - length (actions_of a)) as_)) e ∙ none-since (actions_of a)
+since a x e = ap (λ as_. joined_actions (take (length as_ - length (actions_of a)) as_)) e ∙ none-since (actions_of a)
 
 alike-answer : (side : Side) (a b : Log) (t : Turn) → EndedAlike side a b → Alike side a b (turn_effect side a t) (turn_effect side b t) → answer_to side a t ≡ answer_to side b t
 alike-answer side a b t p q =

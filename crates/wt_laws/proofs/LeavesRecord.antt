@@ -14,7 +14,7 @@ use Rattle.wt_message.specs.FixedBytes.{response_bytes}
 use Rattle.wt_proto.specs.ResponseWalk.{response_walk_of}
 use Rattle.wt_proto.specs.declared.response_walk.ResponseWalk.{ResponseWalk}
 use Rattle.wt_seam_spec.specs.Joined.{send_of}
-use Rattle.wt_seam_spec.specs.Outgoing.{covered, if_open, may_open, opening}
+use Rattle.wt_seam_spec.specs.Outgoing.{bytes_within_credit, if_open, may_open, actions_to_open}
 use Rattle.wt_seam_spec.specs.Reports.{end_of, is_acknowledged, is_connected, stop_of}
 use Rattle.wt_seam_spec.specs.Sent.{is_finished, is_reset, priority_of, priority_set, resets}
 use Rattle.wt_seam_spec.specs.Streams.{contents, local_bi, local_count, local_uni}
@@ -36,12 +36,12 @@ use Rattle.wt_laws.proofs.TakenLaws.{by-test, opening-out}
 use Rattle.wt_laws.specs.Exactly.{response_by}
 use Rattle.wt_laws.specs.LeavesRecord.{LeavesRecord, is_handshake_call, is_without_session}
 use Rattle.wt_spec.specs.Answers.{answer_to, call_effect, in_session, is_lawful, log_after}
-use Rattle.wt_spec.specs.Connect.{address_of, authority_of, connect_to, dial, outcome_error, path_of, port_of, request_head, reserved_name, server_name, unless_stopped, with_address}
+use Rattle.wt_spec.specs.Connect.{address_of, authority_of, connect_to, outcome_error, path_of, port_of, request_head, reserved_name, server_name, unless_stopped, with_address}
 use Rattle.wt_spec.specs.Connection.{continue_opening, ends_opening, is_opening, poll_opening, send_header, starts_opening, stream_header}
-use Rattle.wt_spec.specs.Driver.{established, settings_came}
-use Rattle.wt_spec.specs.Effect.{Effect, closing, driver_error, head_left, is_covered, is_empty, log_call, transport_error}
+use Rattle.wt_spec.specs.Driver.{established_session, settings_came}
+use Rattle.wt_spec.specs.Effect.{Effect, close_when_open, driver_error, head_left, is_covered, is_empty, log_call, transport_error}
 use Rattle.wt_spec.specs.Halves.{gives_up, has_receiving_half, has_sending_half, is_accepted, is_done, on_half, reset, set_priority, stop_receiving}
-use Rattle.wt_spec.specs.Handshake.{Connecting, HandshakeState, Over, Responding, accept_response, await_or_fail, continue_by, continue_connect, deliver, fail_handshake, finish_rejection, handshake_state, has_success, is_refused, open_request, queued_requests, read_response, reject_response, requested, respond, response_head, send_request, unless_reserved}
+use Rattle.wt_spec.specs.Handshake.{Connecting, HandshakeState, Over, Responding, accept_response, await_or_fail, continue_by, continue_connect, deliver, fail_handshake, finish_rejection, handshake_state, has_success, is_refused, open_request, queued_requests, read_response, reject_response, requested_stream, respond, response_head, send_request, unless_reserved}
 use Rattle.wt_spec.specs.StreamTable.{Classified}
 use Rattle.wt_turn.specs.declared.action.Action.TheVariants as actions
 use Rattle.wt_turn.specs.declared.call.Call.TheVariants as calls
@@ -135,7 +135,7 @@ module _ (side : Side) (log : Log) where
 
     responds-accept : (id : ℕ) (left : List ℕ) → Responds (accept_response side log id left waiting)
     responds-accept id left =
-        by-test Responds (not (is_open log)) _ _ (λ o x. absurd (cc)) (λ o. by-test Responds (is_refused log id left) _ _ (λ r x. absurd (cc)) (λ r. by-test Responds (is_covered log id left) _ _ (λ c x. absurd (cc)) (λ c x. waits (send_of id (covered log id left)))))
+        by-test Responds (not (is_open log)) _ _ (λ o x. absurd (cc)) (λ o. by-test Responds (is_refused log id left) _ _ (λ r x. absurd (cc)) (λ r. by-test Responds (is_covered log id left) _ _ (λ c x. absurd (cc)) (λ c x. waits (send_of id (bytes_within_credit log id left)))))
 
     responds-finish : (id : ℕ) (left : List ℕ) → Responds (finish_rejection side log id left waiting)
     responds-finish id left =
@@ -143,11 +143,11 @@ module _ (side : Side) (log : Log) where
 
     responds-reject : (id : ℕ) (left : List ℕ) → Responds (reject_response side log id left waiting)
     responds-reject id left =
-        by-test Responds (not (is_open log)) _ _ (λ o x. absurd (cc)) (λ o. by-test Responds (is_refused log id left) _ _ (λ r x. absurd (cc)) (λ r. by-test Responds (is_covered log id left) _ _ (λ c. responds-finish id left) (λ c x. waits (send_of id (covered log id left)))))
+        by-test Responds (not (is_open log)) _ _ (λ o x. absurd (cc)) (λ o. by-test Responds (is_refused log id left) _ _ (λ r x. absurd (cc)) (λ r. by-test Responds (is_covered log id left) _ _ (λ c. responds-finish id left) (λ c x. waits (send_of id (bytes_within_credit log id left)))))
 
     responds : (b : Bool) → Responds (respond side log b head waiting)
-    responds true = responds-accept (requested (calls_of log)) _
-    responds false = responds-reject (requested (calls_of log)) _
+    responds true = responds-accept (requested_stream (calls_of log)) _
+    responds false = responds-reject (requested_stream (calls_of log)) _
 
   -- where the handshake is with this response
   abbrev state_with : Option (Bool × List ℕ) → HandshakeState
@@ -204,41 +204,41 @@ module _ (side : Side) (log : Log) where
 
   ends-accept : (id : ℕ) (left : List ℕ) (waiting : CallRecord) → Ends (accept_response side log id left waiting)
   ends-accept id left waiting =
-      by-test Ends (not (is_open log)) _ _ (λ o. ends [] _) (λ o. by-test Ends (is_refused log id left) _ _ (λ r. ends (closing log (code_of h3.ClosedCriticalStream)) _) (λ r. by-test Ends (is_covered log id left) _ _ (λ c. goes-on _ refl) (λ c. goes-on _ refl)))
+      by-test Ends (not (is_open log)) _ _ (λ o. ends [] _) (λ o. by-test Ends (is_refused log id left) _ _ (λ r. ends (close_when_open log (code_of h3.ClosedCriticalStream)) _) (λ r. by-test Ends (is_covered log id left) _ _ (λ c. goes-on _ refl) (λ c. goes-on _ refl)))
 
   ends-finish : (id : ℕ) (left : List ℕ) (waiting : CallRecord) → Ends (finish_rejection side log id left waiting)
   ends-finish id left waiting =
-      by-test Ends (not (is_finished (actions_of log) id)) _ _ (λ f. goes-on _ refl) (λ f. by-test Ends (is_some (stop_of (events_of log) id) || is_acknowledged (events_of log) id) _ _ (λ s. ends (closing log 0) _) (λ s. goes-on _ refl))
+      by-test Ends (not (is_finished (actions_of log) id)) _ _ (λ f. goes-on _ refl) (λ f. by-test Ends (is_some (stop_of (events_of log) id) || is_acknowledged (events_of log) id) _ _ (λ s. ends (close_when_open log 0) _) (λ s. goes-on _ refl))
 
   ends-reject : (id : ℕ) (left : List ℕ) (waiting : CallRecord) → Ends (reject_response side log id left waiting)
   ends-reject id left waiting =
-      by-test Ends (not (is_open log)) _ _ (λ o. ends [] _) (λ o. by-test Ends (is_refused log id left) _ _ (λ r. ends (closing log (code_of h3.ClosedCriticalStream)) _) (λ r. by-test Ends (is_covered log id left) _ _ (λ c. ends-finish id left waiting) (λ c. goes-on _ refl)))
+      by-test Ends (not (is_open log)) _ _ (λ o. ends [] _) (λ o. by-test Ends (is_refused log id left) _ _ (λ r. ends (close_when_open log (code_of h3.ClosedCriticalStream)) _) (λ r. by-test Ends (is_covered log id left) _ _ (λ c. ends-finish id left waiting) (λ c. goes-on _ refl)))
 
   ends-respond : (b : Bool) (head : List ℕ) (waiting : CallRecord) → Ends (respond side log b head waiting)
-  ends-respond true head waiting = ends-accept (requested (calls_of log)) (head_left log (requested (calls_of log)) head) waiting
-  ends-respond false head waiting = ends-reject (requested (calls_of log)) (head_left log (requested (calls_of log)) head) waiting
+  ends-respond true head waiting = ends-accept (requested_stream (calls_of log)) (head_left log (requested_stream (calls_of log)) head) waiting
+  ends-respond false head waiting = ends-reject (requested_stream (calls_of log)) (head_left log (requested_stream (calls_of log)) head) waiting
 
   ends-read : (id : ℕ) (own : List Action) (walk : ResponseWalk) → Ends (read_response side log id own walk)
-  ends-read id own (responses.Fault code) = ends (own ++ closing log (code_of code)) _
-  ends-read id own responses.Ended = ends (own ++ closing log 0) _
+  ends-read id own (responses.Fault code) = ends (own ++ close_when_open log (code_of code)) _
+  ends-read id own responses.Ended = ends (own ++ close_when_open log 0) _
   ends-read id own responses.Waiting = by-test Ends (is_open log) _ _ (λ o. goes-on _ refl) (λ o. ends own _)
-  ends-read id own (responses.Response fields at) = by-test Ends (not (has_success fields)) _ _ (λ s. ends (own ++ closing log 0) _) (λ s. by-test Ends (is_open log) _ _ (λ o. goes-on _ refl) (λ o. ends own _))
+  ends-read id own (responses.Response fields at) = by-test Ends (not (has_success fields)) _ _ (λ s. ends (own ++ close_when_open log 0) _) (λ s. by-test Ends (is_open log) _ _ (λ o. goes-on _ refl) (λ o. ends own _))
 
   ends-send : (id : ℕ) (own : List Action) (left : List ℕ) → Ends (send_request side log id own left)
   ends-send id own left =
       by-test Ends (is_empty left) _ _ (λ e. ends-read id own (response_walk_of (contents log id) (end_of (events_of log) id))) (λ e.
       by-test Ends (not (is_open log)) _ _ (λ o. ends own _) (λ o.
-      by-test Ends (is_some (stop_of (events_of log) id)) _ _ (λ s. ends (own ++ closing log 0) _) (λ s.
+      by-test Ends (is_some (stop_of (events_of log) id)) _ _ (λ s. ends (own ++ close_when_open log 0) _) (λ s.
       by-test Ends (is_covered log id left) _ _ (λ c. ends-read id (own ++ send_of id left) (response_walk_of (contents log id) (end_of (events_of log) id))) (λ c. goes-on _ refl))))
 
   ends-request : (head : List ℕ) → Ends (open_request side log head)
   ends-request head =
       by-test Ends (not (local_count (actions_of log) (local_bi side) == 0)) _ _ (λ c. ends-send (local_bi side) [] (head_left log (local_bi side) head)) (λ c.
       by-test Ends (not (is_open log)) _ _ (λ o. ends [] _) (λ o.
-      by-test Ends (may_open side log (local_bi side)) _ _ (λ m. ends-send (local_bi side) (opening side log (local_bi side)) (head_left log (local_bi side) head)) (λ m. goes-on _ refl)))
+      by-test Ends (may_open side log (local_bi side)) _ _ (λ m. ends-send (local_bi side) (actions_to_open side log (local_bi side)) (head_left log (local_bi side) head)) (λ m. goes-on _ refl)))
 
   ends-unless : (reserved : Option (List ℕ)) (head : List ℕ) → Ends (unless_reserved side log reserved head)
-  ends-unless (Some name) head = ends (closing log 0) _
+  ends-unless (Some name) head = ends (close_when_open log 0) _
   ends-unless None head = ends-request head
 
   ends-await : (e : ConnectionError) → Ends (await_or_fail side log e)
@@ -287,7 +287,7 @@ pub leaves-record : (side : Side) (log : Log) (turn : Turn) → is_lawful side l
 unfolding call_effect
 leaves-record side log turn l = record {
   opening = λ k e. started side log turn k l e;
-  failed = λ k e t. of-turn (λ u. (answer_to side log u).reply ≡ replies.OpeningFailed e → is_opening (log_after side log u) k ≡ false) turn (turns.Call (calls.PollOpening k)) t (failing-poll side log k e (established (calls_of log)));
+  failed = λ k e t. of-turn (λ u. (answer_to side log u).reply ≡ replies.OpeningFailed e → is_opening (log_after side log u) k ≡ false) turn (turns.Call (calls.PollOpening k)) t (failing-poll side log k e (established_session (calls_of log)));
   given_up = λ k code t. of-turn (λ u. (answer_to side log u).reply ≡ replies.Done → has_receiving_half side (log_after side log u) k ≡ false) turn (turns.Call (calls.StopRecv k code)) t (given-up side log k code (has_receiving_half side log k));
   reset = λ k code t. of-turn (λ u. (answer_to side log u).reply ≡ replies.Done → is_reset (log_after side log u) k ≡ true) turn (turns.Call (calls.ResetSend k code)) t (resetting-half side log k code (has_sending_half side log k));
   priority = λ k p t h d. of-turn (λ u. priority_of (calls_of (log_after side log u)) k ≡ p) turn (turns.Call (calls.SetPriority k p)) t (sets side log k p (has_sending_half side log k) h d);

@@ -1,3 +1,4 @@
+pub mod PeersExist
 pub mod Moments
 pub mod Classified
 pub mod Steps

@@ -19,7 +19,7 @@ use Rattle.wt_laws.specs.Faults.{SettingsRead}
 use Rattle.wt_laws.specs.Reachable.{is_among}
 use Rattle.wt_spec.specs.Driver.{apply_if, call_view, is_moment, stream_table, transport_view}
 use Rattle.wt_spec.specs.Scan.{Scan, SlotRule, bi_ids, bi_rule, check_control, check_datagram, check_qpack, check_session, checks, classify, critical_if, dequeue, dequeued_datagram, ended_by, has, in_order, parsed_datagram, scan, scan_bis, scan_order, scan_unis, session_ends, stream_ids, uni_ids, uni_rule, unless_ended, visit, with_classified, with_fault, without_stops}
-use Rattle.wt_spec.specs.StreamTable.{ByFault, BySession, CallView, Classified, Consequence, Dispatched, Ending, Progress, StreamTable, TransportView, bi_consequence, dispatched, uni_consequence, verdict_of}
+use Rattle.wt_spec.specs.StreamTable.{ByFault, BySession, CallView, Classified, Consequence, Dispatched, Ending, DriverProgress, StreamTable, TransportView, bi_consequence, dispatched_streams, uni_consequence, verdict_of}
 use Rattle.wt_wire.specs.declared.error.ErrorCode.TheVariants as h3
 use Rattle.wt_proto.specs.declared.session_walk.SessionWalk.TheVariants as walks
 
@@ -32,7 +32,7 @@ pub record Causes : Type 1 where
   pub datagram : ℕ → Type 0
   pub settings : List Classified → Type 0
 
-abbrev pub with_progress : StreamTable → Progress → StreamTable
+abbrev pub with_progress : StreamTable → DriverProgress → StreamTable
 with_progress t p = record t { progress = p }
 
 -- a property that each way keeps
@@ -52,7 +52,7 @@ KeepsTable P f = (t : StreamTable) → P t → P (f t)
 -- why the stream is classified by this rule
 abbrev pub CausedBy : Causes → CallView → SlotRule → ℕ → Type 0
 CausedBy c calls rule k =
-    is_final (rule.verdict k) ≡ true → (t : StreamTable) → c.classified t k (rule.verdict k) (rule.consequence (dispatched calls t.classified) k (rule.verdict k))
+    is_final (rule.verdict k) ≡ true → (t : StreamTable) → c.classified t k (rule.verdict k) (rule.consequence (dispatched_streams calls t.classified) k (rule.verdict k))
 
 -- it holds of each of these
 abbrev pub OfEach : (ℕ → Type 0) → List ℕ → Type 0
@@ -97,60 +97,60 @@ pub record CheckCauses (c : Causes) (cs : List Classified) (t : TransportView) (
   pub settings : (x : ℕ × ℕ) → d.control ≡ Some x → is_some (control_walk_of (drop x.1 (t.contents x.0)) (t.end x.0)).settings ≡ true → c.settings cs
 
 module _ {c : Causes} (P : StreamTable → Type 0) (i : IsKept c P) (table : StreamTable) where
-  abbrev At : Progress → Type 0
+  abbrev At : DriverProgress → Type 0
   At p = P (with_progress table p)
 
-  kept-critical : (b : Bool) (p : Progress) → At p → At (critical_if b p)
+  kept-critical : (b : Bool) (p : DriverProgress) → At p → At (critical_if b p)
   kept-critical true p h = i.by_ending (with_progress table p) (ByFault h3.ClosedCriticalStream) h
   kept-critical false p h = h
 
-  kept-parsed : (r : Result (ℕ × List ℕ) ErrorCode) (p : Progress) → At p → At (parsed_datagram r p)
+  kept-parsed : (r : Result (ℕ × List ℕ) ErrorCode) (p : DriverProgress) → At p → At (parsed_datagram r p)
   kept-parsed (Ok d) p h = h
   kept-parsed (Err code) p h = i.by_ending (with_progress table p) (ByFault code) h
 
-  kept-datagram : (o : Option (List ℕ)) (p : Progress) → (is_some o ≡ true → c.datagram p.datagrams) → At p → At (dequeued_datagram o p)
+  kept-datagram : (o : Option (List ℕ)) (p : DriverProgress) → (is_some o ≡ true → c.datagram p.datagrams) → At p → At (dequeued_datagram o p)
   kept-datagram None p q h = h
   kept-datagram (Some piece) p q h = kept-parsed (datagram_of piece) (record p { datagrams = suc p.datagrams }) (i.by_datagram (with_progress table p) (q refl) h)
 
-  kept-session-ends : (w : SessionWalk) (b : Bool) (p : Progress) → At p → At (session_ends w b p)
+  kept-session-ends : (w : SessionWalk) (b : Bool) (p : DriverProgress) → At p → At (session_ends w b p)
   kept-session-ends walks.Running b p h = h
   kept-session-ends (walks.Closed code reason) b p h = i.by_ending (with_progress table p) (BySession code reason b) h
   kept-session-ends (walks.Fault code) b p h = i.by_ending (with_progress table p) (ByFault code) h
 
-  kept-with-fault : (o : Option ErrorCode) (p : Progress) → At p → At (with_fault o p)
+  kept-with-fault : (o : Option ErrorCode) (p : DriverProgress) → At p → At (with_fault o p)
   kept-with-fault None p h = h
   kept-with-fault (Some code) p h = i.by_ending (with_progress table p) (ByFault code) h
 
-  kept-qpack : (t : TransportView) (o : Option (ℕ × ℕ)) (p : Progress) → At p → At (check_qpack t o p)
+  kept-qpack : (t : TransportView) (o : Option (ℕ × ℕ)) (p : DriverProgress) → At p → At (check_qpack t o p)
   kept-qpack t None p h = h
   kept-qpack t (Some x) p h = kept-critical _ p h
 
-  abbrev AllKeep : List (Progress → Progress) → Type 0
+  abbrev AllKeep : List (DriverProgress → DriverProgress) → Type 0
   AllKeep [] = Unit {0}
-  AllKeep (f ∷ fs) = ((p : Progress) → At p → At (f p)) × AllKeep fs
+  AllKeep (f ∷ fs) = ((p : DriverProgress) → At p → At (f p)) × AllKeep fs
 
-  kept-check : (f : Progress → Progress) → ((p : Progress) → At p → At (f p)) → (o : Option Ending) (p : Progress) → At p → At (unless_ended o f p)
+  kept-check : (f : DriverProgress → DriverProgress) → ((p : DriverProgress) → At p → At (f p)) → (o : Option Ending) (p : DriverProgress) → At p → At (unless_ended o f p)
   kept-check f g None p h = g p h
   kept-check f g (Some e) p h = h
 
-  kept-in-order : (fs : List (Progress → Progress)) → AllKeep fs → (p : Progress) → At p → At (in_order fs p)
+  kept-in-order : (fs : List (DriverProgress → DriverProgress)) → AllKeep fs → (p : DriverProgress) → At p → At (in_order fs p)
   kept-in-order [] a p h = h
   kept-in-order (f ∷ fs) a p h = kept-in-order fs a.1 _ (kept-check f a.0 p.ending p h)
 
   module _ (t : TransportView) (calls : CallView) (d : Dispatched) (q : CheckCauses c table.classified t d) where
-    kept-check-datagram : (b : Bool) (p : Progress) → At p → At (check_datagram b t p)
+    kept-check-datagram : (b : Bool) (p : DriverProgress) → At p → At (check_datagram b t p)
     kept-check-datagram true p h = kept-datagram (t.datagram p.datagrams) p (q.datagram p.datagrams) h
     kept-check-datagram false p h = h
 
-    kept-session : (o : Option (ℕ × ℕ)) (p : Progress) → At p → At (check_session t o p)
+    kept-session : (o : Option (ℕ × ℕ)) (p : DriverProgress) → At p → At (check_session t o p)
     kept-session None p h = h
     kept-session (Some s) p h = kept-session-ends (session_walk_of (drop s.1 (t.contents s.0)) (t.end s.0)) _ p h
 
-    kept-control : (o : Option (ℕ × ℕ)) → d.control ≡ o → (p : Progress) → At p → At (check_control t o p)
+    kept-control : (o : Option (ℕ × ℕ)) → d.control ≡ o → (p : DriverProgress) → At p → At (check_control t o p)
     kept-control None e p h = h
     kept-control (Some x) e p h = kept-with-fault _ _ (i.by_settings (with_progress table p) _ (q.settings x e) h)
 
-    kept-checks : (p : Progress) → At p → At (in_order (checks t calls d) p)
+    kept-checks : (p : DriverProgress) → At p → At (in_order (checks t calls d) p)
     kept-checks p h = kept-in-order (checks t calls d) (
       (λ u g. kept-check-datagram (t.ready && calls.datagrams == u.datagrams) u g),
       (
@@ -167,9 +167,9 @@ module _ {c : Causes} (P : StreamTable → Type 0) (i : IsKept c P) (table : Str
 -- the peer's stream k has this verdict, over all that came for it, and this is what classifying it leads to
 pub data ClassifiedAs (side : Side) (log : Log) (t : StreamTable) (k : ℕ) (v : Verdict) (e : Consequence) : Type 0 where
   AsUni : is_among (peer_uni side) (peer_count side (events_of log) (peer_uni side)) k ≡ true → uni_verdict_of (contents log k) (end_of (events_of log) k) ≡ v → is_final v ≡ true
-      → e ≡ uni_consequence (dispatched (call_view log) t.classified) k v → ClassifiedAs side log t k v e
+      → e ≡ uni_consequence (dispatched_streams (call_view log) t.classified) k v → ClassifiedAs side log t k v e
   AsBi : is_among (peer_bi side) (peer_count side (events_of log) (peer_bi side)) k ≡ true → bi_verdict_of (contents log k) (end_of (events_of log) k) ≡ v → is_final v ≡ true
-      → e ≡ bi_consequence (dispatched (call_view log) t.classified) k v → ClassifiedAs side log t k v e
+      → e ≡ bi_consequence (dispatched_streams (call_view log) t.classified) k v → ClassifiedAs side log t k v e
 
 abbrev pub causes : Side → Log → Causes
 causes side log = record {
@@ -179,7 +179,7 @@ causes side log = record {
 }
 
 -- what the checks dequeue and read at this log has a cause
-check-causes : (side : Side) (log : Log) (cs : List Classified) → CheckCauses (causes side log) cs (transport_view side log) (dispatched (call_view log) cs)
+check-causes : (side : Side) (log : Log) (cs : List Classified) → CheckCauses (causes side log) cs (transport_view side log) (dispatched_streams (call_view log) cs)
 check-causes side log cs = record { datagram = λ n e. e; settings = λ x e r. record { control = x; first = e; read = r } }
 
 is-among : (kind n count : ℕ) → nat_lt kind 4 ≡ true → is_among kind (n + suc count) (4 * n + kind) ≡ true
@@ -218,7 +218,7 @@ kept-moment P side log i t p =
     let v = transport_view side log in
     let calls = call_view log in
     let table = scan_bis v calls (scan_unis v calls (without_stops t)) in
-    kept-checks P i table v calls (dispatched calls table.classified) (check-causes side log table.classified) table.progress (kept-streams P side log i t p)
+    kept-checks P i table v calls (dispatched_streams calls table.classified) (check-causes side log table.classified) table.progress (kept-streams P side log i t p)
 
 kept-if : (P : StreamTable → Type 0) (f : StreamTable → StreamTable) → KeepsTable P f → (b : Bool) → KeepsTable P (apply_if b f)
 kept-if P f k true t p = k t p

@@ -9,7 +9,7 @@ use Rattle.wt_laws.proofs.Moments.{AsBi, AsUni, ClassifiedAs, IsKept, causes, ke
 use Rattle.wt_laws.specs.Faults.{FaultIsLast, NoneFaulty, StreamsFaultless, is_fault}
 use Rattle.wt_spec.specs.Driver.{call_view, stream_table}
 use Rattle.wt_spec.specs.Scan.{fault_ending}
-use Rattle.wt_spec.specs.StreamTable.{Classified, Consequence, Dispatched, StreamTable, bi_consequence, dispatched, uni_consequence}
+use Rattle.wt_spec.specs.StreamTable.{Classified, Consequence, Dispatched, StreamTable, bi_consequence, dispatched_streams, uni_consequence}
 use Rattle.wt_proto.specs.declared.verdict.Verdict.TheVariants as verdicts
 
 -- ---- one more in the list
@@ -36,8 +36,8 @@ pub same-fault : (x y : Consequence) → x ≡ y → fault_ending x.fault ≡ No
 same-fault x y e n = ap (λ (z : Consequence). z.fault) (sym e) ∙ no-ending x.fault n
 
 classified-none : (side : Side) (log : Log) (t : StreamTable) (k : ℕ) (v : Verdict) (e : Consequence) → ClassifiedAs side log t k v e → fault_ending e.fault ≡ None → is_fault v ≡ false
-classified-none side log t k v e (AsUni a u f c) n = uni-none (dispatched (call_view log) t.classified) k v (same-fault e _ c n)
-classified-none side log t k v e (AsBi a u f c) n = bi-none (dispatched (call_view log) t.classified) k v (same-fault e _ c n)
+classified-none side log t k v e (AsUni a u f c) n = uni-none (dispatched_streams (call_view log) t.classified) k v (same-fault e _ c n)
+classified-none side log t k v e (AsBi a u f c) n = bi-none (dispatched_streams (call_view log) t.classified) k v (same-fault e _ c n)
 
 fault-last : (cs : List Classified) (x : Classified) → NoneFaulty cs → FaultIsLast (cs ++ x ∷ [])
 fault-last [] x n = (λ f. refl, tt)

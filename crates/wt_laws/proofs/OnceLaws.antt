@@ -5,9 +5,9 @@ use Rattle.wt_message.specs.Requests.{request_of}
 use Rattle.wt_message.specs.declared.session.HeadersParseError.{HeadersParseError}
 use Rattle.wt_message.specs.declared.session.HeadersParseError.TheVariants as parses
 use Rattle.wt_proto.specs.Bi.{bi_decides, bi_effect, bi_verdict_of, headers_verdict, parsed_verdict}
-use Rattle.wt_proto.specs.FrameSteps.{decided}
+use Rattle.wt_proto.specs.FrameSteps.{step_of_item}
 use Rattle.wt_proto.specs.Uni.{at_stream_end, session_verdict}
-use Rattle.wt_proto.specs.Walk.{led, walk}
+use Rattle.wt_proto.specs.Walk.{step_on, walk}
 use Rattle.wt_proto.specs.declared.verdict.Verdict.{Verdict}
 use Rattle.wt_proto.specs.declared.walk.Step.{Step}
 use Rattle.wt_proto.specs.declared.walk.Step.TheVariants.{Cut, Goes, Stops}
@@ -26,7 +26,7 @@ use Rattle.wt_laws.proofs.NoFault.{same-fault}
 use Rattle.wt_laws.specs.Faults.{AtMostOne, ComesOnce, ControlOnce, DecoderOnce, EncoderOnce, OnceEach}
 use Rattle.wt_spec.specs.Driver.{call_view, stream_table}
 use Rattle.wt_spec.specs.Scan.{fault_ending}
-use Rattle.wt_spec.specs.StreamTable.{CallView, Classified, Consequence, StreamTable, control_start, decoder_start, dispatched, encoder_start, first_at, only_once, or_later, paired, uni_consequence}
+use Rattle.wt_spec.specs.StreamTable.{CallView, Classified, Consequence, StreamTable, control_start, decoder_start, dispatched_streams, encoder_start, first_at, only_once, or_later, offset_with_id, uni_consequence}
 use Rattle.wt_proto.specs.declared.verdict.Verdict.TheVariants as verdicts
 use Rattle.wt_wire.specs.declared.side.StreamEnd.TheVariants as ends
 
@@ -55,7 +55,7 @@ walk-not-once decide d (b ∷ bytes) s (Some v) zero q = q
 walk-not-once decide d (b ∷ bytes) s None zero q = at (decide s (b ∷ bytes)) (d s (b ∷ bytes)) (walk-not-once decide d bytes)
   where
     at : (x : Step ℕ Verdict) → StopsNotOnce x → ((s : ℕ) (stop : Option Verdict) (n : ℕ) → NotOnce stop → NotOnce (walk decide s stop n bytes).stop)
-        → NotOnce (led (record { state = s; stop = None; between = false }) (λ t stop n. walk decide t stop (n - 1) bytes) s x).stop
+        → NotOnce (step_on (record { state = s; stop = None; between = false }) (λ t stop n. walk decide t stop (n - 1) bytes) s x).stop
     at Cut p f = tt
     at (Goes t n) p f = f t None (n - 1) tt
     at (Stops v n) p f = f s (Some v) (n - 1) p
@@ -80,11 +80,9 @@ effect-not-once : (at_ size : ℕ) (f : frames.Frame) → StopsNotOnce (bi_effec
 effect-not-once at_ size (frames.Skipped kind) = tt
 effect-not-once at_ size (frames.Signal id) = session-not-once id (at_ + size)
 effect-not-once at_ size (frames.Headers payload) = headers-not-once (at_ + size) (headers_of payload)
-effect-not-once at_ size frames.TooLong = refl
-effect-not-once at_ size (frames.Data payload) = refl
-effect-not-once at_ size (frames.Settings payload) = refl
+effect-not-once at_ size _ = refl
 
-decided-not-once : (at_ : ℕ) (o : Option (frames.Frame × ℕ)) → StopsNotOnce (decided (bi_effect at_) o)
+decided-not-once : (at_ : ℕ) (o : Option (frames.Frame × ℕ)) → StopsNotOnce (step_of_item (bi_effect at_) o)
 decided-not-once at_ None = tt
 decided-not-once at_ (Some item) = effect-not-once at_ item.1 item.0
 
@@ -107,17 +105,15 @@ bi-not-once bytes end = or-not-once (walk bi_decides 0 None 0 bytes).stop _ (wal
 
 pub no-offset : (offset : Verdict → Option ℕ) → ComesOnce offset → (v : Verdict) → is_once v ≡ false → offset v ≡ None
 no-offset _ ControlOnce (verdicts.Control m) e = absurd (cc)
-no-offset _ ControlOnce _ e = refl
 no-offset _ EncoderOnce (verdicts.Encoder m) e = absurd (cc)
-no-offset _ EncoderOnce _ e = refl
 no-offset _ DecoderOnce (verdicts.Decoder m) e = absurd (cc)
-no-offset _ DecoderOnce _ e = refl
+no-offset _ _ _ e = refl
 
 -- ---- one more in the list
 
 first-none : (offset : Verdict → Option ℕ) (cs : List Classified) (x : Classified) → offset x.verdict ≡ None → first_at offset cs ≡ None → first_at offset (cs ++ x ∷ []) ≡ None
-first-none offset [] x o e = ap (λ (z : Option ℕ). or_later (paired x.id z) None) o
-first-none offset (c ∷ cs) x o e = at (paired c.id (offset c.verdict)) e (first-none offset cs x o)
+first-none offset [] x o e = ap (λ (z : Option ℕ). or_later (offset_with_id x.id z) None) o
+first-none offset (c ∷ cs) x o e = at (offset_with_id c.id (offset c.verdict)) e (first-none offset cs x o)
   where
     at : (y : Option (ℕ × ℕ)) → or_later y (first_at offset cs) ≡ None → (first_at offset cs ≡ None → first_at offset (cs ++ x ∷ []) ≡ None) → or_later y (first_at offset (cs ++ x ∷ [])) ≡ None
     at None e f = f e
@@ -131,9 +127,9 @@ one-other offset (c ∷ cs) x o a = (λ s. first-none offset cs x o (a.0 s), one
 -- the first of its kind
 one-first : (offset : Verdict → Option ℕ) (cs : List Classified) (x : Classified) → first_at offset cs ≡ None → AtMostOne offset (cs ++ x ∷ [])
 one-first offset [] x e = (λ s. refl, tt)
-one-first offset (c ∷ cs) x e = (λ s. absurd (taken (offset c.verdict) s e), one-first offset cs x (later (paired c.id (offset c.verdict)) e))
+one-first offset (c ∷ cs) x e = (λ s. absurd (taken (offset c.verdict) s e), one-first offset cs x (later (offset_with_id c.id (offset c.verdict)) e))
   where
-    taken : (o : Option ℕ) → is_some o ≡ true → or_later (paired c.id o) (first_at offset cs) ≡ None → ⊥
+    taken : (o : Option ℕ) → is_some o ≡ true → or_later (offset_with_id c.id o) (first_at offset cs) ≡ None → ⊥
     taken None s e = absurd (cc)
     taken (Some n) s e = absurd (cc)
 
@@ -147,7 +143,7 @@ none-before : (o : Option (ℕ × ℕ)) → (only_once o).fault ≡ None → o �
 none-before None e = refl
 none-before (Some x) e = absurd (cc)
 
-uni-once : (offset : Verdict → Option ℕ) → ComesOnce offset → (calls : CallView) (cs : List Classified) (x : Classified) (v : Verdict) → x.verdict ≡ v → (uni_consequence (dispatched calls cs) x.id v).fault ≡ None → AtMostOne offset cs → AtMostOne offset (cs ++ x ∷ [])
+uni-once : (offset : Verdict → Option ℕ) → ComesOnce offset → (calls : CallView) (cs : List Classified) (x : Classified) (v : Verdict) → x.verdict ≡ v → (uni_consequence (dispatched_streams calls cs) x.id v).fault ≡ None → AtMostOne offset cs → AtMostOne offset (cs ++ x ∷ [])
 uni-once _ ControlOnce calls cs x (verdicts.Control m) e f a = one-first control_start cs x (none-before (first_at control_start cs) f)
 uni-once _ ControlOnce calls cs x _ e f a = one-other control_start cs x (ap control_start e) a
 uni-once _ EncoderOnce calls cs x (verdicts.Encoder m) e f a = one-first encoder_start cs x (none-before (first_at encoder_start cs) f)

@@ -1,5 +1,5 @@
 -- In which order this end opens its streams.
-use Rattle.std.specs.Prelude.{[], ◌%◌, ◌&&◌, ◌*◌, ◌+◌, ◌++◌, ◌/◌, ◌<◌, ◌==◌, ◌||◌, ◌∷◌, ◌≡◌, Bool, List, None, Option, Some, drop, false, not, take, true, ℕ}
+use Rattle.std.specs.Prelude.{[], ◌%◌, ◌&&◌, ◌*◌, ◌+◌, ◌++◌, ◌/◌, ◌<◌, ◌==◌, ◌||◌, ◌∷◌, ◌≡◌, Bool, List, None, Option, Some, drop, false, take, true, ℕ}
 use Rattle.std.proofs.Common.{◌∙◌, ap, arith, refl, subst, sym}
 use Rattle.std.proofs.lemmas.Bool.{eqb-true, not-false}
 use Rattle.wt_message.specs.FixedBytes.{local_control_bytes}
@@ -16,7 +16,7 @@ use Rattle.wt_laws.proofs.Steps.{Keeps}
 use Rattle.wt_laws.specs.Causes.{ActionCause, OwnCauses}
 use Rattle.wt_laws.specs.OpenedInOrder.{OpenedInOrder}
 use Rattle.wt_laws.specs.Reachable.{IsReachable}
-use Rattle.wt_spec.specs.Driver.{apply_if, close_actions, control_actions, control_sent, established, flush, is_moment, log_and_flush, pending_actions, session_id, stop_actions, stream_table, transport_view}
+use Rattle.wt_spec.specs.Driver.{apply_if, close_actions, control_actions, control_sent, established_session, flush, is_moment, log_and_flush, pending_actions, session_id, stop_actions, stream_table, transport_view}
 use Rattle.wt_spec.specs.StreamTable.{ByFault, BySession, Ending, Stopped}
 use Rattle.wt_turn.specs.declared.action.Action.TheVariants as actions
 
@@ -123,7 +123,7 @@ flush-order side e log p = at (is_moment e && is_open (e ∷ log))
     at : (b : Bool) → OpenedInOrder (apply_if b (with_actions (pending_actions side (e ∷ log))) (e ∷ log))
     at false = p
     at true =
-        driver-order side (e ∷ log) (transport_view side (e ∷ log)).may_open (control_sent side (e ∷ log)).opened (transport_view side (e ∷ log)).credit (control_sent side (e ∷ log)).sent (stream_table side (e ∷ log)).progress.stops (session_id (established (calls_of (e ∷ log)))) (stream_table side (e ∷ log)).progress.ending
+        driver-order side (e ∷ log) (transport_view side (e ∷ log)).may_open (control_sent side (e ∷ log)).opened (transport_view side (e ∷ log)).credit (control_sent side (e ∷ log)).sent (stream_table side (e ∷ log)).progress.stops (session_id (established_session (calls_of (e ∷ log)))) (stream_table side (e ∷ log)).progress.ending
         (λ o. first-control side (actions_of (e ∷ log)) (eqb-true (local_count (actions_of (e ∷ log)) (local_uni side)) 0 (not-false (local_count (actions_of (e ∷ log)) (local_uni side) == 0) o))) p
 
 keeps-order : (side : Side) (turn : Turn) → Keeps side turn OpenedInOrder

@@ -12,7 +12,7 @@ use Rattle.wt_laws.proofs.Looks.{from-or}
 use Rattle.wt_laws.specs.Runs.{AllLater, InOrderOfOpening}
 use Rattle.wt_spec.specs.Driver.{apply_if, call_view, is_moment, stream_table, transport_view}
 use Rattle.wt_spec.specs.Scan.{Scan, SlotRule, bi_rule, classify, dequeue, has, is_released, occupied, scan, scan_order, scan_unis, stream_ids, uni_rule, unless_ended, visit, with_classified, with_dequeued, without_stops}
-use Rattle.wt_spec.specs.StreamTable.{CallView, Classified, Consequence, Ending, StreamTable, dispatched, verdict_of}
+use Rattle.wt_spec.specs.StreamTable.{CallView, Classified, Consequence, Ending, StreamTable, dispatched_streams, verdict_of}
 
 abbrev IsKnown : ℕ → List Classified → Type 0
 IsKnown k cs = is_some (verdict_of k cs) ≡ true
@@ -176,7 +176,7 @@ module _ (kind : ℕ) (ready : Bool) (calls : CallView) (rule : SlotRule) where
     look-classify n true s h u p =
         let k = 4 * n + kind in
         let v = rule.verdict k in
-        let e = rule.consequence (dispatched calls s.table.classified) k v in
+        let e = rule.consequence (dispatched_streams calls s.table.classified) k v in
         record {
           ordered = ordered-classified kind k v e s.table h u p.ordered;
           seen = λ z j m l. at-index n j (with_classified k v e s.table).classified (known-last s.table.classified (record { id = k; verdict = v; surplus = e.surplus }))

@@ -11,7 +11,7 @@ use Rattle.wt_message.specs.FixedBytes.{response_bytes}
 use Rattle.wt_proto.specs.ResponseWalk.{response_walk_of}
 use Rattle.wt_proto.specs.declared.response_walk.ResponseWalk.{ResponseWalk}
 use Rattle.wt_seam_spec.specs.Joined.{send_of}
-use Rattle.wt_seam_spec.specs.Outgoing.{covered, credit_left, may_open, opening}
+use Rattle.wt_seam_spec.specs.Outgoing.{bytes_within_credit, credit_left, may_open, actions_to_open}
 use Rattle.wt_seam_spec.specs.Reports.{datagram_fact, datagrams_of, end_of, is_acknowledged, is_connected, is_running, stop_of}
 use Rattle.wt_seam_spec.specs.Sent.{is_finished}
 use Rattle.wt_seam_spec.specs.Streams.{contents, local_bi, local_count, local_uni, peer_bi, peer_count, peer_uni}
@@ -43,10 +43,10 @@ use Rattle.wt_laws.specs.Told.{given_stream}
 use Rattle.wt_spec.specs.Answers.{answer_to, call_effect, in_session, is_client, is_first, is_lawful, may_call, on_session, turn_effect}
 use Rattle.wt_spec.specs.Connect.{address_of, connect_to, outcome_error, port_of, unless_stopped, with_address}
 use Rattle.wt_spec.specs.Connection.{accept_due, accept_first, accept_stream, datagram_allowed, datagram_within, give_or_pass, is_for_session, is_opening, next_datagram, next_due, open_stream, pass_stream, poll_opening, receive_datagram, receive_first, receive_next, receive_or_pass, send_datagram, stream_header}
-use Rattle.wt_spec.specs.Driver.{established, session_id, settings_came, settled_datagrams, stream_table}
+use Rattle.wt_spec.specs.Driver.{established_session, session_id, settings_came, settled_datagrams, stream_table}
 use Rattle.wt_spec.specs.Effect.{Effect, head_left, is_covered, is_empty, log_call, pending_or_failed, poll_only}
-use Rattle.wt_spec.specs.Halves.{all_written_reply, at_stream_end, exact_at_end, has_receiving_half, has_sending_half, is_done, on_half, read, read_exact, read_reply, reset, stopped_reply, unread_body, write_by, write_error, written_reply}
-use Rattle.wt_spec.specs.Handshake.{Connecting, HandshakeState, Responding, accept_response, continue_by, continue_connect, deliver, handshake_state, has_success, is_continuable, is_refused, open_request, queued_requests, read_response, reject_response, requested, respond, response_head, send_request, unless_reserved}
+use Rattle.wt_spec.specs.Halves.{all_written_reply, reply_at_end, exact_at_end, has_receiving_half, has_sending_half, is_done, on_half, read, read_exact, read_reply, reset, stopped_reply, unread_body, write_by, write_error, written_reply}
+use Rattle.wt_spec.specs.Handshake.{Connecting, HandshakeState, Responding, accept_response, continue_by, continue_connect, deliver, handshake_state, has_success, is_continuable, is_refused, open_request, queued_requests, read_response, reject_response, requested_stream, respond, response_head, send_request, unless_reserved}
 use Rattle.wt_spec.specs.StreamTable.{Classified}
 use Rattle.wt_turn.specs.declared.action.Action.TheVariants as actions
 use Rattle.wt_wire.specs.declared.error.ErrorCode.TheVariants as h3
@@ -100,8 +100,8 @@ module _ (side : Side) (log : Log) where
       in-order-rejected (is_open log) (is_refused log id left) (is_covered log id left) (is_finished (actions_of log) id) (is_some (stop_of (events_of log) id) || is_acknowledged (events_of log) id) _ _ _ _ _ _ refl refl refl refl refl refl
 
   waits-respond : (accepts : Bool) (head : List ℕ) (waiting : CallRecord) → Waits (is_open log && response_waits log accepts head) (respond side log accepts head waiting)
-  waits-respond true head waiting = waits-accepted (requested (calls_of log)) (head_left log (requested (calls_of log)) head) waiting
-  waits-respond false head waiting = waits-rejected (requested (calls_of log)) (head_left log (requested (calls_of log)) head) waiting
+  waits-respond true head waiting = waits-accepted (requested_stream (calls_of log)) (head_left log (requested_stream (calls_of log)) head) waiting
+  waits-respond false head waiting = waits-rejected (requested_stream (calls_of log)) (head_left log (requested_stream (calls_of log)) head) waiting
 
   if-open : (o : Bool) (x y : Effect) → Waits true x → Waits false y → Waits o (if o then x else y)
   if-open true x y p q = p
@@ -159,7 +159,7 @@ module _ (side : Side) (log : Log) where
   waits-opened head =
       let left = head_left log (local_bi side) head in
       opened-in-order (local_count (actions_of log) (local_bi side) == 0) (is_open log) (may_open side log (local_bi side)) (lacks_credit log (local_bi side) left || lacks_response side log left) _ _ _ _
-      (waits-sent [] left) refl (waits-sent (opening side log (local_bi side)) left) refl
+      (waits-sent [] left) refl (waits-sent (actions_to_open side log (local_bi side)) left) refl
 
   waits-reserved : (reserved : Option (List ℕ)) (head : List ℕ) → Waits (is_open log && (not (is_some reserved) && request_waits side log (head_left log (local_bi side) head))) (unless_reserved side log reserved head)
   waits-reserved (Some name) head = and-false (is_open log)
@@ -277,13 +277,13 @@ module _ (side : Side) (log : Log) where
   written-so (b ∷ bytes) [] = refl
   written-so (b ∷ bytes) (x ∷ out) = refl
 
-  waits-write : (k : ℕ) (bytes : List ℕ) (e : Option StreamWriteError) → write_error log k ≡ e → Waits (is_open log && (not (is_some e) && (not (is_empty bytes) && is_empty (covered log k bytes)))) (write_by written_reply side log k bytes e)
+  waits-write : (k : ℕ) (bytes : List ℕ) (e : Option StreamWriteError) → write_error log k ≡ e → Waits (is_open log && (not (is_some e) && (not (is_empty bytes) && is_empty (bytes_within_credit log k bytes)))) (write_by written_reply side log k bytes e)
   waits-write k bytes (Some e) w = and-false (is_open log)
-  waits-write k bytes None w = written-so bytes (covered log k bytes) ∙ ap (λ o. o && (not (is_empty bytes) && is_empty (covered log k bytes))) (sym (unhindered (is_open log) _ w))
+  waits-write k bytes None w = written-so bytes (bytes_within_credit log k bytes) ∙ ap (λ o. o && (not (is_empty bytes) && is_empty (bytes_within_credit log k bytes))) (sym (unhindered (is_open log) _ w))
 
   quiet-write-all : (k : ℕ) (bytes : List ℕ) (e : Option StreamWriteError) → Waits false (write_by all_written_reply side log k bytes e)
   quiet-write-all k bytes (Some e) = refl
-  quiet-write-all k bytes None = neither (length (covered log k bytes) == length bytes) _ _ refl refl
+  quiet-write-all k bytes None = neither (length (bytes_within_credit log k bytes) == length bytes) _ _ refl refl
 
   half-ended : (d o : Bool) (x y z : Reply) → is_pending x ≡ false → is_pending y ≡ true → is_pending z ≡ false → is_pending (if d then x else (if o then y else z)) ≡ (o && not d)
   half-ended true o x y z p q r = p ∙ and-false o
@@ -295,7 +295,7 @@ module _ (side : Side) (log : Log) where
   stopped-so k failing closed (Some code) f q = f (writes.Stopped code) ∙ and-false (is_open log)
   stopped-so k failing closed None f q = half-ended (is_done log k) (is_open log) _ _ _ q refl (f writes.NotConnected)
 
-  end-so : (e : StreamEnd) → is_pending (at_stream_end log e) ≡ (is_open log && is_running e)
+  end-so : (e : StreamEnd) → is_pending (reply_at_end log e) ≡ (is_open log && is_running e)
   end-so ends.Running = reply-if (is_open log) _ _ refl refl ∙ and-true (is_open log)
   end-so ends.Fin = and-false (is_open log)
   end-so (ends.Reset code) = and-false (is_open log)
@@ -339,17 +339,14 @@ module _ (side : Side) (log : Log) where
   waits-call calls.TooManyRequests l n = waits-respond false (response_bytes (codes "429")) _
   waits-call calls.Handshake l n = waits-continue (handshake_state (calls_of log)) l
   waits-call (calls.EndpointClose code reason) l n = and-false (is_open log)
-  waits-call calls.AcceptUni l n = absurd (cc)
-  waits-call calls.AcceptBi l n = absurd (cc)
-  waits-call calls.ReceiveDatagram l n = absurd (cc)
-  waits-call calls.OpenUni l n = in-session (λ s. not (may_open side log (local_uni side))) _ (established (calls_of log)) (waits-open (local_uni side))
-  waits-call calls.OpenBi l n = in-session (λ s. not (may_open side log (local_bi side))) _ (established (calls_of log)) (waits-open (local_bi side))
-  waits-call (calls.PollOpening id) l n = in-session (λ s. is_opening log id && lacks_credit log id (head_left log id (stream_header id s))) _ (established (calls_of log)) (waits-opening id)
-  waits-call (calls.SendDatagram payload) l n = quiet-session _ (established (calls_of log)) (quiet-datagram payload) ∙ and-false (is_open log)
-  waits-call calls.MaxDatagramSize l n = quiet-session _ (established (calls_of log)) (λ s. refl) ∙ and-false (is_open log)
-  waits-call calls.SessionId l n = quiet-session _ (established (calls_of log)) (λ s. refl) ∙ and-false (is_open log)
-  waits-call (calls.Close code reason) l n = quiet-session _ (established (calls_of log)) (λ s. refl) ∙ and-false (is_open log)
-  waits-call calls.Closed l n = in-session (λ s. true) _ (established (calls_of log)) (λ s. reply-if (is_open log) _ _ refl refl ∙ and-true (is_open log))
+  waits-call calls.OpenUni l n = in-session (λ s. not (may_open side log (local_uni side))) _ (established_session (calls_of log)) (waits-open (local_uni side))
+  waits-call calls.OpenBi l n = in-session (λ s. not (may_open side log (local_bi side))) _ (established_session (calls_of log)) (waits-open (local_bi side))
+  waits-call (calls.PollOpening id) l n = in-session (λ s. is_opening log id && lacks_credit log id (head_left log id (stream_header id s))) _ (established_session (calls_of log)) (waits-opening id)
+  waits-call (calls.SendDatagram payload) l n = quiet-session _ (established_session (calls_of log)) (quiet-datagram payload) ∙ and-false (is_open log)
+  waits-call calls.MaxDatagramSize l n = quiet-session _ (established_session (calls_of log)) (λ s. refl) ∙ and-false (is_open log)
+  waits-call calls.SessionId l n = quiet-session _ (established_session (calls_of log)) (λ s. refl) ∙ and-false (is_open log)
+  waits-call (calls.Close code reason) l n = quiet-session _ (established_session (calls_of log)) (λ s. refl) ∙ and-false (is_open log)
+  waits-call calls.Closed l n = in-session (λ s. true) _ (established_session (calls_of log)) (λ s. reply-if (is_open log) _ _ refl refl ∙ and-true (is_open log))
   waits-call (calls.Write id bytes) l n = on-half (has_sending_half side log id) _ _ id (waits-write id bytes (write_error log id) refl)
   waits-call (calls.WriteAll id bytes) l n = quiet-half (has_sending_half side log id) _ id (quiet-write-all id bytes (write_error log id))
   waits-call (calls.Finish id) l n = on-half (has_sending_half side log id) _ _ id (stopped-so id (λ e. replies.WriteFailed e) replies.Finished (stop_of (events_of log) id) (λ e. refl) refl)
@@ -360,6 +357,7 @@ module _ (side : Side) (log : Log) where
   waits-call (calls.Read id size) l n = on-half (has_receiving_half side log id) _ _ id (waits-read-call id size)
   waits-call (calls.ReadExact id size) l n = on-half (has_receiving_half side log id) _ _ id (waits-read-exact id size)
   waits-call (calls.StopRecv id code) l n = quiet-half (has_receiving_half side log id) _ id refl
+  waits-call _ l n = absurd (cc)
 
   waits-turn : (t : Turn) → is_lawful side log t ≡ true → (is_accept t || is_receive t) ≡ false → Waits (is_open log && has_nothing_left side t log) (turn_effect side log t)
   waits-turn (turns.Call c) l n = waits-call c l n
@@ -390,30 +388,30 @@ module _ (side : Side) (turn : Turn) where
 
   -- ---- accepts
 
-  module _ (kind : ℕ) (a : is_accept turn ≡ true) (n : is_receive turn ≡ false) (i : accepted_kind side turn ≡ kind) (w : (g : Log) → has_nothing_left side turn g ≡ has_no_stream side g kind) (reply : ℕ → Reply) (v : (g : Log) → passing_reply side turn g ≡ Some (session_reply (λ s. stream_reply side g reply (next_due side g kind s)) (established (calls_of g)))) (q : (k : ℕ) → is_pending (reply k) ≡ false) (s at : ℕ) where
-    nothing-so : (log : Log) (o : Option Classified) → established (calls_of log) ≡ Some (s, at) → next_due side log kind s ≡ o → has_nothing_left side turn log ≡ not (is_some o)
+  module _ (kind : ℕ) (a : is_accept turn ≡ true) (n : is_receive turn ≡ false) (i : accepted_kind side turn ≡ kind) (w : (g : Log) → has_nothing_left side turn g ≡ has_no_stream side g kind) (reply : ℕ → Reply) (v : (g : Log) → passing_reply side turn g ≡ Some (session_reply (λ s. stream_reply side g reply (next_due side g kind s)) (established_session (calls_of g)))) (q : (k : ℕ) → is_pending (reply k) ≡ false) (s at : ℕ) where
+    nothing-so : (log : Log) (o : Option Classified) → established_session (calls_of log) ≡ Some (s, at) → next_due side log kind s ≡ o → has_nothing_left side turn log ≡ not (is_some o)
     nothing-so log o d e = w log ∙ ap (of_session (λ j. not (is_some (next_due side log kind j)))) d ∙ ap (λ z. not (is_some z)) e
 
-    gives-so : (log : Log) (o : Option Classified) → established (calls_of log) ≡ Some (s, at) → next_due side log kind s ≡ o → passing_reply side turn log ≡ Some (stream_reply side log reply o)
+    gives-so : (log : Log) (o : Option Classified) → established_session (calls_of log) ≡ Some (s, at) → next_due side log kind s ≡ o → passing_reply side turn log ≡ Some (stream_reply side log reply o)
     gives-so log o d e = v log ∙ ap (λ z. Some (session_reply (λ j. stream_reply side log reply (next_due side log kind j)) z)) d ∙ ap (λ z. Some (stream_reply side log reply z)) e
 
     -- the stream that is found is the one that is due
-    same-found : (log : Log) (k : ℕ) (b : Bool) (o : Option Classified) → established (calls_of log) ≡ Some (s, at) → next_due side log kind s ≡ o → (f : FoundStream side turn log k b) → o ≡ Some f.found × (f.session ≡ s)
+    same-found : (log : Log) (k : ℕ) (b : Bool) (o : Option Classified) → established_session (calls_of log) ≡ Some (s, at) → next_due side log kind s ≡ o → (f : FoundStream side turn log k b) → o ≡ Some f.found × (f.session ≡ s)
     same-found log k b o d e f =
         let same : f.session ≡ s = ap session_id (sym f.is_established ∙ d) in
         (sym e ∙ ap (λ m. next_due side log m s) (sym i) ∙ ap (λ j. next_due side log (accepted_kind side turn) j) (sym same) ∙ f.next, same)
 
-    no-other : (log : Log) (k : ℕ) (c : Classified) → established (calls_of log) ≡ Some (s, at) → next_due side log kind s ≡ Some c → is_for_session s c.verdict ≡ true → FoundStream side turn log k false → ⊥
+    no-other : (log : Log) (k : ℕ) (c : Classified) → established_session (calls_of log) ≡ Some (s, at) → next_due side log kind s ≡ Some c → is_for_session s c.verdict ≡ true → FoundStream side turn log k false → ⊥
     no-other log k c d e t f =
         let x = same-found log k false (Some c) d e f in
         let y : c ≡ f.found = cc in
         absurd (let z = ap (λ (j : Classified). is_for_session s j.verdict) y in let v = ap (λ j. is_for_session j f.found.verdict) x.1 in let u = f.named in cc)
 
-    none-found : (log : Log) (k : ℕ) → established (calls_of log) ≡ Some (s, at) → next_due side log kind s ≡ None → FoundStream side turn log k false → ⊥
+    none-found : (log : Log) (k : ℕ) → established_session (calls_of log) ≡ Some (s, at) → next_due side log kind s ≡ None → FoundStream side turn log k false → ⊥
     none-found log k d e f = absurd (let x = (same-found log k false None d e f).0 in cc)
 
     decides-given : (again : Log → Effect) (log : Log) (c : Classified) (b : Bool) → Decides side turn (pass_stream side log c.id) (again (pass_stream side log c.id))
-        → established (calls_of log) ≡ Some (s, at) → next_due side log kind s ≡ Some c → is_for_session s c.verdict ≡ b → Decides side turn log (give_or_pass b side reply again log c.id)
+        → established_session (calls_of log) ≡ Some (s, at) → next_due side log kind s ≡ Some c → is_for_session s c.verdict ≡ b → Decides side turn log (give_or_pass b side reply again log c.id)
     decides-given again log c true r d e t = record {
       decided = log;
       passes = PassesNone;
@@ -434,7 +432,7 @@ module _ (side : Side) (turn : Turn) where
     }
 
     decides-due : (again : Log → Effect) (log : Log) (o : Option Classified) → ((c : Classified) → next_due side log kind s ≡ Some c → Decides side turn (pass_stream side log c.id) (again (pass_stream side log c.id)))
-        → established (calls_of log) ≡ Some (s, at) → next_due side log kind s ≡ o → Decides side turn log (accept_due side reply again s log o)
+        → established_session (calls_of log) ≡ Some (s, at) → next_due side log kind s ≡ o → Decides side turn log (accept_due side reply again s log o)
     decides-due again log None f d e = record {
       decided = log;
       passes = PassesNone;
@@ -446,15 +444,15 @@ module _ (side : Side) (turn : Turn) where
     }
     decides-due again log (Some c) f d e = decides-given again log c (is_for_session s c.verdict) (f c e) d e refl
 
-    decides-first : (m : ℕ) (log : Log) → established (calls_of log) ≡ Some (s, at) → left_to_release side log kind < m → Decides side turn log (accept_first m side reply kind s log)
+    decides-first : (m : ℕ) (log : Log) → established_session (calls_of log) ≡ Some (s, at) → left_to_release side log kind < m → Decides side turn log (accept_first m side reply kind s log)
     decides-first zero log d l = absurd (omega arith)
     decides-first (suc m) log d l =
         decides-due (λ later. accept_first m side reply kind s later) log (next_due side log kind s)
-        (λ c e. decides-first m (pass_stream side log c.id) (ap established (calls-logged side log (actions.StopOut c.id (code_of h3.BufferedStreamRejected) ∷ []) (StreamPassed c.id)) ∙ d)
+        (λ c e. decides-first m (pass_stream side log c.id) (ap established_session (calls-logged side log (actions.StopOut c.id (code_of h3.BufferedStreamRejected) ∷ []) (StreamPassed c.id)) ∙ d)
         (let p = pass-drops side log kind s c (actions.StopOut c.id (code_of h3.BufferedStreamRejected) ∷ []) e in omega arith)) d refl
 
   -- without a session nothing is passed
-  no-session : (log : Log) (call : ℕ → Effect) → established (calls_of log) ≡ None → has_nothing_left side turn log ≡ false → ((r : Reply) → passing_reply side turn log ≡ Some r → replies.NoSession ≡ r) → Decides side turn log (poll_only side log replies.NoSession)
+  no-session : (log : Log) (call : ℕ → Effect) → established_session (calls_of log) ≡ None → has_nothing_left side turn log ≡ false → ((r : Reply) → passing_reply side turn log ≡ Some r → replies.NoSession ≡ r) → Decides side turn log (poll_only side log replies.NoSession)
   no-session log call d w g = record {
     decided = log;
     passes = PassesNone;
@@ -465,30 +463,30 @@ module _ (side : Side) (turn : Turn) where
     gives = g;
   }
 
-  decides-in : (log : Log) (call : ℕ → Effect) (o : Option (ℕ × ℕ)) → established (calls_of log) ≡ o → (established (calls_of log) ≡ None → has_nothing_left side turn log ≡ false) → (established (calls_of log) ≡ None → (r : Reply) → passing_reply side turn log ≡ Some r → replies.NoSession ≡ r) → ((s at : ℕ) → established (calls_of log) ≡ Some (s, at) → Decides side turn log (call s))
+  decides-in : (log : Log) (call : ℕ → Effect) (o : Option (ℕ × ℕ)) → established_session (calls_of log) ≡ o → (established_session (calls_of log) ≡ None → has_nothing_left side turn log ≡ false) → (established_session (calls_of log) ≡ None → (r : Reply) → passing_reply side turn log ≡ Some r → replies.NoSession ≡ r) → ((s at : ℕ) → established_session (calls_of log) ≡ Some (s, at) → Decides side turn log (call s))
       → Decides side turn log (in_session side log call o)
   decides-in log call None d w g f = no-session log call d (w d) (g d)
   decides-in log call (Some s) d w g f = f s.0 s.1 d
 
   decides-accept : (log : Log) (kind : ℕ) (reply : ℕ → Reply) → is_accept turn ≡ true → is_receive turn ≡ false → accepted_kind side turn ≡ kind → ((g : Log) → has_nothing_left side turn g ≡ has_no_stream side g kind)
-      → ((g : Log) → passing_reply side turn g ≡ Some (session_reply (λ s. stream_reply side g reply (next_due side g kind s)) (established (calls_of g)))) → ((k : ℕ) → is_pending (reply k) ≡ false)
+      → ((g : Log) → passing_reply side turn g ≡ Some (session_reply (λ s. stream_reply side g reply (next_due side g kind s)) (established_session (calls_of g)))) → ((k : ℕ) → is_pending (reply k) ≡ false)
       → Decides side turn log (on_session side log (accept_stream side reply kind log))
   decides-accept log kind reply a n i w v q =
-      decides-in log (accept_stream side reply kind log) (established (calls_of log)) refl (λ d. w log ∙ ap (of_session (λ j. not (is_some (next_due side log kind j)))) d)
+      decides-in log (accept_stream side reply kind log) (established_session (calls_of log)) refl (λ d. w log ∙ ap (of_session (λ j. not (is_some (next_due side log kind j)))) d)
       (λ d r x. told (passing_reply side turn log) replies.NoSession _ (v log ∙ ap (λ z. Some (session_reply (λ j. stream_reply side log reply (next_due side log kind j)) z)) d) r x refl)
       (λ s at d. decides-first kind a n i w reply v q s at (suc (peer_count side (events_of log) kind)) log d (at-first side log kind))
 
   -- ---- datagrams
 
-  module _ (a : is_receive turn ≡ true) (n : is_accept turn ≡ false) (w : (g : Log) → has_nothing_left side turn g ≡ of_session (λ s. not (is_some (next_datagram side g))) (established (calls_of g)))
-      (v : (g : Log) → passing_reply side turn g ≡ Some (session_reply (λ s. datagram_reply side g (next_datagram side g)) (established (calls_of g)))) (s at : ℕ) where
-    none-so : (log : Log) (o : Option (ℕ × List ℕ)) → established (calls_of log) ≡ Some (s, at) → next_datagram side log ≡ o → has_nothing_left side turn log ≡ not (is_some o)
+  module _ (a : is_receive turn ≡ true) (n : is_accept turn ≡ false) (w : (g : Log) → has_nothing_left side turn g ≡ of_session (λ s. not (is_some (next_datagram side g))) (established_session (calls_of g)))
+      (v : (g : Log) → passing_reply side turn g ≡ Some (session_reply (λ s. datagram_reply side g (next_datagram side g)) (established_session (calls_of g)))) (s at : ℕ) where
+    none-so : (log : Log) (o : Option (ℕ × List ℕ)) → established_session (calls_of log) ≡ Some (s, at) → next_datagram side log ≡ o → has_nothing_left side turn log ≡ not (is_some o)
     none-so log o d e = w log ∙ ap (of_session (λ j. not (is_some (next_datagram side log)))) d ∙ ap (λ z. not (is_some z)) e
 
-    datagram-so : (log : Log) (o : Option (ℕ × List ℕ)) → established (calls_of log) ≡ Some (s, at) → next_datagram side log ≡ o → passing_reply side turn log ≡ Some (datagram_reply side log o)
+    datagram-so : (log : Log) (o : Option (ℕ × List ℕ)) → established_session (calls_of log) ≡ Some (s, at) → next_datagram side log ≡ o → passing_reply side turn log ≡ Some (datagram_reply side log o)
     datagram-so log o d e = v log ∙ ap (λ z. Some (session_reply (λ j. datagram_reply side log (next_datagram side log)) z)) d ∙ ap (λ z. Some (datagram_reply side log z)) e
 
-    no-other-datagram : (log : Log) (x : ℕ × List ℕ) → established (calls_of log) ≡ Some (s, at) → next_datagram side log ≡ Some x → (4 * x.0 == s) ≡ true → FoundDatagram side turn log false → ⊥
+    no-other-datagram : (log : Log) (x : ℕ × List ℕ) → established_session (calls_of log) ≡ Some (s, at) → next_datagram side log ≡ Some x → (4 * x.0 == s) ≡ true → FoundDatagram side turn log false → ⊥
     no-other-datagram log x d e t f =
         let same : f.session ≡ s = ap session_id (sym f.is_established ∙ d) in
         let z = f.next in
@@ -496,7 +494,7 @@ module _ (side : Side) (turn : Turn) where
         absurd (let u = ap (λ (j : ℕ × List ℕ). 4 * j.0 == s) y in let v = ap (λ j. 4 * f.datagram.0 == j) same in let t2 = f.named in cc)
 
     decides-taken : (again : Log → Effect) (log : Log) (x : ℕ × List ℕ) (b : Bool) → Decides side turn (log_call side log [] DatagramPassed) (again (log_call side log [] DatagramPassed))
-        → established (calls_of log) ≡ Some (s, at) → next_datagram side log ≡ Some x → (4 * x.0 == s) ≡ b → Decides side turn log (receive_or_pass b side again log x.1)
+        → established_session (calls_of log) ≡ Some (s, at) → next_datagram side log ≡ Some x → (4 * x.0 == s) ≡ b → Decides side turn log (receive_or_pass b side again log x.1)
     decides-taken again log x true r d e t = record {
       decided = log;
       passes = PassesNone;
@@ -516,7 +514,7 @@ module _ (side : Side) (turn : Turn) where
       gives = r.gives;
     }
 
-    none-waits : (log : Log) → established (calls_of log) ≡ Some (s, at) → next_datagram side log ≡ None → Decides side turn log (poll_only side log (pending_or_failed side log))
+    none-waits : (log : Log) → established_session (calls_of log) ≡ Some (s, at) → next_datagram side log ≡ None → Decides side turn log (poll_only side log (pending_or_failed side log))
     none-waits log d e = record {
       decided = log;
       passes = PassesNone;
@@ -528,7 +526,7 @@ module _ (side : Side) (turn : Turn) where
     }
 
     decides-next : (again : Log → Effect) (log : Log) (o : Option (ℕ × List ℕ)) → ((x : ℕ × List ℕ) → next_datagram side log ≡ Some x → Decides side turn (log_call side log [] DatagramPassed) (again (log_call side log [] DatagramPassed)))
-        → established (calls_of log) ≡ Some (s, at) → next_datagram side log ≡ o → Decides side turn log (receive_next side again s log o)
+        → established_session (calls_of log) ≡ Some (s, at) → next_datagram side log ≡ o → Decides side turn log (receive_next side again s log o)
     decides-next again log None f d e = none-waits log d e
     decides-next again log (Some x) f d e = decides-taken again log x (4 * x.0 == s) (f x e) d e refl
 
@@ -536,11 +534,11 @@ module _ (side : Side) (turn : Turn) where
     none-next log None e l = e
     none-next log (Some x) e l = let z = next-within side log x e in absurd (omega arith)
 
-    decides-receive : (m : ℕ) (log : Log) → established (calls_of log) ≡ Some (s, at) → length (datagrams_of (events_of log)) < settled_datagrams (calls_of log) + m → Decides side turn log (receive_first m side s log)
+    decides-receive : (m : ℕ) (log : Log) → established_session (calls_of log) ≡ Some (s, at) → length (datagrams_of (events_of log)) < settled_datagrams (calls_of log) + m → Decides side turn log (receive_first m side s log)
     decides-receive zero log d l = none-waits log d (none-next log (next_datagram side log) refl (omega arith))
     decides-receive (suc m) log d l =
         decides-next (λ later. receive_first m side s later) log (next_datagram side log)
-        (λ x e. decides-receive m (log_call side log [] DatagramPassed) (ap established (calls-logged side log [] DatagramPassed) ∙ d)
+        (λ x e. decides-receive m (log_call side log [] DatagramPassed) (ap established_session (calls-logged side log [] DatagramPassed) ∙ d)
         (rw (calls-logged side log [] DatagramPassed, events-logged side log [] DatagramPassed) (omega arith))) d refl
 
   -- ---- every turn
@@ -563,15 +561,15 @@ decides-passing side log (turns.Call calls.AcceptUni) p = decides-accept side (t
 decides-passing side log (turns.Call calls.AcceptBi) p = decides-accept side (turns.Call calls.AcceptBi) log (peer_bi side) replies.Bi refl refl refl (λ g. refl) (λ g. refl) (λ k. refl)
 decides-passing side log (turns.Call calls.ReceiveDatagram) p =
     let t = turns.Call calls.ReceiveDatagram in
-    decides-in side t log (receive_datagram side log) (established (calls_of log)) refl (λ d. ap (of_session (λ j. not (is_some (next_datagram side log)))) d)
+    decides-in side t log (receive_datagram side log) (established_session (calls_of log)) refl (λ d. ap (of_session (λ j. not (is_some (next_datagram side log)))) d)
     (λ d r x. told (passing_reply side t log) replies.NoSession _ (ap (λ z. Some (session_reply (λ j. datagram_reply side log (next_datagram side log)) z)) d) r x refl)
     (λ s at d. decides-receive side t refl refl (λ g. refl) (λ g. refl) s at (suc (length (datagrams_of (events_of log)))) log d (omega arith))
 decides-passing side log (turns.Call _) p = absurd (cc)
 decides-passing side log _ p = absurd (cc)
 
 -- where an accept gives no stream, none is due
-module _ (side : Side) (log : Log) (reply : Reply) (s at_ : ℕ) (d : established (calls_of log) ≡ Some (s, at_)) (n : given_stream reply ≡ None) where
-  none-due : (give : ℕ → Reply) (kind : ℕ) → ((j : ℕ) → given_stream (give j) ≡ Some j) → reply ≡ session_reply (λ (j : ℕ). stream_reply side log give (next_due side log kind j)) (established (calls_of log)) → next_due side log kind s ≡ None
+module _ (side : Side) (log : Log) (reply : Reply) (s at_ : ℕ) (d : established_session (calls_of log) ≡ Some (s, at_)) (n : given_stream reply ≡ None) where
+  none-due : (give : ℕ → Reply) (kind : ℕ) → ((j : ℕ) → given_stream (give j) ≡ Some j) → reply ≡ session_reply (λ (j : ℕ). stream_reply side log give (next_due side log kind j)) (established_session (calls_of log)) → next_due side log kind s ≡ None
   none-due give kind f e = at (next_due side log kind s) refl
     where
       at : (o : Option Classified) → next_due side log kind s ≡ o → o ≡ None
@@ -585,7 +583,7 @@ module _ (side : Side) (log : Log) (reply : Reply) (s at_ : ℕ) (d : establishe
   accept-none (turns.Call calls.AcceptBi) a g = none-due replies.Bi (peer_bi side) (λ j. refl) (g _ refl)
   accept-none _ a g = absurd (cc)
 
-left-so : (side : Side) (turn : Turn) (log : Log) (reply : Reply) → ((r : Reply) → passing_reply side turn log ≡ Some r → reply ≡ r) → (s at_ : ℕ) → is_accept turn ≡ true → given_stream reply ≡ None → established (calls_of log) ≡ Some (s, at_)
+left-so : (side : Side) (turn : Turn) (log : Log) (reply : Reply) → ((r : Reply) → passing_reply side turn log ≡ Some r → reply ≡ r) → (s at_ : ℕ) → is_accept turn ≡ true → given_stream reply ≡ None → established_session (calls_of log) ≡ Some (s, at_)
     → list_any (is_left_for log (accepted_kind side turn) s) (stream_table side log).classified ≡ false
 left-so side turn log reply g s at_ a n d = none-left side log (accepted_kind side turn) s (accept-none side log reply s at_ d n turn a g)
 

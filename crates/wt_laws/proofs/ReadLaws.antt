@@ -21,7 +21,7 @@ use Rattle.wt_laws.specs.Laws.{ReadsFromStart, ReadsInOrder, more_read, read_fro
 use Rattle.wt_laws.specs.Reachable.{AllLawful, Exchange, exchanges, is_among}
 use Rattle.wt_laws.specs.RecordCauses.{RecordCause}
 use Rattle.wt_laws.specs.ReplyCauses.{ReplyCause}
-use Rattle.wt_laws.specs.Told.{Logged, NoRecord, OneRecord, Tells, ThenPolled, datagram_told, given_stream, is_quiet, read_piece, request_told, session_told}
+use Rattle.wt_laws.specs.Told.{Logged, NoRecord, OneRecord, TellsOf, ThenPolled, datagram_told, given_stream, is_quiet, read_piece, request_told, session_told}
 use Rattle.wt_spec.specs.Answers.{answer_to, is_lawful, log_after, log_from}
 use Rattle.wt_spec.specs.Driver.{stream_table}
 use Rattle.wt_spec.specs.Halves.{body_start, bytes_read, has_receiving_half, is_accepted, total_read, unread_body}
@@ -280,7 +280,7 @@ idle side k bytes log later p t grow keep = record { offset = p.offset; prefix =
     at (inr a) = inr (keep p.offset a)
 
 -- by the record of the turn
-by-record : (side : Side) (turn : Turn) (k : ℕ) (bytes : List ℕ) (log later : Log) (reply : Reply) (r : CallRecord) → Facts side log → ReadSoFar side k bytes log → reads_from k turn ≡ true → ReplyCause side turn log reply → Tells turn r reply
+by-record : (side : Side) (turn : Turn) (k : ℕ) (bytes : List ℕ) (log later : Log) (reply : Reply) (r : CallRecord) → Facts side log → ReadSoFar side k bytes log → reads_from k turn ≡ true → ReplyCause side turn log reply → TellsOf turn r reply
     → total_read k (calls_of later) ≡ bytes_read k r + total_read k (calls_of log) → ((offset count : ℕ) (xs : List ℕ) → IsPrefix k offset count xs log → IsPrefix k offset count xs later) → ((offset : ℕ) → Anchored side log k offset → Anchored side later k offset)
     → ReadSoFar side k (more_read (read_piece reply) bytes) later
 by-record side turn k bytes log later reply (BytesRead j n) f p r w t e grow keep =

@@ -17,7 +17,7 @@ use Rattle.wt_laws.proofs.SessionLaws.{first-queued}
 use Rattle.wt_laws.specs.Laws.{GoesOnFrom, RequestTold}
 use Rattle.wt_laws.specs.Reachable.{AfterTurn, IsReachable}
 use Rattle.wt_laws.specs.Runs.{StaysSo}
-use Rattle.wt_laws.specs.Told.{Logged, NoRecord, OneRecord, Tells, ThenPolled, datagram_told, given_stream, is_quiet, read_piece, request_told, session_told}
+use Rattle.wt_laws.specs.Told.{Logged, NoRecord, OneRecord, TellsOf, ThenPolled, datagram_told, given_stream, is_quiet, read_piece, request_told, session_told}
 use Rattle.wt_spec.specs.Answers.{is_lawful, log_after}
 use Rattle.wt_spec.specs.Driver.{delivers, stream_table}
 use Rattle.wt_spec.specs.StreamTable.{verdict_of}
@@ -26,7 +26,7 @@ use Rattle.wt_reply.specs.declared.reply.Reply.TheVariants as replies
 
 -- ---- its record
 
-tells-request : (turn : Turn) (k : ℕ) (headers : Fields) (reply : Reply) → reply ≡ replies.Request k headers → (r : CallRecord) → Tells turn r reply → delivers k r ≡ true
+tells-request : (turn : Turn) (k : ℕ) (headers : Fields) (reply : Reply) → reply ≡ replies.Request k headers → (r : CallRecord) → TellsOf turn r reply → delivers k r ≡ true
 tells-request turn k headers reply e (RequestDelivered id) t = let y = ap request_told e in let x : id ≡ k = cc in eq-eqb id k x
 tells-request turn k headers reply e (SessionEstablished i a) t = absurd (let y = ap session_told e in cc)
 tells-request turn k headers reply e (BytesRead j n) t = absurd (let y = ap read_piece e in let z = t.1 in cc)

@@ -5,8 +5,8 @@ use Rattle.std.proofs.lemmas.Bool.{or_right}
 use Rattle.std.proofs.lemmas.List.{append-nil, append_assoc}
 use Rattle.std.specs.List.{list_any}
 use Rattle.wt_seam_spec.specs.Arrivals.{event_entry}
-use Rattle.wt_seam_spec.specs.Joined.{joined}
-use Rattle.wt_turn.specs.Log.{Acked, CallRecord, Called, Connected, Datagram, DatagramLimit, End, Entry, Event, Log, Loss, MaxBi, MaxData, MaxUni, PeerBi, PeerUni, Received, Reset, Stop, actions_of, calls_of, is_open}
+use Rattle.wt_seam_spec.specs.Joined.{joined_actions}
+use Rattle.wt_turn.specs.Log.{CallRecord, Called, Entry, Event, Log, Received, actions_of, calls_of, is_open}
 use Rattle.wt_turn.specs.declared.action.Action.{Action}
 use Rattle.wt_turn.specs.declared.turn.Turn.{Turn}
 use Rattle.wt_wire.specs.declared.side.Side.{Side}
@@ -15,7 +15,7 @@ use Rattle.wt_laws.proofs.DatagramTold.{datagrams-same, datagrams-stay}
 use Rattle.wt_laws.proofs.Moments.{kept}
 use Rattle.wt_laws.proofs.SessionLaws.{settings-stay}
 use Rattle.wt_laws.specs.Reachable.{AllLawful}
-use Rattle.wt_spec.specs.Turns.{is_call}
+use Rattle.wt_turn.specs.Turns.{is_call}
 use Rattle.wt_laws.specs.Runs.{DoneAtOnce, DoneLate, RunsLawful, RunsLongest, StaysSo}
 use Rattle.wt_spec.specs.Answers.{AtUnlawful, Finished, Run, actions_since, answer_to, answers_from, call_effect, is_lawful, log_after, log_from, receive, run_from, with_answer}
 use Rattle.wt_spec.specs.Driver.{delivers, flush, log_and_flush, releases, stream_table}
@@ -129,8 +129,8 @@ stays-behind side (e ∷ more) log =
 
 -- ---- after the end
 
-pub none-since : (xs : List Action) → joined (take (length xs - length xs) xs) ≡ []
-none-since xs = ap (λ n. joined (take n xs)) (nothing (length xs))
+pub none-since : (xs : List Action) → joined_actions (take (length xs - length xs) xs) ≡ []
+none-since xs = ap (λ n. joined_actions (take n xs)) (nothing (length xs))
   where
     nothing : (n : ℕ) → n - n ≡ 0
     nothing n = omega arith
@@ -147,19 +147,7 @@ late-bytes side log id (b ∷ piece) o = ap (λ (c : Bool). receive side (if c t
 pub done-late : (side : Side) (log : Log) (turn : Turn) → is_call turn ≡ false → is_open log ≡ false → DoneLate side log turn
 done-late side log (turns.Call c) n o = absurd (cc)
 done-late side log (turns.Bytes id piece) n o = record { reply = refl; actions = ap (actions_since log) (late-bytes side log id piece o) ∙ none-since (actions_of log) }
-done-late side log (turns.Connected uni bi credit fact) n o = record { reply = refl; actions = late-event side log (Connected uni bi credit fact) (is_open log) o }
-done-late side log turns.PeerUni n o = record { reply = refl; actions = late-event side log PeerUni (is_open log) o }
-done-late side log turns.PeerBi n o = record { reply = refl; actions = late-event side log PeerBi (is_open log) o }
-done-late side log (turns.End id) n o = record { reply = refl; actions = late-event side log (End id) (is_open log) o }
-done-late side log (turns.Reset id code) n o = record { reply = refl; actions = late-event side log (Reset id code) (is_open log) o }
-done-late side log (turns.Stop id code) n o = record { reply = refl; actions = late-event side log (Stop id code) (is_open log) o }
-done-late side log (turns.Acked id) n o = record { reply = refl; actions = late-event side log (Acked id) (is_open log) o }
-done-late side log (turns.Datagram piece) n o = record { reply = refl; actions = late-event side log (Datagram piece) (is_open log) o }
-done-late side log (turns.MaxUni total) n o = record { reply = refl; actions = late-event side log (MaxUni total) (is_open log) o }
-done-late side log (turns.MaxBi total) n o = record { reply = refl; actions = late-event side log (MaxBi total) (is_open log) o }
-done-late side log (turns.MaxData id total) n o = record { reply = refl; actions = late-event side log (MaxData id total) (is_open log) o }
-done-late side log (turns.DatagramLimit fact) n o = record { reply = refl; actions = late-event side log (DatagramLimit fact) (is_open log) o }
-done-late side log (turns.Loss reason) n o = record { reply = refl; actions = late-event side log (Loss reason) (is_open log) o }
+done-late side log _ n o = record { reply = refl; actions = late-event side log _ (is_open log) o }
 
 -- ---- what asks for nothing
 

@@ -6,7 +6,7 @@ use Rattle.std.proofs.lemmas.List.{append-nil, take_all}
 use Rattle.std.specs.List.{list_any}
 use Rattle.wt_message.specs.FixedBytes.{local_control_bytes}
 use Rattle.wt_seam_spec.specs.Joined.{send_of}
-use Rattle.wt_seam_spec.specs.Outgoing.{covered, credit_left}
+use Rattle.wt_seam_spec.specs.Outgoing.{bytes_within_credit, credit_left}
 use Rattle.wt_seam_spec.specs.Reports.{credit, unis_allowed}
 use Rattle.wt_seam_spec.specs.Sent.{is_finished, is_reset, sent_on}
 use Rattle.wt_seam_spec.specs.Streams.{local_uni}
@@ -31,10 +31,10 @@ use Rattle.wt_laws.specs.Reachable.{IsReachable}
 use Rattle.wt_laws.specs.RecordCauses.{RecordCause}
 use Rattle.wt_spec.specs.Answers.{answer_to, call_effect, is_lawful, log_after, turn_effect}
 use Rattle.wt_spec.specs.Connection.{accepts_stream, ends_opening, starts_opening}
-use Rattle.wt_spec.specs.Driver.{ControlSent, apply_if, close_actions, control_actions, control_sent, established, establishes, flush, is_moment, log_and_flush, opened_if, or_earlier, pending_actions, session_id, stop_actions, stream_table}
+use Rattle.wt_spec.specs.Driver.{ControlSent, apply_if, close_actions, control_actions, control_sent, established_session, establishes, flush, is_moment, log_and_flush, opened_if, or_earlier, pending_actions, session_id, stop_actions, stream_table}
 use Rattle.wt_spec.specs.Effect.{Effect, poll_only, poll_sending}
 use Rattle.wt_spec.specs.Halves.{all_written_reply, has_sending_half, is_accepted, on_half, write, write_all, write_by, write_error, written_reply}
-use Rattle.wt_spec.specs.Handshake.{Connecting, handshake_state, requested}
+use Rattle.wt_spec.specs.Handshake.{Connecting, handshake_state, requested_stream}
 use Rattle.wt_spec.specs.StreamTable.{verdict_of}
 use Rattle.wt_turn.specs.declared.action.Action.TheVariants as actions
 use Rattle.wt_turn.specs.declared.call.Call.TheVariants as calls
@@ -58,9 +58,9 @@ pub pending-other : (side : Side) (log : Log) (k : ℕ) → (local_uni side == k
 pending-other side log k e =
     let a = control_actions (nat_lt 0 (unis_allowed (events_of log))) (local_uni side) (credit (events_of log) (local_uni side)) (control_sent side log) in
     let b = stop_actions (stream_table side log).progress.stops in
-    let c = close_actions (session_id (established (calls_of log))) (stream_table side log).progress.ending in
+    let c = close_actions (session_id (established_session (calls_of log))) (stream_table side log).progress.ending in
     sends-append k (a ++ b) c ∙ ap (λ xs. xs ++ sends_of k c) (sends-append k a b) ∙ ap (λ xs. xs ++ sends_of k b ++ sends_of k c) (control-other (nat_lt 0 (unis_allowed (events_of log))) k (local_uni side) (credit (events_of log) (local_uni side)) (control_sent side log) e)
-    ∙ ap (λ xs. xs ++ sends_of k c) (stops-on (stream_table side log).progress.stops k) ∙ close-on (session_id (established (calls_of log))) (stream_table side log).progress.ending k
+    ∙ ap (λ xs. xs ++ sends_of k c) (stops-on (stream_table side log).progress.stops k) ∙ close-on (session_id (established_session (calls_of log))) (stream_table side log).progress.ending k
 
 pub flush-other : (side : Side) (e : Entry) (log : Log) (k : ℕ) → (local_uni side == k) ≡ false → sent_on (actions_of (log_and_flush side log e)) k ≡ sent_on (actions_of (e ∷ log)) k
 unfolding flush
@@ -82,13 +82,13 @@ accepted-ends k (_ ∷ cs) e = accepted-ends k cs e
 pub record Given (side : Side) (log : Log) : Type 0 where
   pub facts_hold : Facts side log
   pub handshakes : Handshakes side log
-  pub in_session : (k : ℕ) → list_any (accepts_stream k) (calls_of log) ≡ true → is_some (established (calls_of log)) ≡ true
+  pub in_session : (k : ℕ) → list_any (accepts_stream k) (calls_of log) ≡ true → is_some (established_session (calls_of log)) ≡ true
 
 pub still-some : (o p : Option (ℕ × ℕ)) → is_some p ≡ true → is_some (or_earlier o p) ≡ true
 still-some None p e = e
 still-some (Some x) p e = refl
 
-accept-some : (side : Side) (turn : Turn) (log : Log) (k : ℕ) (r : CallRecord) → RecordCause side turn log r → accepts_stream k r ≡ true → is_some (established (calls_of log)) ≡ true
+accept-some : (side : Side) (turn : Turn) (log : Log) (k : ℕ) (r : CallRecord) → RecordCause side turn log r → accepts_stream k r ≡ true → is_some (established_session (calls_of log)) ≡ true
 accept-some side turn log k (StreamAccepted id) (ByAccept f) e = ap is_some f.is_established
 accept-some side turn log k (StreamAccepted id) (ByOpening f) e = ap is_some f.is_established
 accept-some side turn log k _ c e = absurd (cc)
@@ -102,7 +102,7 @@ given-entries side turn = record {
   record_ = λ log r c p. record {
     facts_hold = (facts-entries side turn).record_ log r c p.facts_hold;
     handshakes = (handshakes-entries side turn).record_ log r c p.handshakes;
-    in_session = λ k e. still-some (establishes r) (established (calls_of log)) (from-or (accepts_stream k r) _ (accept-some side turn log k r c) (p.in_session k) e);
+    in_session = λ k e. still-some (establishes r) (established_session (calls_of log)) (from-or (accepts_stream k r) _ (accept-some side turn log k r c) (p.in_session k) e);
   };
 }
 
@@ -112,7 +112,7 @@ given-holds side log r = reached (Given side) (record { facts_hold = facts-first
 -- of a given stream: only a write sends on it
 pub record Alone (side : Side) (k : ℕ) (calls_ : List CallRecord) : Type 0 where
   pub no_opening : (list_any (starts_opening k) calls_ && not (list_any (ends_opening k) calls_)) ≡ false
-  pub no_request : has_request (handshake_state calls_) ≡ true → requested calls_ ≢ k
+  pub no_request : has_request (handshake_state calls_) ≡ true → requested_stream calls_ ≢ k
   pub no_connect : (reserved : Option (List ℕ)) (head : List ℕ) → handshake_state calls_ ≢ Connecting reserved head
 
 ended-opening : (a b : Bool) → b ≡ true → (a && not b) ≡ false
@@ -122,11 +122,11 @@ ended-opening false b e = refl
 pub alone : (side : Side) (log : Log) (k : ℕ) → Given side log → is_accepted log k ≡ true → Alone side k (calls_of log)
 alone side log k g a = record {
   no_opening = ended-opening (list_any (starts_opening k) (calls_of log)) (list_any (ends_opening k) (calls_of log)) (accepted-ends k (calls_of log) a);
-  no_request = λ r e. request (g.facts_hold.accepted k a) (g.handshakes.delivered (requested (calls_of log)) (g.handshakes.has_one r)) e;
+  no_request = λ r e. request (g.facts_hold.accepted k a) (g.handshakes.delivered (requested_stream (calls_of log)) (g.handshakes.has_one r)) e;
   no_connect = λ reserved head e. absurd (let n = g.handshakes.none_yet (ap is_under_way e) in let s = g.in_session k a in let x = ap is_some n in cc);
 }
   where
-    request : (is_local side k ≡ true) ⊎ IsSessions side log k → HadRequest side log (requested (calls_of log)) → requested (calls_of log) ≡ k → ⊥
+    request : (is_local side k ≡ true) ⊎ IsSessions side log k → HadRequest side log (requested_stream (calls_of log)) → requested_stream (calls_of log) ≡ k → ⊥
     request (inl l) w e = absurd (let n = local-unclassified side log k l in let x = ap (λ j. verdict_of j (stream_table side log).classified) e in let v = w.verdict in cc)
     request (inr s) w e = absurd (let n = s.verdict in let x = ap (λ j. verdict_of j (stream_table side log).classified) e in let v = w.verdict in cc)
 
@@ -200,10 +200,10 @@ accepted-all : (c : ℕ) (bytes : List ℕ) (b : Bool) → (length (take c bytes
 accepted-all c bytes true e = let l = eqb-true (length (take c bytes)) (length bytes) e in sym (take_all c bytes (omega (arith, length-take c bytes)))
 accepted-all c bytes false e = take-same c bytes
 
-write-sends : (reply : List ℕ → ℕ → Reply) (side : Side) (k : ℕ) (bytes : List ℕ) (log : Log) (o : Option StreamWriteError) → (local_uni side == k) ≡ false → accepted_of bytes (reply bytes (length (covered log k bytes))) ≡ covered log k bytes
+write-sends : (reply : List ℕ → ℕ → Reply) (side : Side) (k : ℕ) (bytes : List ℕ) (log : Log) (o : Option StreamWriteError) → (local_uni side == k) ≡ false → accepted_of bytes (reply bytes (length (bytes_within_credit log k bytes))) ≡ bytes_within_credit log k bytes
     → SendsBy k bytes log (write_by reply side log k bytes o)
 write-sends reply side k bytes log (Some e) c n = idle-call side k bytes log (replies.WriteFailed e) c refl
-write-sends reply side k bytes log None c n = sending-call side k bytes (covered log k bytes) log (reply bytes (length (covered log k bytes))) c n
+write-sends reply side k bytes log None c n = sending-call side k bytes (bytes_within_credit log k bytes) log (reply bytes (length (bytes_within_credit log k bytes))) c n
 
 half-sends : (side : Side) (k : ℕ) (bytes : List ℕ) (log : Log) (call : ℕ → Effect) (b : Bool) → (local_uni side == k) ≡ false → SendsBy k bytes log (call k) → SendsBy k bytes log (on_half b side log call k)
 half-sends side k bytes log call true c p = p
@@ -219,7 +219,7 @@ writing-turn side k bytes log (turns.Call (calls.Write id bs)) c e = at (id == k
         let x : bs ≡ bytes = cc in
         subst (λ (j : ℕ). SendsBy k bytes log (on_half (has_sending_half side log j) side log (λ m. write side log m bs) j)) (sym (eqb-true id k i))
         (subst (λ ys. SendsBy k bytes log (on_half (has_sending_half side log k) side log (λ m. write side log m ys) k)) (sym x)
-        (half-sends side k bytes log (λ m. write side log m bytes) (has_sending_half side log k) c (write-sends written_reply side k bytes log (write_error log k) c (accepted-written (credit_left log k) bytes (length (covered log k bytes)) refl))))
+        (half-sends side k bytes log (λ m. write side log m bytes) (has_sending_half side log k) c (write-sends written_reply side k bytes log (write_error log k) c (accepted-written (credit_left log k) bytes (length (bytes_within_credit log k bytes)) refl))))
 writing-turn side k bytes log (turns.Call (calls.WriteAll id bs)) c e = at (id == k) refl e
   where
     at : (b : Bool) → (id == k) ≡ b → (if b then Some bs else None) ≡ Some bytes → SendsBy k bytes log (on_half (has_sending_half side log id) side log (λ j. write_all side log j bs) id)
@@ -229,7 +229,7 @@ writing-turn side k bytes log (turns.Call (calls.WriteAll id bs)) c e = at (id =
         subst (λ (j : ℕ). SendsBy k bytes log (on_half (has_sending_half side log j) side log (λ m. write_all side log m bs) j)) (sym (eqb-true id k i))
         (subst (λ ys. SendsBy k bytes log (on_half (has_sending_half side log k) side log (λ m. write_all side log m ys) k)) (sym x)
         (half-sends side k bytes log (λ m. write_all side log m bytes) (has_sending_half side log k) c
-        (write-sends all_written_reply side k bytes log (write_error log k) c (accepted-all (credit_left log k) bytes (length (covered log k bytes) == length bytes) refl))))
+        (write-sends all_written_reply side k bytes log (write_error log k) c (accepted-all (credit_left log k) bytes (length (bytes_within_credit log k bytes) == length bytes) refl))))
 writing-turn side k bytes log (turns.Call _) c e = absurd (cc)
 writing-turn side k bytes log _ c e = absurd (cc)
 

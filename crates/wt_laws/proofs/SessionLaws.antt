@@ -27,13 +27,13 @@ use Rattle.wt_laws.specs.Causes.{ByAcceptance, ByAnswer, ByRejection, ByResponse
 use Rattle.wt_laws.specs.Laws.{AfterRequest, AfterResponse, EstablishedHow, EstablishedRightly, GoesOnFrom, OneSession, SessionTold, SessionsRightly, WasDelivered}
 use Rattle.wt_laws.specs.Reachable.{IsReachable, is_among}
 use Rattle.wt_laws.specs.RecordCauses.{DeliverCause, RecordCause}
-use Rattle.wt_laws.specs.Told.{Logged, NoRecord, OneRecord, Tells, ThenPolled, datagram_told, given_stream, is_quiet, read_piece, request_told, session_told}
+use Rattle.wt_laws.specs.Told.{Logged, NoRecord, OneRecord, TellsOf, ThenPolled, datagram_told, given_stream, is_quiet, read_piece, request_told, session_told}
 use Rattle.wt_spec.specs.Answers.{is_client, is_lawful, log_after}
 use Rattle.wt_spec.specs.Connection.{first_of}
-use Rattle.wt_spec.specs.Driver.{call_view, delivers, established, session_id, settings_came, stream_table}
+use Rattle.wt_spec.specs.Driver.{call_view, delivers, established_session, session_id, settings_came, stream_table}
 use Rattle.wt_spec.specs.Effect.{head_left, is_covered}
-use Rattle.wt_spec.specs.Handshake.{Connecting, HandshakeState, Requested, Responding, handshake_state, queued_requests, request_end, request_fields_of, requested, response_head}
-use Rattle.wt_spec.specs.StreamTable.{Classified, StreamTable, awaits_delivery, dispatched, is_request, verdict_of}
+use Rattle.wt_spec.specs.Handshake.{Connecting, HandshakeState, Requested, Responding, handshake_state, queued_requests, request_end, request_fields_of, requested_stream, response_head}
+use Rattle.wt_spec.specs.StreamTable.{Classified, StreamTable, awaits_delivery, dispatched_streams, is_request, verdict_of}
 use Rattle.wt_reply.specs.declared.reply.Reply.TheVariants as replies
 use Rattle.wt_proto.specs.declared.verdict.Verdict.TheVariants as verdicts
 
@@ -74,10 +74,10 @@ abbrev IsAcceptance : List ℕ → Type 0
 IsAcceptance head = (headers : Fields) × (head ≡ response_head (codes "200") headers)
 
 pub record Handshakes (side : Side) (log : Log) : Type 0 where
-  pub none_yet : is_under_way (handshake_state (calls_of log)) ≡ true → established (calls_of log) ≡ None
+  pub none_yet : is_under_way (handshake_state (calls_of log)) ≡ true → established_session (calls_of log) ≡ None
   pub acceptance : (head : List ℕ) → handshake_state (calls_of log) ≡ Responding true head → IsAcceptance head
   pub delivered : (k : ℕ) → list_any (delivers k) (calls_of log) ≡ true → HadRequest side log k
-  pub has_one : has_request (handshake_state (calls_of log)) ≡ true → list_any (delivers (requested (calls_of log))) (calls_of log) ≡ true
+  pub has_one : has_request (handshake_state (calls_of log)) ≡ true → list_any (delivers (requested_stream (calls_of log))) (calls_of log) ≡ true
   pub by_server : has_request (handshake_state (calls_of log)) ≡ true → is_client side ≡ false
   pub by_client : (reserved : Option (List ℕ)) (head : List ℕ) → handshake_state (calls_of log) ≡ Connecting reserved head → is_client side ≡ true
 
@@ -102,7 +102,7 @@ accepted-head side turn log head f (ByAcceptance id headers a t h s) = (headers,
 accepted-head side turn log head f (ByRejection id a t s) = absurd (cc)
 accepted-head side turn log head f (FromBefore t s) = f.acceptance head s
 
-new-none : (side : Side) (turn : Turn) (log : Log) (r : CallRecord) → Handshakes side log → RecordCause side turn log r → is_under_way (handshake_state (r ∷ calls_of log)) ≡ true → established (r ∷ calls_of log) ≡ None
+new-none : (side : Side) (turn : Turn) (log : Log) (r : CallRecord) → Handshakes side log → RecordCause side turn log r → is_under_way (handshake_state (r ∷ calls_of log)) ≡ true → established_session (r ∷ calls_of log) ≡ None
 new-none side turn log (SessionEstablished id at) f c e = absurd (cc)
 new-none side turn log HandshakeOver f c e = absurd (cc)
 new-none side turn log (RequestDelivered k) f c e = f.none_yet (ap is_under_way c.under_way)
@@ -133,7 +133,7 @@ pub record FirstQueued (side : Side) (log : Log) (c : Classified) : Type 0 where
 pub first-queued : (side : Side) (log : Log) (c : Classified) (later : List Classified) → queued_requests side log ≡ c ∷ later → FirstQueued side log c
 first-queued side log c later q = at (settings_came side log) refl q
   where
-    at : (b : Bool) → settings_came side log ≡ b → (if b then (dispatched (call_view log) (stream_table side log).classified).requests else []) ≡ c ∷ later → FirstQueued side log c
+    at : (b : Bool) → settings_came side log ≡ b → (if b then (dispatched_streams (call_view log) (stream_table side log).classified).requests else []) ≡ c ∷ later → FirstQueued side log c
     at true s e =
         let keep = awaits_delivery (call_view log).delivered in
         let p = first-picked keep (λ x. true) (stream_table side log).classified c (once side log) (ap (first_of (λ x. true)) e) in
@@ -149,7 +149,7 @@ new-delivered : (side : Side) (turn : Turn) (log : Log) (k : ℕ) (r : CallRecor
 new-delivered side turn log k (RequestDelivered id) c e = subst (λ (n : ℕ). HadRequest side log n) (eqb-true id k e) (was-delivered side log id c)
 new-delivered side turn log k _ c e = absurd (cc)
 
-new-has-one : (side : Side) (turn : Turn) (log : Log) (r : CallRecord) → Handshakes side log → RecordCause side turn log r → has_request (handshake_state (r ∷ calls_of log)) ≡ true → list_any (delivers (requested (r ∷ calls_of log))) (r ∷ calls_of log) ≡ true
+new-has-one : (side : Side) (turn : Turn) (log : Log) (r : CallRecord) → Handshakes side log → RecordCause side turn log r → has_request (handshake_state (r ∷ calls_of log)) ≡ true → list_any (delivers (requested_stream (r ∷ calls_of log))) (r ∷ calls_of log) ≡ true
 new-has-one side turn log (RequestDelivered k) f c e = or_left (k == k) _ (eq-eqb k k refl)
 new-has-one side turn log (ResponseStarted accepts head) f c e = f.has_one (from-request turn (calls_of log) accepts head c.0)
 new-has-one side turn log (SessionEstablished id at) f c e = absurd (cc)
@@ -209,11 +209,11 @@ handshakes-before side own log f =
     let c = calls-with own log in
     let t = blind-actions (stream_table side) (λ a g. refl) own log in
     record {
-      none_yet = λ e. ap established (sym c) ∙ f.none_yet (ap (λ cs. is_under_way (handshake_state cs)) c ∙ e);
+      none_yet = λ e. ap established_session (sym c) ∙ f.none_yet (ap (λ cs. is_under_way (handshake_state cs)) c ∙ e);
       acceptance = λ head e. f.acceptance head (ap handshake_state c ∙ e);
       delivered = λ k x. let y = f.delivered k (ap (list_any (delivers k)) c ∙ x) in
           record { settings = ap (λ (z : StreamTable). z.progress.settings) (sym t) ∙ y.settings; headers = y.headers; at = y.at; verdict = ap (λ (z : StreamTable). verdict_of k z.classified) (sym t) ∙ y.verdict };
-      has_one = λ e. ap (λ cs. list_any (delivers (requested cs)) cs) (sym c) ∙ f.has_one (ap (λ cs. has_request (handshake_state cs)) c ∙ e);
+      has_one = λ e. ap (λ cs. list_any (delivers (requested_stream cs)) cs) (sym c) ∙ f.has_one (ap (λ cs. has_request (handshake_state cs)) c ∙ e);
       by_server = λ e. f.by_server (ap (λ cs. has_request (handshake_state cs)) c ∙ e);
       by_client = λ reserved head e. f.by_client reserved head (ap handshake_state c ∙ e);
     }
@@ -231,7 +231,7 @@ carried-before side own log k y f =
       bytes = sym (blind-actions (λ g. bi_verdict_of (contents g k) (end_of (events_of g) k)) (λ a g. refl) own log) ∙ c.bytes;
     }
 
-one-delivered : (side : Side) (turn : Turn) (log : Log) (own : List Action) (head : List ℕ) (s : ℕ) → Handshakes side log → Facts side (with_actions own log) → ResponseFrom turn (calls_of log) true head → s ≡ requested (calls_of log) → WasDelivered side log s
+one-delivered : (side : Side) (turn : Turn) (log : Log) (own : List Action) (head : List ℕ) (s : ℕ) → Handshakes side log → Facts side (with_actions own log) → ResponseFrom turn (calls_of log) true head → s ≡ requested_stream (calls_of log) → WasDelivered side log s
 one-delivered side turn log own head s f g x i =
     let d : list_any (delivers s) (calls_of log) ≡ true = subst (λ (n : ℕ). list_any (delivers n) (calls_of log) ≡ true) (sym i) (f.has_one (from-request turn (calls_of log) true head x)) in
     let y = f.delivered s d in
@@ -277,7 +277,7 @@ begins_at : Option (ℕ × ℕ) → ℕ
 begins_at None = 0
 begins_at (Some s) = s.1
 
-new-session : (side : Side) (turn : Turn) (log : Log) (r : CallRecord) → RecordCause side turn log r → Sessions side log → (s at : ℕ) → established (r ∷ calls_of log) ≡ Some (s, at) → EstablishedRightly side (Called r ∷ log) s at
+new-session : (side : Side) (turn : Turn) (log : Log) (r : CallRecord) → RecordCause side turn log r → Sessions side log → (s at : ℕ) → established_session (r ∷ calls_of log) ≡ Some (s, at) → EstablishedRightly side (Called r ∷ log) s at
 unfolding begins_at
 new-session side turn log (SessionEstablished i a) c f s at e =
     let x : i ≡ s = ap session_id e in let y : a ≡ at = ap begins_at e in
@@ -302,12 +302,12 @@ sessions-rightly side log r =
 
 record EstablishedAs (side : Side) (s at : ℕ) (log : Log) : Type 0 where
   pub handshakes : Handshakes side log
-  pub is : established (calls_of log) ≡ Some (s, at)
+  pub is : established_session (calls_of log) ≡ Some (s, at)
 
-no-other : (side : Side) (turn : Turn) (log : Log) (s at : ℕ) (r : CallRecord) → RecordCause side turn log r → EstablishedAs side s at log → established (r ∷ calls_of log) ≡ Some (s, at)
+no-other : (side : Side) (turn : Turn) (log : Log) (s at : ℕ) (r : CallRecord) → RecordCause side turn log r → EstablishedAs side s at log → established_session (r ∷ calls_of log) ≡ Some (s, at)
 no-other side turn log s at (SessionEstablished i a) c p =
     absurd (let n = (handshakes-before side c.own c.before (subst (Handshakes side) c.is p.handshakes)).none_yet c.under_way in
-    let e = ap established (ap calls_of c.is ∙ calls-with c.own c.before) in let q = p.is in cc)
+    let e = ap established_session (ap calls_of c.is ∙ calls-with c.own c.before) in let q = p.is in cc)
 no-other side turn log s at _ c p = p.is
 
 established-entries : (side : Side) (turn : Turn) (s at : ℕ) → KeepsEntries side turn (EstablishedAs side s at)
@@ -325,7 +325,7 @@ one-session side log turn r l s at e =
 
 -- ---- the reply
 
-tells-session : (turn : Turn) (s : ℕ) (reply : Reply) → reply ≡ replies.Session s → (r : CallRecord) → Tells turn r reply → (at : ℕ) × ((cs : List CallRecord) → established (r ∷ cs) ≡ Some (s, at))
+tells-session : (turn : Turn) (s : ℕ) (reply : Reply) → reply ≡ replies.Session s → (r : CallRecord) → TellsOf turn r reply → (at : ℕ) × ((cs : List CallRecord) → established_session (r ∷ cs) ≡ Some (s, at))
 tells-session turn s reply e (SessionEstablished i a) t = let q = ap session_told e in let x : i ≡ s = cc in (a, λ cs. ap (λ n. Some (n, a)) x)
 tells-session turn s reply e (BytesRead k n) t = absurd (let y = ap read_piece e in let z = t.1 in cc)
 tells-session turn s reply e (StreamAccepted k) t = absurd (let y = ap given_stream e in cc)
@@ -333,10 +333,10 @@ tells-session turn s reply e DatagramReceived t = absurd (let y = ap datagram_to
 tells-session turn s reply e (RequestDelivered k) t = absurd (let y = ap request_told e in cc)
 tells-session turn s reply e _ t = absurd (let y = ap is_quiet e in cc)
 
-told-by : (turn : Turn) (s : ℕ) (before after : List CallRecord) (reply : Reply) → reply ≡ replies.Session s → Logged turn before after reply → (at : ℕ) × (established after ≡ Some (s, at))
+told-by : (turn : Turn) (s : ℕ) (before after : List CallRecord) (reply : Reply) → reply ≡ replies.Session s → Logged turn before after reply → (at : ℕ) × (established_session after ≡ Some (s, at))
 told-by turn s before after reply e (NoRecord c q) = absurd (let x = ap is_quiet e in cc)
-told-by turn s before after reply e (OneRecord r c t) = let x = tells-session turn s reply e r t in (x.0, ap established c ∙ x.1 before)
-told-by turn s before after reply e (ThenPolled r c t) = let x = tells-session turn s reply e r t in (x.0, ap established c ∙ x.1 before)
+told-by turn s before after reply e (OneRecord r c t) = let x = tells-session turn s reply e r t in (x.0, ap established_session c ∙ x.1 before)
+told-by turn s before after reply e (ThenPolled r c t) = let x = tells-session turn s reply e r t in (x.0, ap established_session c ∙ x.1 before)
 
 pub session-told : (side : Side) (log : Log) (turn : Turn) → is_lawful side log turn ≡ true → SessionTold side log turn
 session-told side log turn l s e = let c = caused side turn log l in told-by turn s (calls_of c.decided) (calls_of (log_after side log turn)) _ e c.logged

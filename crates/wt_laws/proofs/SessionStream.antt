@@ -7,7 +7,7 @@ use Rattle.std.specs.List.{list_any}
 use Rattle.std.specs.Option.{option_or}
 use Rattle.wt_message.specs.FixedBytes.{local_control_bytes, response_bytes}
 use Rattle.wt_seam_spec.specs.Joined.{send_of}
-use Rattle.wt_seam_spec.specs.Outgoing.{covered, credit_left}
+use Rattle.wt_seam_spec.specs.Outgoing.{bytes_within_credit, credit_left}
 use Rattle.wt_seam_spec.specs.Reports.{credit, is_acknowledged, stop_of, unis_allowed}
 use Rattle.wt_seam_spec.specs.Sent.{finishes, is_finished, sent_on}
 use Rattle.wt_seam_spec.specs.Streams.{local_bi, local_count, local_uni, opens, peer_uni}
@@ -28,16 +28,16 @@ use Rattle.wt_laws.proofs.Sends.{more-or-same, piece_on, with-piece}
 use Rattle.wt_laws.proofs.SessionLaws.{HadRequest, from-request, has_request, was-delivered}
 use Rattle.wt_laws.proofs.SettingsLaws.{ControlOut, first-control, keeps-control}
 use Rattle.wt_laws.proofs.Steps.{Keeps, KeepsEntries, by-entries, calls-logged, calls-with, of-record}
-use Rattle.wt_laws.specs.Causes.{ActionCause, ByAcceptance, ByAnswer, ByRejection, ByResponse, EstablishCause, EstablishedBy, FinishCause, FromBefore, OfCall, OfHeader, OfRejection, OfRequest, OfResponse, OfWrite, OwnCauses, ResponseFrom, SendCause, frame_of, is_under_way, request_to}
+use Rattle.wt_laws.specs.Causes.{ActionCause, ByAcceptance, ByAnswer, ByRejection, ByResponse, EstablishCause, EstablishedBy, FinishCause, FromBefore, OfCall, OfHeader, OfRejection, OfRequest, OfResponse, OfWrite, OwnCauses, ResponseFrom, SendCause, head_frame_of, is_under_way, request_to}
 use Rattle.wt_laws.specs.Laws.{SessionStreamOut, is_session_stream, session_frame}
 use Rattle.wt_laws.specs.Reachable.{AfterTurn, AllLawful, AtStart, Exchange, IsReachable, exchanges}
 use Rattle.wt_laws.specs.RecordCauses.{CallCause, RecordCause}
 use Rattle.wt_spec.specs.Answers.{answer_to, call_effect, is_client, is_first, is_lawful, log_after, log_from, may_respond}
 use Rattle.wt_spec.specs.Connection.{accepts_stream, starts_opening}
-use Rattle.wt_spec.specs.Driver.{ControlSent, apply_if, close_actions, control_actions, control_sent, delivers, established, flush, is_moment, log_and_flush, opened_if, pending_actions, session_id, stop_actions, stream_table}
-use Rattle.wt_spec.specs.Effect.{Effect, closing, head_left, is_covered, log_call}
+use Rattle.wt_spec.specs.Driver.{ControlSent, apply_if, close_actions, control_actions, control_sent, delivers, established_session, flush, is_moment, log_and_flush, opened_if, pending_actions, session_id, stop_actions, stream_table}
+use Rattle.wt_spec.specs.Effect.{Effect, close_when_open, head_left, is_covered, log_call}
 use Rattle.wt_spec.specs.Halves.{is_accepted}
-use Rattle.wt_spec.specs.Handshake.{AwaitingRequest, Connecting, HandshakeState, Requested, Responding, awaits_answer, handshake_state, is_refused, request_end, requested, response_head, start_response}
+use Rattle.wt_spec.specs.Handshake.{AwaitingRequest, Connecting, HandshakeState, Requested, Responding, awaits_answer, handshake_state, is_refused, request_end, requested_stream, response_head, start_response}
 use Rattle.wt_spec.specs.StreamTable.{ByFault, BySession, Ending, Stopped, verdict_of}
 use Rattle.wt_turn.specs.declared.action.Action.TheVariants as actions
 use Rattle.wt_turn.specs.declared.call.Call.TheVariants as calls
@@ -51,9 +51,9 @@ pub record Out (side : Side) (frame : Option (List ℕ)) (log : Log) : Type 0 wh
   pub connecting : (reserved : Option (List ℕ)) (head : List ℕ) → handshake_state (calls_of log) ≡ Connecting reserved head → (frame ≡ Some head) × (is_client side ≡ true)
   pub asked : has_request (handshake_state (calls_of log)) ≡ true → is_client side ≡ false
   pub untouched : (k : ℕ) → is_local side k ≡ false → is_accepted log k ≡ false → list_any (delivers k) (calls_of log) ≡ false → (sent_on (actions_of log) k ≡ []) × (is_finished (actions_of log) k ≡ false)
-  pub opened : is_client side ≡ true → is_some (established (calls_of log)) ≡ true → local_count (actions_of log) (local_bi side) ≢ 0
+  pub opened : is_client side ≡ true → is_some (established_session (calls_of log)) ≡ true → local_count (actions_of log) (local_bi side) ≢ 0
   pub no_opening : is_client side ≡ true → list_any (starts_opening (local_bi side)) (calls_of log) ≡ false
-  pub whole : (s at : ℕ) → established (calls_of log) ≡ Some (s, at) → (is_session_stream side (calls_of log) s ≡ true) × (frame ≡ Some (sent_on (actions_of log) s))
+  pub whole : (s at : ℕ) → established_session (calls_of log) ≡ Some (s, at) → (is_session_stream side (calls_of log) s ≡ true) × (frame ≡ Some (sent_on (actions_of log) s))
   pub finished : (k : ℕ) → is_session_stream side (calls_of log) k ≡ true → is_finished (actions_of log) k ≡ true → frame ≡ Some (sent_on (actions_of log) k)
 
 -- ---- which stream it is
@@ -129,9 +129,9 @@ pending-quiet : (side : Side) (log : Log) (k : ℕ) → k ≢ local_uni side →
 pending-quiet side log k n =
     let a = control_actions (nat_lt 0 (unis_allowed (events_of log))) (local_uni side) (credit (events_of log) (local_uni side)) (control_sent side log) in
     let b = stop_actions (stream_table side log).progress.stops in
-    all-quiet k (a ++ b) (close_actions (session_id (established (calls_of log))) (stream_table side log).progress.ending)
+    all-quiet k (a ++ b) (close_actions (session_id (established_session (calls_of log))) (stream_table side log).progress.ending)
     (all-quiet k a b (quiet-control (nat_lt 0 (unis_allowed (events_of log))) (local_uni side) k (credit (events_of log) (local_uni side)) (control_sent side log) n) (quiet-stops k (stream_table side log).progress.stops))
-    (quiet-close k (session_id (established (calls_of log))) (stream_table side log).progress.ending)
+    (quiet-close k (session_id (established_session (calls_of log))) (stream_table side log).progress.ending)
 
 module _ (side : Side) (frame : Option (List ℕ)) where
   -- a stream whose request was delivered isn't this end's
@@ -187,14 +187,14 @@ module _ (side : Side) (frame : Option (List ℕ)) where
       none-of zero = refl
       none-of (suc n) = refl
 
-  module _ (turn : Turn) (t : (head : List ℕ) → frame_of turn ≡ Some head → frame ≡ Some head) where
+  module _ (turn : Turn) (t : (head : List ℕ) → head_frame_of turn ≡ Some head → frame ≡ Some head) where
     response-frame : (log : Log) (accepts : Bool) (head : List ℕ) → Out side frame log → ResponseFrom turn (calls_of log) accepts head → frame ≡ Some head
-    response-frame log accepts head h (ByAcceptance id headers a e f s) = t head (ap frame_of e ∙ ap Some (sym f))
+    response-frame log accepts head h (ByAcceptance id headers a e f s) = t head (ap head_frame_of e ∙ ap Some (sym f))
     response-frame log accepts head h (ByRejection id a f s) = t head f
     response-frame log accepts head h (FromBefore t s) = h.responding accepts head s
 
     -- a rest of the frame goes out behind the prefix
-    goes-on : (log : Log) (k : ℕ) (head piece : List ℕ) → frame ≡ Some head → (p : (n : ℕ) × (sent_on (actions_of log) k ≡ take n (unwrap_or frame []))) → piece ≡ covered log k (head_left log k head)
+    goes-on : (log : Log) (k : ℕ) (head piece : List ℕ) → frame ≡ Some head → (p : (n : ℕ) × (sent_on (actions_of log) k ≡ take n (unwrap_or frame []))) → piece ≡ bytes_within_credit log k (head_left log k head)
         → (n : ℕ) × (sent_on (actions_of log) k ++ piece ≡ take n (unwrap_or frame []))
     goes-on log k head piece f p q =
         let u : unwrap_or frame [] ≡ head = ap (λ (o : Option (List ℕ)). unwrap_or o []) f in
@@ -205,8 +205,8 @@ module _ (side : Side) (frame : Option (List ℕ)) where
               ∙ ap (λ xs. take (length (sent_on (actions_of log) k) + credit_left log k) xs) (sym u),
         )
 
-    moved : (log : Log) (id k : ℕ) (head piece : List ℕ) → (id == k) ≡ true → piece ≡ covered log id (head_left log id head) → piece ≡ covered log k (head_left log k head)
-    moved log id k head piece e q = subst (λ (j : ℕ). piece ≡ covered log j (head_left log j head)) (eqb-true id k e) q
+    moved : (log : Log) (id k : ℕ) (head piece : List ℕ) → (id == k) ≡ true → piece ≡ bytes_within_credit log id (head_left log id head) → piece ≡ bytes_within_credit log k (head_left log k head)
+    moved log id k head piece e q = subst (λ (j : ℕ). piece ≡ bytes_within_credit log j (head_left log j head)) (eqb-true id k e) q
 
     sends-written : (log : Log) (id k : ℕ) → (id == k) ≡ true → (is_accepted log id && not (id % 4 == peer_uni side)) ≡ true → is_accepted log k ≡ true
     sends-written log id k e w = subst (λ (j : ℕ). is_accepted log j ≡ true) (eqb-true id k e) (and_parts (is_accepted log id) _ w).0
@@ -223,7 +223,7 @@ module _ (side : Side) (frame : Option (List ℕ)) where
     action-begun log k _ h i c = ((h.begun k i).0, append-nil (sent_on (actions_of log) k) ∙ (h.begun k i).1)
 
     -- nothing more goes out on it once the session is established
-    action-whole : (log : Log) (k at_ : ℕ) (a : Action) → Out side frame log → established (calls_of log) ≡ Some (k, at_) → ActionCause side turn log a → piece_on k a ≡ []
+    action-whole : (log : Log) (k at_ : ℕ) (a : Action) → Out side frame log → established_session (calls_of log) ≡ Some (k, at_) → ActionCause side turn log a → piece_on k a ≡ []
     action-whole log k at_ (actions.Send id piece) h d c = at (id == k) refl c.1
       where
         i : is_session_stream side (calls_of log) k ≡ true
@@ -244,7 +244,7 @@ module _ (side : Side) (frame : Option (List ℕ)) where
     action-finished : (log : Log) (k : ℕ) (a : Action) → Out side frame log → is_session_stream side (calls_of log) k ≡ true → is_finished (actions_of log) k ≡ true → ActionCause side turn log a → piece_on k a ≡ []
     action-finished log k (actions.Send id piece) h i d c = at (id == k) refl c.1
       where
-        none : (head : List ℕ) → frame ≡ Some head → piece ≡ covered log k (head_left log k head) → piece ≡ []
+        none : (head : List ℕ) → frame ≡ Some head → piece ≡ bytes_within_credit log k (head_left log k head) → piece ≡ []
         none head f q =
             let x = h.finished k i d in
             let y : head ≡ sent_on (actions_of log) k = cc in
@@ -349,7 +349,7 @@ module _ (side : Side) (frame : Option (List ℕ)) where
 
   -- ---- a record
 
-  module _ (turn : Turn) (t : (head : List ℕ) → frame_of turn ≡ Some head → frame ≡ Some head) (log : Log) (own : List Action) where
+  module _ (turn : Turn) (t : (head : List ℕ) → head_frame_of turn ≡ Some head → frame ≡ Some head) (log : Log) (own : List Action) where
     abbrev then_ : Log
     then_ = with_actions own log
 
@@ -403,7 +403,7 @@ module _ (side : Side) (frame : Option (List ℕ)) where
     record-responding _ h c accepts head e = h.responding accepts head e
 
     record-connecting : (r : CallRecord) → Out side frame then_ → RecordCause side turn then_ r → (reserved : Option (List ℕ)) (head : List ℕ) → handshake_state (r ∷ calls_of then_) ≡ Connecting reserved head → (frame ≡ Some head) × (is_client side ≡ true)
-    record-connecting (ConnectStarted o hd) h c reserved head e = let x : hd ≡ head = cc in (t hd (ap frame_of c.dials.to.connects_to ∙ ap (request_to c.dials.to.headers) c.dials.to.parsed ∙ ap Some (sym c.request)) ∙ ap Some x, c.by_client)
+    record-connecting (ConnectStarted o hd) h c reserved head e = let x : hd ≡ head = cc in (t hd (ap head_frame_of c.dials.to.connects_to ∙ ap (request_to c.dials.to.headers) c.dials.to.parsed ∙ ap Some (sym c.request)) ∙ ap Some x, c.by_client)
     record-connecting (SessionEstablished id at) h c reserved head e = absurd (cc)
     record-connecting HandshakeOver h c reserved head e = absurd (cc)
     record-connecting (RequestDelivered k) h c reserved head e = absurd (cc)
@@ -441,7 +441,7 @@ module _ (side : Side) (frame : Option (List ℕ)) where
             let g : ResponseFrom turn (calls_of then_) true head = subst (λ cs. ResponseFrom turn cs true head) same-calls f in
             let q = from-request turn (calls_of then_) true head g in
             let n = h.asked q in
-            let d = subst (λ (j : ℕ). list_any (delivers j) (calls_of then_) ≡ true) (ap requested (sym same-calls) ∙ sym i) (h.heads.given.handshakes.has_one q) in
+            let d = subst (λ (j : ℕ). list_any (delivers j) (calls_of then_) ≡ true) (ap requested_stream (sym same-calls) ∙ sym i) (h.heads.given.handshakes.has_one q) in
             let s = for-server side (calls_of then_) k n d in
             let l : head_left then_ k head ≡ [] = ap (λ g. head_left g k head) (c.is ∙ ap (λ xs. with_actions xs c.before) o) ∙ head-out c.before k head in
             record { of_session = s; is_out = all-out k head h s (response-frame turn t then_ true head h g) l; opened = λ b. absurd (cc) }
@@ -454,11 +454,11 @@ module _ (side : Side) (frame : Option (List ℕ)) where
               opened = λ b e. n (ap (λ g. local_count (actions_of g) k) (sym c.is) ∙ ap (λ j. local_count (actions_of then_) j) i ∙ e);
             }
 
-    record-opened : (r : CallRecord) → Out side frame then_ → RecordCause side turn then_ r → is_client side ≡ true → is_some (established (r ∷ calls_of then_)) ≡ true → local_count (actions_of then_) (local_bi side) ≢ 0
+    record-opened : (r : CallRecord) → Out side frame then_ → RecordCause side turn then_ r → is_client side ≡ true → is_some (established_session (r ∷ calls_of then_)) ≡ true → local_count (actions_of then_) (local_bi side) ≢ 0
     record-opened (SessionEstablished id at) h c b e = (stands id at h c).opened b
     record-opened _ h c b e = h.opened b e
 
-    record-whole : (r : CallRecord) → Out side frame then_ → RecordCause side turn then_ r → (s at : ℕ) → established (r ∷ calls_of then_) ≡ Some (s, at) → (is_session_stream side (r ∷ calls_of then_) s ≡ true) × (frame ≡ Some (sent_on (actions_of then_) s))
+    record-whole : (r : CallRecord) → Out side frame then_ → RecordCause side turn then_ r → (s at : ℕ) → established_session (r ∷ calls_of then_) ≡ Some (s, at) → (is_session_stream side (r ∷ calls_of then_) s ≡ true) × (frame ≡ Some (sent_on (actions_of then_) s))
     record-whole (SessionEstablished id at_) h c s at e =
         let x : id ≡ s = ap session_id e in
         let y = stands id at_ h c in
@@ -471,7 +471,7 @@ module _ (side : Side) (frame : Option (List ℕ)) where
         let q = starts side log own id s c in
         let z : id / 4 ≡ 0 = first side b id k in
         let w : local_count (actions_of log) (id % 4) ≡ local_count (actions_of log) (local_bi side) = ap (λ j. local_count (actions_of log) j) (kind-of side id k) in
-        h.opened b (ap is_some (sym (ap established (calls-with own log))) ∙ ap is_some c.cause.is_established) (omega arith)
+        h.opened b (ap is_some (sym (ap established_session (calls-with own log))) ∙ ap is_some c.cause.is_established) (omega arith)
       where
         first : (sd : Side) → is_client sd ≡ true → (j : ℕ) → j ≡ local_bi sd → j / 4 ≡ 0
         first Client b j e = omega arith
@@ -525,7 +525,7 @@ out-entry side frame e log c a g h = record {
   finished = rw (c, a) h.finished;
 }
 
-pub keeps-out : (side : Side) (frame : Option (List ℕ)) (turn : Turn) → ((head : List ℕ) → frame_of turn ≡ Some head → frame ≡ Some head) → Keeps side turn (Both side frame)
+pub keeps-out : (side : Side) (frame : Option (List ℕ)) (turn : Turn) → ((head : List ℕ) → head_frame_of turn ≡ Some head → frame ≡ Some head) → Keeps side turn (Both side frame)
 keeps-out side frame turn t = record {
   event = λ log e o b p. record { control = (keeps-control side turn).event log e o b p.control; out = out-flush side frame (Reported e) log (out-entry side frame (Reported e) log refl refl (heads-event side turn e log o b p.out.heads) p.out) };
   late = λ log e o b p. record {
@@ -593,22 +593,22 @@ module _ (side : Side) (log : Log) where
 
   answered-response : (accepts : Bool) (head : List ℕ) → IsAnswered (start_response side log accepts head)
   answered-response true head =
-      let id = requested (calls_of log) in
+      let id = requested_stream (calls_of log) in
       let left = head_left log id head in
       answered-if (not (is_open log)) _ _ (answered-leaf log [] HandshakeOver refl)
-      (answered-if (is_refused log id left) _ _ (answered-leaf log (closing log (code_of h3.ClosedCriticalStream)) HandshakeOver refl)
+      (answered-if (is_refused log id left) _ _ (answered-leaf log (close_when_open log (code_of h3.ClosedCriticalStream)) HandshakeOver refl)
       (answered-if (is_covered log id left) _ _
       (answered-leaf (log_call side log (send_of id left) (SessionEstablished id (request_end (verdict_of id (stream_table side log).classified)))) [] Polled (answered-leaf log (send_of id left) (SessionEstablished id (request_end (verdict_of id (stream_table side log).classified))) refl))
-      (answered-leaf log (send_of id (covered log id left)) (ResponseStarted true head) refl)))
+      (answered-leaf log (send_of id (bytes_within_credit log id left)) (ResponseStarted true head) refl)))
   answered-response false head =
-      let id = requested (calls_of log) in
+      let id = requested_stream (calls_of log) in
       let left = head_left log id head in
       answered-if (not (is_open log)) _ _ (answered-leaf log [] HandshakeOver refl)
-      (answered-if (is_refused log id left) _ _ (answered-leaf log (closing log (code_of h3.ClosedCriticalStream)) HandshakeOver refl)
+      (answered-if (is_refused log id left) _ _ (answered-leaf log (close_when_open log (code_of h3.ClosedCriticalStream)) HandshakeOver refl)
       (answered-if (is_covered log id left) _ _
       (answered-if (not (is_finished (actions_of log) id)) _ _ (answered-leaf log (send_of id left ++ actions.Finish id ∷ []) (ResponseStarted false head) refl)
-      (answered-if (is_some (stop_of (events_of log) id) || is_acknowledged (events_of log) id) _ _ (answered-leaf log (closing log 0) HandshakeOver refl) (answered-leaf log [] (ResponseStarted false head) refl)))
-      (answered-leaf log (send_of id (covered log id left)) (ResponseStarted false head) refl)))
+      (answered-if (is_some (stop_of (events_of log) id) || is_acknowledged (events_of log) id) _ _ (answered-leaf log (close_when_open log 0) HandshakeOver refl) (answered-leaf log [] (ResponseStarted false head) refl)))
+      (answered-leaf log (send_of id (bytes_within_credit log id left)) (ResponseStarted false head) refl)))
 
 -- what a turn with a frame is: a client's first, or a server's answer to a request
 pub data Begins (side : Side) (log : Log) (turn : Turn) : Type 0 where
@@ -626,7 +626,7 @@ answers side log turn l n = let a = and_parts (not (is_client side)) _ l in at (
     at (Requested id) e w c = Answers id c e n
     at _ e w c = absurd (cc)
 
-pub begins : (side : Side) (log : Log) (turn : Turn) (head : List ℕ) → frame_of turn ≡ Some head → is_lawful side log turn ≡ true → Begins side log turn
+pub begins : (side : Side) (log : Log) (turn : Turn) (head : List ℕ) → head_frame_of turn ≡ Some head → is_lawful side log turn ≡ true → Begins side log turn
 unfolding call_effect
 begins side log (turns.Call (calls.Connect options lookup outcome)) head f l = let a = and_parts (is_client side) (is_first log) l in Connects a.0 (empty-log log a.1)
 begins side log (turns.Call (calls.Accept headers)) head f l = answers side log (turns.Call (calls.Accept headers)) l (answered-response side log true (response_head (codes "200") headers))
@@ -664,24 +664,24 @@ reframed side frame log id s h = record {
 -- the frame that holds during a turn, at its start
 pub record TurnStart (side : Side) (log : Log) (t : Turn) : Type 0 where
   pub frame : Option (List ℕ)
-  pub for_turn : (head : List ℕ) → frame_of t ≡ Some head → frame ≡ Some head
+  pub for_turn : (head : List ℕ) → head_frame_of t ≡ Some head → frame ≡ Some head
   pub both : Both side frame log
 
-begun-so : (side : Side) (before : List Exchange) (log : Log) (t : Turn) (f : List ℕ) → SoFar side before log → frame_of t ≡ Some f → Begins side log t → Both side (Some f) log
+begun-so : (side : Side) (before : List Exchange) (log : Log) (t : Turn) (f : List ℕ) → SoFar side before log → head_frame_of t ≡ Some f → Begins side log t → Both side (Some f) log
 begun-so side before log t f p e (Connects c n) = subst (λ g. Both side (Some f) g) (sym n) (record { control = first-control side; out = out-first side (Some f) })
 begun-so side before log t f p e (Answers id c s n) = record { control = p.both.control; out = reframed side (Some f) log id s (subst (λ o. Out side o log) (p.unanswered c (ap is_unanswered s)) p.both.out) }
 
 pub start-of-turn : (side : Side) (before : List Exchange) (log : Log) (t : Turn) → is_lawful side log t ≡ true → SoFar side before log → TurnStart side log t
-start-of-turn side before log t l p = at (frame_of t) refl
+start-of-turn side before log t l p = at (head_frame_of t) refl
   where
-    at : (o : Option (List ℕ)) → frame_of t ≡ o → TurnStart side log t
+    at : (o : Option (List ℕ)) → head_frame_of t ≡ o → TurnStart side log t
     at None e = record { frame = session_frame before; for_turn = λ head f. absurd (cc); both = p.both }
     at (Some f) e = record { frame = Some f; for_turn = λ head x. sym e ∙ x; both = begun-so side before log t f p e (begins side log t f e l) }
 
 pub so-far-turn : (side : Side) (before : List Exchange) (log : Log) (t : Turn) → is_lawful side log t ≡ true → SoFar side before log → SoFar side (record { turn = t; answer = answer_to side log t } ∷ before) (log_after side log t)
-so-far-turn side before log t l p = at (frame_of t) refl
+so-far-turn side before log t l p = at (head_frame_of t) refl
   where
-    kept-so : (frame : Option (List ℕ)) → ((head : List ℕ) → frame_of t ≡ Some head → frame ≡ Some head) → Both side frame log → Both side frame (log_after side log t)
+    kept-so : (frame : Option (List ℕ)) → ((head : List ℕ) → head_frame_of t ≡ Some head → frame ≡ Some head) → Both side frame log → Both side frame (log_after side log t)
     kept-so frame f b = keeps-turn (keeps-out side frame t f) log l b
 
     later : Option (List ℕ)
@@ -692,7 +692,7 @@ so-far-turn side before log t l p = at (frame_of t) refl
     not-after (Connects c n) d u = absurd (cc)
     not-after (Answers id c s n) d u = absurd (cc)
 
-    at : (o : Option (List ℕ)) → frame_of t ≡ o → SoFar side (record { turn = t; answer = answer_to side log t } ∷ before) (log_after side log t)
+    at : (o : Option (List ℕ)) → head_frame_of t ≡ o → SoFar side (record { turn = t; answer = answer_to side log t } ∷ before) (log_after side log t)
     at None e =
         let q : later ≡ session_frame before = ap (λ o. option_or o (session_frame before)) e in
         record {

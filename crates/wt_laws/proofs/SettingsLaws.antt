@@ -25,14 +25,14 @@ use Rattle.wt_laws.proofs.Sends.{counts-with, piece_on, send-on, sends-append, s
 use Rattle.wt_laws.proofs.SessionLaws.{Handshakes, from-request, handshakes-entries, handshakes-first, handshakes-same, has_request}
 use Rattle.wt_laws.proofs.Steps.{Brings, Keeps, blind-actions, kept-actions, of-record}
 use Rattle.wt_laws.specs.Causes.{ActionCause, ByAccept, ByOpening, OfHeader, OfRequest, OfResponse, OfWrite, OwnCauses, SendCause}
-use Rattle.wt_spec.specs.Turns.{event_of}
+use Rattle.wt_turn.specs.Turns.{event_of}
 use Rattle.wt_laws.specs.Laws.{SettingsOut}
 use Rattle.wt_laws.specs.Reachable.{IsReachable}
 use Rattle.wt_laws.specs.RecordCauses.{CallCause, NewOpening, RecordCause}
 use Rattle.wt_spec.specs.Connection.{accepts_stream, starts_opening}
-use Rattle.wt_spec.specs.Driver.{ControlSent, apply_if, close_actions, control_actions, control_sent, established, flush, is_moment, log_and_flush, opened_if, pending_actions, session_id, stop_actions, stream_table}
+use Rattle.wt_spec.specs.Driver.{ControlSent, apply_if, close_actions, control_actions, control_sent, established_session, flush, is_moment, log_and_flush, opened_if, pending_actions, session_id, stop_actions, stream_table}
 use Rattle.wt_spec.specs.Halves.{is_accepted}
-use Rattle.wt_spec.specs.Handshake.{handshake_state, requested}
+use Rattle.wt_spec.specs.Handshake.{handshake_state, requested_stream}
 use Rattle.wt_spec.specs.StreamTable.{ByFault, BySession, Ending, Stopped, verdict_of}
 use Rattle.wt_turn.specs.declared.action.Action.TheVariants as actions
 use Rattle.wt_turn.specs.declared.turn.Turn.TheVariants as turns
@@ -50,11 +50,11 @@ pub record Untouched (side : Side) (log : Log) : Type 0 where
 record Silent (side : Side) (calls_ : List CallRecord) : Type 0 where
   pub opening : list_any (starts_opening (local_uni side)) calls_ ≡ false
   pub accepted : list_any (accepts_stream (local_uni side)) calls_ ≡ false
-  pub requests : has_request (handshake_state calls_) ≡ true → requested calls_ ≢ local_uni side
+  pub requests : has_request (handshake_state calls_) ≡ true → requested_stream calls_ ≢ local_uni side
 
-peers-request : (side : Side) (log : Log) → Handshakes side log → has_request (handshake_state (calls_of log)) ≡ true → requested (calls_of log) ≢ local_uni side
+peers-request : (side : Side) (log : Log) → Handshakes side log → has_request (handshake_state (calls_of log)) ≡ true → requested_stream (calls_of log) ≢ local_uni side
 peers-request side log h r e =
-    let w = h.delivered (requested (calls_of log)) (h.has_one r) in
+    let w = h.delivered (requested_stream (calls_of log)) (h.has_one r) in
     let n = local-unclassified side log (local_uni side) (or_left (local_uni side % 4 == local_uni side) _ (self side)) in
     absurd (let x = ap (λ k. verdict_of k (stream_table side log).classified) e in let y = w.verdict in cc)
   where
@@ -136,9 +136,9 @@ pending-on side log =
     let k = local_uni side in
     let a = control_actions (nat_lt 0 (unis_allowed (events_of log))) k (credit (events_of log) k) (control_sent side log) in
     let b = stop_actions (stream_table side log).progress.stops in
-    let c = close_actions (session_id (established (calls_of log))) (stream_table side log).progress.ending in
+    let c = close_actions (session_id (established_session (calls_of log))) (stream_table side log).progress.ending in
     sends-append k (a ++ b) c ∙ ap (λ xs. xs ++ sends_of k c) (sends-append k a b) ∙ ap (λ xs. sends_of k a ++ xs ++ sends_of k c) (stops-on (stream_table side log).progress.stops k)
-    ∙ ap (λ xs. sends_of k a ++ [] ++ xs) (close-on (session_id (established (calls_of log))) (stream_table side log).progress.ending k)
+    ∙ ap (λ xs. sends_of k a ++ [] ++ xs) (close-on (session_id (established_session (calls_of log))) (stream_table side log).progress.ending k)
     ∙ append-nil (sends_of k a ++ []) ∙ append-nil (sends_of k a) ∙ control-on (nat_lt 0 (unis_allowed (events_of log))) k (credit (events_of log) k) (control_sent side log)
 
 -- a stream that is allowed is opened
@@ -166,7 +166,7 @@ opens-control side log a z = at (local_count (actions_of log) (local_uni side) =
     at true e =
         first-opens side log (pending_actions side log) _
         (begins-open (nat_lt 0 (unis_allowed (events_of log))) (local_count (actions_of log) (local_uni side) == 0) (local_uni side) (credit (events_of log) (local_uni side)) (length (sent_on (actions_of log) (local_uni side)))
-        (stop_actions (stream_table side log).progress.stops) (close_actions (session_id (established (calls_of log))) (stream_table side log).progress.ending) a e) z
+        (stop_actions (stream_table side log).progress.stops) (close_actions (session_id (established_session (calls_of log))) (stream_table side log).progress.ending) a e) z
 
 -- ---- a moment
 

@@ -19,9 +19,9 @@ use Rattle.wt_laws.specs.Laws.{GoesOut, TakenGoesOut}
 use Rattle.wt_spec.specs.Answers.{answer_to, call_effect, in_session, log_after}
 use Rattle.wt_spec.specs.Connect.{address_of, authority_of, connect_to, dial, path_of, port_of, request_head, reserved_name, unless_stopped, with_address}
 use Rattle.wt_spec.specs.Connection.{close_connection, datagram_allowed, datagram_within, open_stream, send_datagram}
-use Rattle.wt_spec.specs.Driver.{established}
+use Rattle.wt_spec.specs.Driver.{established_session}
 use Rattle.wt_spec.specs.Effect.{Effect, log_call}
-use Rattle.wt_spec.specs.Halves.{finish, finishing, has_receiving_half, has_sending_half, is_done, on_half, reset, stop_receiving}
+use Rattle.wt_spec.specs.Halves.{finish, finish_once, has_receiving_half, has_sending_half, is_done, on_half, reset, stop_receiving}
 use Rattle.wt_spec.specs.Handshake.{fail_connect}
 use Rattle.wt_turn.specs.declared.action.Action.TheVariants as actions
 use Rattle.wt_turn.specs.declared.call.Call.TheVariants as calls
@@ -52,8 +52,8 @@ out-datagram : (side : Side) (log : Log) (payload : List ℕ) (s : ℕ) → Out 
 out-datagram side log payload s =
     by-test (Out side log replies.Done (actions.DatagramOut (datagram_bytes (s / 4) payload)) Polled) (is_open log) _ _ (λ o. out-allowed side log (datagram_bytes (s / 4) payload) (datagram_fact (events_of log))) (λ o e. absurd (cc))
 
-in-datagram : (side : Side) (log : Log) (payload : List ℕ) (o : Option (ℕ × ℕ)) → established (calls_of log) ≡ o → (in_session side log (send_datagram side log payload) o).reply ≡ replies.Done
-    → (s : ℕ) × (at : ℕ) × (established (calls_of log) ≡ Some (s, at)) × ((in_session side log (send_datagram side log payload) o).log ≡ log_call side log (actions.DatagramOut (datagram_bytes (s / 4) payload) ∷ []) Polled)
+in-datagram : (side : Side) (log : Log) (payload : List ℕ) (o : Option (ℕ × ℕ)) → established_session (calls_of log) ≡ o → (in_session side log (send_datagram side log payload) o).reply ≡ replies.Done
+    → (s : ℕ) × (at : ℕ) × (established_session (calls_of log) ≡ Some (s, at)) × ((in_session side log (send_datagram side log payload) o).log ≡ log_call side log (actions.DatagramOut (datagram_bytes (s / 4) payload) ∷ []) Polled)
 in-datagram side log payload None d e = absurd (cc)
 in-datagram side log payload (Some s) d e = (s.0, s.1, d, out-datagram side log payload s.0 e)
 
@@ -81,7 +81,7 @@ out-reset side log k code p =
 out-stop : (side : Side) (log : Log) (k code : ℕ) → is_open log ≡ true → Out side log replies.Done (actions.StopOut k code) (StreamGivenUp k) (stop_receiving side log k code)
 out-stop side log k code p e = open-sends side log (actions.StopOut k code) (StreamGivenUp k) (is_open log) p
 
-finishes-it : (log : Log) (k : ℕ) → is_open log ≡ true → is_finished (actions_of log) k ≡ false → is_reset log k ≡ false → stop_of (events_of log) k ≡ None → finishing log k ≡ actions.Finish k ∷ []
+finishes-it : (log : Log) (k : ℕ) → is_open log ≡ true → is_finished (actions_of log) k ≡ false → is_reset log k ≡ false → stop_of (events_of log) k ≡ None → finish_once log k ≡ actions.Finish k ∷ []
 finishes-it log k o f r s =
     ap (λ (b : Bool). if b then actions.Finish k ∷ [] else []) (all (is_open log) (is_finished (actions_of log) k) (is_reset log k) (stop_of (events_of log) k) o f r s)
   where
@@ -92,7 +92,7 @@ finishes-it log k o f r s =
     all true true y x o f r s = absurd (cc)
     all false z y x o f r s = absurd (cc)
 
-out-finish : (side : Side) (log : Log) (k : ℕ) (b : Bool) → b ≡ true → finishing log k ≡ actions.Finish k ∷ [] → (on_half b side log (λ j. finish side log j) k).log ≡ log_call side log (actions.Finish k ∷ []) Polled
+out-finish : (side : Side) (log : Log) (k : ℕ) (b : Bool) → b ≡ true → finish_once log k ≡ actions.Finish k ∷ [] → (on_half b side log (λ j. finish side log j) k).log ≡ log_call side log (actions.Finish k ∷ []) Polled
 out-finish side log k true h f = ap (λ own. log_call side log own Polled) f
 out-finish side log k false h f = absurd (cc)
 
@@ -108,16 +108,16 @@ out-open side log kind k s =
 
 -- an opening of this kind that a reply names
 abbrev Opens : Side → Log → ℕ → Log → Type 0
-Opens side log k later = (s : ℕ) × (at : ℕ) × (established (calls_of log) ≡ Some (s, at)) × (later ≡ log_call side log (actions.Opened k ∷ []) (OpeningStarted k s))
+Opens side log k later = (s : ℕ) × (at : ℕ) × (established_session (calls_of log) ≡ Some (s, at)) × (later ≡ log_call side log (actions.Opened k ∷ []) (OpeningStarted k s))
 
-in-open : (side : Side) (log : Log) (kind k : ℕ) (o : Option (ℕ × ℕ)) → established (calls_of log) ≡ o → (in_session side log (open_stream side log kind) o).reply ≡ replies.Opening k → Opens side log k (in_session side log (open_stream side log kind) o).log
+in-open : (side : Side) (log : Log) (kind k : ℕ) (o : Option (ℕ × ℕ)) → established_session (calls_of log) ≡ o → (in_session side log (open_stream side log kind) o).reply ≡ replies.Opening k → Opens side log k (in_session side log (open_stream side log kind) o).log
 in-open side log kind k None d e = absurd (cc)
 in-open side log kind k (Some s) d e = (s.0, s.1, d, out-open side log kind k s.0 e)
 
 pub opening-out : (side : Side) (log : Log) (turn : Turn) (kind k : ℕ) → opened_kind side turn ≡ Some kind → (answer_to side log turn).reply ≡ replies.Opening k → Opens side log k (log_after side log turn)
 unfolding call_effect
-opening-out side log (turns.Call calls.OpenUni) kind k t e = in-open side log (local_uni side) k (established (calls_of log)) refl e
-opening-out side log (turns.Call calls.OpenBi) kind k t e = in-open side log (local_bi side) k (established (calls_of log)) refl e
+opening-out side log (turns.Call calls.OpenUni) kind k t e = in-open side log (local_uni side) k (established_session (calls_of log)) refl e
+opening-out side log (turns.Call calls.OpenBi) kind k t e = in-open side log (local_bi side) k (established_session (calls_of log)) refl e
 opening-out side log _ kind k t e = absurd (cc)
 
 -- ---- dialling
@@ -136,8 +136,8 @@ dials-out side log turn address name d =
 pub taken-goes-out : (side : Side) (log : Log) → TakenGoesOut side log
 unfolding call_effect
 taken-goes-out side log = record {
-  datagram = λ payload e. in-datagram side log payload (established (calls_of log)) refl e;
-  close = λ code reason o e. in-close side log code reason (established (calls_of log)) o e;
+  datagram = λ payload e. in-datagram side log payload (established_session (calls_of log)) refl e;
+  close = λ code reason o e. in-close side log code reason (established_session (calls_of log)) o e;
   endpoint_close = λ code reason o. out-close side log code reason o;
   reset = λ k code o e. out-half side log (λ j. reset side log j code) k (actions.ResetOut k code) Polled (has_sending_half side log k) (out-reset side log k code o) e;
   stop = λ k code o e. out-half side log (λ j. stop_receiving side log j code) k (actions.StopOut k code) (StreamGivenUp k) (has_receiving_half side log k) (out-stop side log k code o) e;

@@ -5,12 +5,12 @@ use Rattle.std.proofs.lemmas.Bool.{eq-eqb}
 use Rattle.std.proofs.lemmas.List.{append-nil, append_assoc}
 use Rattle.wt_seam_spec.specs.Arrivals.{event_entry}
 use Rattle.wt_seam_spec.specs.Streams.{contents}
-use Rattle.wt_turn.specs.Log.{Acked, Connected, Datagram, DatagramLimit, End, Event, Log, Loss, MaxBi, MaxData, MaxUni, PeerBi, PeerUni, Received, Reset, Stop, is_open}
+use Rattle.wt_turn.specs.Log.{Event, Log, Received, is_open}
 use Rattle.wt_turn.specs.declared.turn.Turn.{Turn}
 use Rattle.wt_wire.specs.declared.side.Side.{Side}
 use Rattle.wt_laws.proofs.RunLaws.{late-bytes}
 use Rattle.wt_laws.proofs.Steps.{blind-flush}
-use Rattle.wt_spec.specs.Turns.{event_of}
+use Rattle.wt_turn.specs.Turns.{event_of}
 use Rattle.wt_laws.specs.Telling.{PieceArrives, TellingArrives}
 use Rattle.wt_spec.specs.Answers.{log_after, receive}
 use Rattle.wt_spec.specs.Driver.{log_and_flush}
@@ -23,19 +23,7 @@ module _ (side : Side) (log : Log) where
   event-arrives : (turn : Turn) (e : Event) → event_of turn ≡ Some e → log_after side log turn ≡ log_and_flush side log (event_entry (is_open log) e)
   event-arrives (turns.Call c) e t = absurd (cc)
   event-arrives (turns.Bytes id piece) e t = absurd (cc)
-  event-arrives (turns.Connected uni bi credit fact) e t = told (Connected uni bi credit fact) e t
-  event-arrives turns.PeerUni e t = told PeerUni e t
-  event-arrives turns.PeerBi e t = told PeerBi e t
-  event-arrives (turns.End id) e t = told (End id) e t
-  event-arrives (turns.Reset id code) e t = told (Reset id code) e t
-  event-arrives (turns.Stop id code) e t = told (Stop id code) e t
-  event-arrives (turns.Acked id) e t = told (Acked id) e t
-  event-arrives (turns.Datagram piece) e t = told (Datagram piece) e t
-  event-arrives (turns.MaxUni total) e t = told (MaxUni total) e t
-  event-arrives (turns.MaxBi total) e t = told (MaxBi total) e t
-  event-arrives (turns.MaxData id total) e t = told (MaxData id total) e t
-  event-arrives (turns.DatagramLimit fact) e t = told (DatagramLimit fact) e t
-  event-arrives (turns.Loss reason) e t = told (Loss reason) e t
+  event-arrives _ e t = told _ e t
 
 module _ (side : Side) (id : ℕ) where
   byte-in : (log : Log) (b : ℕ) → contents (log_and_flush side log (Received id b)) id ≡ contents log id ++ b ∷ []

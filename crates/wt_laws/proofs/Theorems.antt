@@ -35,10 +35,10 @@ use Rattle.wt_laws.specs.Exactly.{AsksFirst, ConnectGoesOn, ConnectsAnswer, Head
 use Rattle.wt_laws.specs.Laws.{CutsWell, DatagramsInOrder, FaultCloses, HeadersOut, NothingAfterEnd, OneSession, OpenExactly, ReadsFromStart, ReadsInOrder, ReplyHasCause, ResultStays, SendsAll, SendsEnd, SendsInOrder, SessionStreamOut, SessionTold, SessionsRightly, SettingsOut, StreamsAcceptedRightly, TakenGoesOut, WithinCredit}
 use Rattle.wt_laws.specs.Left.{PendingExactly, is_pending}
 use Rattle.wt_laws.specs.Reachable.{AllLawful, IsReachable, exchanges}
-use Rattle.wt_spec.specs.Turns.{is_call}
+use Rattle.wt_turn.specs.Turns.{is_call}
 use Rattle.wt_laws.specs.Runs.{DoneLate, InOrderOfOpening, LateChangesNothing, RunsLawful, RunsLongest, StaysSo}
 use Rattle.wt_spec.specs.Answers.{answer_to, is_lawful, log_from}
-use Rattle.wt_spec.specs.Driver.{established, stream_table}
+use Rattle.wt_spec.specs.Driver.{established_session, stream_table}
 use Rattle.wt_spec.specs.Halves.{has_receiving_half, has_sending_half}
 use Rattle.wt_spec.specs.Handshake.{Connecting, handshake_state}
 use Rattle.wt_turn.specs.declared.turn.Turn.TheVariants as turns
@@ -121,7 +121,7 @@ late_theorem = done-late
 pub asks_first_theorem : (side : Side) (log : Log) (call : Call) → AsksFirst side log call
 asks_first_theorem = asks-first
 
-pub session_calls_theorem : (side : Side) (log : Log) (s at : ℕ) → established (calls_of log) ≡ Some (s, at) → SessionCallsAnswer side log s
+pub session_calls_theorem : (side : Side) (log : Log) (s at : ℕ) → established_session (calls_of log) ≡ Some (s, at) → SessionCallsAnswer side log s
 session_calls_theorem = session-calls
 
 pub sending_calls_theorem : (side : Side) (log : Log) (k : ℕ) → has_sending_half side log k ≡ true → SendingCallsAnswer side log k

@@ -5,7 +5,7 @@ use Rattle.std.proofs.lemmas.Bool.{eq-eqb}
 use Rattle.std.proofs.lemmas.List.{append-nil, append_assoc}
 use Rattle.wt_seam_spec.specs.Arrivals.{event_entry}
 use Rattle.wt_seam_spec.specs.Streams.{contents}
-use Rattle.wt_turn.specs.Log.{Acked, Called, Connected, Datagram, DatagramLimit, End, Entry, Event, Log, Loss, MaxBi, MaxData, MaxUni, PeerBi, PeerUni, Received, Reported, ReportedLate, Reset, Sent, Stop, is_open, with_actions}
+use Rattle.wt_turn.specs.Log.{Called, Entry, Event, Log, Received, Reported, ReportedLate, Sent, is_open, with_actions}
 use Rattle.wt_turn.specs.declared.action.Action.{Action}
 use Rattle.wt_turn.specs.declared.call.Call.{Call}
 use Rattle.wt_turn.specs.declared.turn.Turn.{Turn}
@@ -17,7 +17,7 @@ use Rattle.wt_laws.proofs.RunLaws.{late-bytes}
 use Rattle.wt_laws.proofs.Steps as steps
 use Rattle.wt_laws.proofs.Steps.{ByByte, ByEvent, ByLate, Nothing, Steps, blind-flush, of-record}
 use Rattle.wt_laws.specs.Causes.{OwnCauses}
-use Rattle.wt_spec.specs.Turns.{event_of, is_call}
+use Rattle.wt_turn.specs.Turns.{event_of, is_call}
 use Rattle.wt_laws.specs.Laws.{DriverCauses, GoesOnFrom}
 use Rattle.wt_laws.specs.Reachable.{AfterTurn, AtStart, IsReachable}
 use Rattle.wt_laws.specs.TurnCauses.{ActionsWentOut, AfterAction, AtOnce, AtTurn, ByCall, ByDriver, CausedIn, EntriesHaveCauses, EntryCause, ReplyIsRecorded, SentIn, SinceMoment, WentOut, WithEntry}
@@ -95,19 +95,7 @@ module _ (side : Side) (id : ℕ) (piece : List ℕ) (start : Log) where
 pub entries-have-causes : (side : Side) (log : Log) (turn : Turn) → is_lawful side log turn ≡ true → EntriesHaveCauses side log turn
 entries-have-causes side log (turns.Call c) l = let x = caused side (turns.Call c) log l in call-caused side (turns.Call c) log c refl x.after (call-caused side (turns.Call c) log c refl x.before AtTurn)
 entries-have-causes side log (turns.Bytes id piece) l = pieces-caused side id piece log piece [] log refl (sym (append-nil (contents log id))) AtTurn
-entries-have-causes side log (turns.Connected uni bi credit fact) l = event-caused side (turns.Connected uni bi credit fact) log (Connected uni bi credit fact) (is_open log) refl refl
-entries-have-causes side log turns.PeerUni l = event-caused side turns.PeerUni log PeerUni (is_open log) refl refl
-entries-have-causes side log turns.PeerBi l = event-caused side turns.PeerBi log PeerBi (is_open log) refl refl
-entries-have-causes side log (turns.End id) l = event-caused side (turns.End id) log (End id) (is_open log) refl refl
-entries-have-causes side log (turns.Reset id code) l = event-caused side (turns.Reset id code) log (Reset id code) (is_open log) refl refl
-entries-have-causes side log (turns.Stop id code) l = event-caused side (turns.Stop id code) log (Stop id code) (is_open log) refl refl
-entries-have-causes side log (turns.Acked id) l = event-caused side (turns.Acked id) log (Acked id) (is_open log) refl refl
-entries-have-causes side log (turns.Datagram piece) l = event-caused side (turns.Datagram piece) log (Datagram piece) (is_open log) refl refl
-entries-have-causes side log (turns.MaxUni total) l = event-caused side (turns.MaxUni total) log (MaxUni total) (is_open log) refl refl
-entries-have-causes side log (turns.MaxBi total) l = event-caused side (turns.MaxBi total) log (MaxBi total) (is_open log) refl refl
-entries-have-causes side log (turns.MaxData id total) l = event-caused side (turns.MaxData id total) log (MaxData id total) (is_open log) refl refl
-entries-have-causes side log (turns.DatagramLimit fact) l = event-caused side (turns.DatagramLimit fact) log (DatagramLimit fact) (is_open log) refl refl
-entries-have-causes side log (turns.Loss reason) l = event-caused side (turns.Loss reason) log (Loss reason) (is_open log) refl refl
+entries-have-causes side log turn l = event-caused side turn log _ (is_open log) refl refl
 
 -- ---- every action of a run
 

@@ -19,13 +19,13 @@ use Rattle.wt_laws.proofs.Sends.{sent-with}
 use Rattle.wt_laws.proofs.SessionLaws.{one-session}
 use Rattle.wt_laws.proofs.SessionStream.{Both, Out, SoFar, keeps-out, not-true-so, out-own, so-far, so-far-turn, start-of-turn}
 use Rattle.wt_laws.proofs.Steps.{Keeps, KeepsEntries, blind-flush, by-entries, calls-with, of-record}
-use Rattle.wt_laws.specs.Causes.{AcceptCause, ByAccept, ByOpening, OwnCauses, bytes_for, frame_of, is_accept, polls_opening}
+use Rattle.wt_laws.specs.Causes.{AcceptCause, ByAccept, ByOpening, OwnCauses, bytes_for, head_frame_of, is_accept, polls_opening}
 use Rattle.wt_laws.specs.Laws.{SendsAll, accepted_by, head_of, written_on}
 use Rattle.wt_laws.specs.Reachable.{AfterTurn, AllLawful, AtStart, Exchange, IsReachable, exchanges}
 use Rattle.wt_laws.specs.RecordCauses.{RecordCause}
 use Rattle.wt_spec.specs.Answers.{answer_to, is_lawful, log_after, log_from}
 use Rattle.wt_spec.specs.Connection.{accepts_stream, starts_opening, stream_header}
-use Rattle.wt_spec.specs.Driver.{delivers, established, session_id}
+use Rattle.wt_spec.specs.Driver.{delivers, established_session, session_id}
 use Rattle.wt_spec.specs.Effect.{head_left}
 use Rattle.wt_spec.specs.Halves.{has_sending_half, is_accepted}
 use Rattle.wt_turn.specs.declared.call.Call.TheVariants as calls
@@ -34,7 +34,7 @@ use Rattle.wt_turn.specs.declared.turn.Turn.TheVariants as turns
 -- the stream has its head and nothing more, once it is given
 record Fresh (side : Side) (frame : Option (List ℕ)) (k : ℕ) (log : Log) : Type 0 where
   pub both : Both side frame log
-  pub whole : (s at : ℕ) → is_accepted log k ≡ true → established (calls_of log) ≡ Some (s, at) → sent_on (actions_of log) k ≡ head_of side k s
+  pub whole : (s at : ℕ) → is_accepted log k ≡ true → established_session (calls_of log) ≡ Some (s, at) → sent_on (actions_of log) k ≡ head_of side k s
 
 head-local : (side : Side) (k s : ℕ) → is_local side k ≡ true → head_of side k s ≡ stream_header k s
 head-local side k s l = ap (λ (b : Bool). if b then stream_header k s else []) l
@@ -42,7 +42,7 @@ head-local side k s l = ap (λ (b : Bool). if b then stream_header k s else []) 
 head-peers : (side : Side) (k s : ℕ) → is_local side k ≡ false → head_of side k s ≡ []
 head-peers side k s l = ap (λ (b : Bool). if b then stream_header k s else []) l
 
-module _ (side : Side) (frame : Option (List ℕ)) (turn : Turn) (t : (head : List ℕ) → frame_of turn ≡ Some head → frame ≡ Some head) (k : ℕ) (c : (local_uni side == k) ≡ false) (n : bytes_for k turn ≡ None) where
+module _ (side : Side) (frame : Option (List ℕ)) (turn : Turn) (t : (head : List ℕ) → head_frame_of turn ≡ Some head → frame ≡ Some head) (k : ℕ) (c : (local_uni side == k) ≡ false) (n : bytes_for k turn ≡ None) where
   module _ (log : Log) (own : List Action) (x : OwnCauses side turn log own) (p : Fresh side frame k log) where
     abbrev later : Log
     later = with_actions own log
@@ -50,14 +50,14 @@ module _ (side : Side) (frame : Option (List ℕ)) (turn : Turn) (t : (head : Li
     out-later : Out side frame later
     out-later = out-own side frame turn t own log x p.both.out
 
-    older : (s at : ℕ) → is_accepted later k ≡ true → established (calls_of later) ≡ Some (s, at) → sent_on (actions_of later) k ≡ head_of side k s
+    older : (s at : ℕ) → is_accepted later k ≡ true → established_session (calls_of later) ≡ Some (s, at) → sent_on (actions_of later) k ≡ head_of side k s
     older s at a d =
         let q = calls-with own log in
         let b : is_accepted log k ≡ true = ap (list_any (accepts_stream k)) (sym q) ∙ a in
-        sent-with k own log ∙ ap (λ xs. sent_on (actions_of log) k ++ xs) (other-own side turn k own log n (alone side log k p.both.out.heads.given b) x) ∙ append-nil (sent_on (actions_of log) k) ∙ p.whole s at b (ap established (sym q) ∙ d)
+        sent-with k own log ∙ ap (λ xs. sent_on (actions_of log) k ++ xs) (other-own side turn k own log n (alone side log k p.both.out.heads.given b) x) ∙ append-nil (sent_on (actions_of log) k) ∙ p.whole s at b (ap established_session (sym q) ∙ d)
 
     -- a stream that is given now
-    new-one : (s at : ℕ) → is_accepted later k ≡ false → AcceptCause side turn later k → established (calls_of later) ≡ Some (s, at) → sent_on (actions_of later) k ≡ head_of side k s
+    new-one : (s at : ℕ) → is_accepted later k ≡ false → AcceptCause side turn later k → established_session (calls_of later) ≡ Some (s, at) → sent_on (actions_of later) k ≡ head_of side k s
     new-one s at a (ByAccept f) d =
         let v = found-sessions side turn later k f in
         let l = not-true-so (is_local side k) (λ l. absurd (let u = local-unclassified side later k l in let w = v.1 in cc)) in
@@ -70,7 +70,7 @@ module _ (side : Side) (frame : Option (List ℕ)) (turn : Turn) (t : (head : Li
         let q = out-later.heads.begun k s at f.opening d in
         all-of-it side turn later [] q.0 (stream_header k s) (sent_on (actions_of later) k) q.1 w ∙ sym (head-local side k s l)
 
-    recorded : (r : CallRecord) (s at : ℕ) → RecordCause side turn later r → list_any (accepts_stream k) (r ∷ calls_of later) ≡ true → established (r ∷ calls_of later) ≡ Some (s, at) → sent_on (actions_of later) k ≡ head_of side k s
+    recorded : (r : CallRecord) (s at : ℕ) → RecordCause side turn later r → list_any (accepts_stream k) (r ∷ calls_of later) ≡ true → established_session (r ∷ calls_of later) ≡ Some (s, at) → sent_on (actions_of later) k ≡ head_of side k s
     recorded (StreamAccepted id) s at y a d = known (is_accepted later k) refl
       where
         known : (b : Bool) → is_accepted later k ≡ b → sent_on (actions_of later) k ≡ head_of side k s
@@ -87,18 +87,18 @@ module _ (side : Side) (frame : Option (List ℕ)) (turn : Turn) (t : (head : Li
   keeps-fresh = record {
     event = λ log e o b p. record {
       both = (keeps-out side frame turn t).event log e o b p.both;
-      whole = λ s at a d. flush-other side (Reported e) log k c ∙ p.whole s at (sym (flushed-accept side (Reported e) log k) ∙ a) (ap established (sym (blind-flush calls_of (λ a g. refl) side (Reported e) log)) ∙ d);
+      whole = λ s at a d. flush-other side (Reported e) log k c ∙ p.whole s at (sym (flushed-accept side (Reported e) log k) ∙ a) (ap established_session (sym (blind-flush calls_of (λ a g. refl) side (Reported e) log)) ∙ d);
     };
     late = λ log e o b p. record { both = (keeps-out side frame turn t).late log e o b p.both; whole = p.whole };
     byte = λ log id b o r p. record {
       both = (keeps-out side frame turn t).byte log id b o r p.both;
-      whole = λ s at a d. flush-other side (Received id b) log k c ∙ p.whole s at (sym (flushed-accept side (Received id b) log k) ∙ a) (ap established (sym (blind-flush calls_of (λ a g. refl) side (Received id b) log)) ∙ d);
+      whole = λ s at a d. flush-other side (Received id b) log k c ∙ p.whole s at (sym (flushed-accept side (Received id b) log k) ∙ a) (ap established_session (sym (blind-flush calls_of (λ a g. refl) side (Received id b) log)) ∙ d);
     };
     call = λ log own r x y p. record {
       both = (keeps-out side frame turn t).call log own r x y p.both;
       whole = λ s at a d.
           flush-other side (Called r) (with_actions own log) k c
-          ∙ recorded log own x p r s at (of-record side turn log own r y) (sym (flushed-accept side (Called r) (with_actions own log) k) ∙ a) (ap established (sym (blind-flush calls_of (λ a g. refl) side (Called r) (with_actions own log))) ∙ d);
+          ∙ recorded log own x p r s at (of-record side turn log own r y) (sym (flushed-accept side (Called r) (with_actions own log) k) ∙ a) (ap established_session (sym (blind-flush calls_of (λ a g. refl) side (Called r) (with_actions own log))) ∙ d);
     };
   }
 
@@ -140,18 +140,18 @@ module _ (side : Side) (before : List Exchange) (log : Log) (t : Turn) (l : is_l
   accepted-now : (k : ℕ) → List ℕ
   accepted-now k = accepted_by (bytes_for k t) (answer_to side log t).reply
 
-  given-before : (k s at : ℕ) → k ≢ local_uni side → is_accepted log k ≡ true → established (calls_of (log_after side log t)) ≡ Some (s, at) → sent_on (actions_of (log_after side log t)) k ≡ head_of side k s ++ (written_on k before ++ accepted-now k)
+  given-before : (k s at : ℕ) → k ≢ local_uni side → is_accepted log k ≡ true → established_session (calls_of (log_after side log t)) ≡ Some (s, at) → sent_on (actions_of (log_after side log t)) k ≡ head_of side k s ++ (written_on k before ++ accepted-now k)
   unfolding accepted-now
-  given-before k s at n a d = at_session (established (calls_of log)) refl (p.so_far.both.out.heads.given.in_session k a)
+  given-before k s at n a d = at_session (established_session (calls_of log)) refl (p.so_far.both.out.heads.given.in_session k a)
     where
-      at_session : (o : Option (ℕ × ℕ)) → established (calls_of log) ≡ o → is_some o ≡ true → sent_on (actions_of (log_after side log t)) k ≡ head_of side k s ++ (written_on k before ++ accepted_by (bytes_for k t) (answer_to side log t).reply)
+      at_session : (o : Option (ℕ × ℕ)) → established_session (calls_of log) ≡ o → is_some o ≡ true → sent_on (actions_of (log_after side log t)) k ≡ head_of side k s ++ (written_on k before ++ accepted_by (bytes_for k t) (answer_to side log t).reply)
       at_session None e i = absurd (cc)
       at_session (Some x) e i =
           let same : x.0 ≡ s = ap session_id (sym (one-session side log t p.reached l x.0 x.1 e) ∙ d) in
           given-sends side log t p.reached l k n a ∙ ap (λ xs. xs ++ accepted_by (bytes_for k t) (answer_to side log t).reply) (p.all k x.0 x.1 n a e) ∙ append_assoc (head_of side k x.0) (written_on k before) (accepted_by (bytes_for k t) (answer_to side log t).reply)
           ∙ ap (λ j. head_of side k j ++ (written_on k before ++ accepted_by (bytes_for k t) (answer_to side log t).reply)) same
 
-  given-now : (k s at : ℕ) → k ≢ local_uni side → is_accepted log k ≡ false → is_accepted (log_after side log t) k ≡ true → established (calls_of (log_after side log t)) ≡ Some (s, at) → sent_on (actions_of (log_after side log t)) k ≡ head_of side k s ++ (written_on k before ++ accepted-now k)
+  given-now : (k s at : ℕ) → k ≢ local_uni side → is_accepted log k ≡ false → is_accepted (log_after side log t) k ≡ true → established_session (calls_of (log_after side log t)) ≡ Some (s, at) → sent_on (actions_of (log_after side log t)) k ≡ head_of side k s ++ (written_on k before ++ accepted-now k)
   unfolding accepted-now
   given-now k s at n a b d = by (bytes_for k t) refl
     where
@@ -173,7 +173,7 @@ module _ (side : Side) (before : List Exchange) (log : Log) (t : Turn) (l : is_l
     none = λ k a. none-so k a (is_accepted log k) refl;
   }
     where
-      given : (k s at : ℕ) → k ≢ local_uni side → is_accepted (log_after side log t) k ≡ true → established (calls_of (log_after side log t)) ≡ Some (s, at) → (b : Bool) → is_accepted log k ≡ b
+      given : (k s at : ℕ) → k ≢ local_uni side → is_accepted (log_after side log t) k ≡ true → established_session (calls_of (log_after side log t)) ≡ Some (s, at) → (b : Bool) → is_accepted log k ≡ b
           → sent_on (actions_of (log_after side log t)) k ≡ head_of side k s ++ (written_on k before ++ accepted_by (bytes_for k t) (answer_to side log t).reply)
       given k s at n a d true e = given-before k s at n e d
       given k s at n a d false e = given-now k s at n e a d

@@ -8,7 +8,7 @@ use Rattle.wt_message.specs.FixedBytes.{response_bytes}
 use Rattle.wt_proto.specs.ResponseWalk.{response_walk_of}
 use Rattle.wt_proto.specs.declared.response_walk.ResponseWalk.{ResponseWalk}
 use Rattle.wt_seam_spec.specs.Joined.{send_of}
-use Rattle.wt_seam_spec.specs.Outgoing.{covered, may_open, next_id}
+use Rattle.wt_seam_spec.specs.Outgoing.{bytes_within_credit, may_open, next_id}
 use Rattle.wt_seam_spec.specs.Reports.{datagram_fact, end_of, is_acknowledged, stop_of}
 use Rattle.wt_seam_spec.specs.Sent.{is_finished, is_reset}
 use Rattle.wt_seam_spec.specs.Streams.{contents, local_bi, local_count, local_uni, peer_bi, peer_uni}
@@ -25,10 +25,10 @@ use Rattle.wt_wire.specs.declared.side.Side.{Side}
 use Rattle.wt_spec.specs.Answers.{is_client}
 use Rattle.wt_spec.specs.Connect.{address_of, authority_of, outcome_error, path_of, port_of, request_head, server_name}
 use Rattle.wt_spec.specs.Connection.{is_for_session, is_opening, next_datagram, next_due, stream_header}
-use Rattle.wt_spec.specs.Driver.{established, settings_came, stream_table}
+use Rattle.wt_spec.specs.Driver.{established_session, settings_came, stream_table}
 use Rattle.wt_spec.specs.Effect.{head_left, is_covered}
 use Rattle.wt_spec.specs.Halves.{has_receiving_half, has_sending_half, is_done, write_error}
-use Rattle.wt_spec.specs.Handshake.{Connecting, Established, HandshakeState, Over, Requested, Responding, handshake_state, has_success, is_refused, request_end, requested, response_head}
+use Rattle.wt_spec.specs.Handshake.{Connecting, Established, HandshakeState, Over, Requested, Responding, handshake_state, has_success, is_refused, request_end, requested_stream, response_head}
 use Rattle.wt_spec.specs.StreamTable.{Classified, verdict_of}
 use Rattle.wt_turn.specs.declared.action.Action.TheVariants as actions
 use Rattle.wt_turn.specs.declared.call.Call.TheVariants as calls
@@ -84,13 +84,13 @@ request_to headers (Ok url) = Some (request_head (authority_of url) (path_of url
 request_to headers (Err e) = None
 
 -- the frame with which a call begins the session's stream: a connect its request, an answer to a request its response
-abbrev pub frame_of : Turn → Option (List ℕ)
-frame_of (turns.Call (calls.Connect options lookup outcome)) = request_to options.1 (parse_url None options.0)
-frame_of (turns.Call (calls.Accept headers)) = Some (response_head (codes "200") headers)
-frame_of (turns.Call calls.Forbidden) = Some (response_bytes (codes "403"))
-frame_of (turns.Call calls.NotFound) = Some (response_bytes (codes "404"))
-frame_of (turns.Call calls.TooManyRequests) = Some (response_bytes (codes "429"))
-frame_of _ = None
+abbrev pub head_frame_of : Turn → Option (List ℕ)
+head_frame_of (turns.Call (calls.Connect options lookup outcome)) = request_to options.1 (parse_url None options.0)
+head_frame_of (turns.Call (calls.Accept headers)) = Some (response_head (codes "200") headers)
+head_frame_of (turns.Call calls.Forbidden) = Some (response_bytes (codes "403"))
+head_frame_of (turns.Call calls.NotFound) = Some (response_bytes (codes "404"))
+head_frame_of (turns.Call calls.TooManyRequests) = Some (response_bytes (codes "429"))
+head_frame_of _ = None
 
 -- the handshake isn't over
 abbrev pub is_under_way : HandshakeState → Bool
@@ -105,7 +105,7 @@ pub record FoundStream (side : Side) (turn : Turn) (log : Log) (k : ℕ) (for_se
   pub accepts : is_accept turn ≡ true
   pub session : ℕ
   pub at : ℕ
-  pub is_established : established (calls_of log) ≡ Some (session, at)
+  pub is_established : established_session (calls_of log) ≡ Some (session, at)
   pub found : Classified
   pub next : next_due side log (accepted_kind side turn) session ≡ Some found
   pub same : found.id ≡ k
@@ -117,7 +117,7 @@ pub record OpenedStream (side : Side) (turn : Turn) (log : Log) (k : ℕ) : Type
   pub opening : is_opening log k ≡ true
   pub session : ℕ
   pub at : ℕ
-  pub is_established : established (calls_of log) ≡ Some (session, at)
+  pub is_established : established_session (calls_of log) ≡ Some (session, at)
   pub whole : head_left log k (stream_header k session) ≡ []
 
 -- why an accept gives or passes this stream
@@ -130,7 +130,7 @@ pub record FoundDatagram (side : Side) (turn : Turn) (log : Log) (for_session : 
   pub receives : is_receive turn ≡ true
   pub session : ℕ
   pub at : ℕ
-  pub is_established : established (calls_of log) ≡ Some (session, at)
+  pub is_established : established_session (calls_of log) ≡ Some (session, at)
   pub datagram : ℕ × List ℕ
   pub next : next_datagram side log ≡ Some datagram
   pub named : (4 * datagram.0 == session) ≡ for_session
@@ -139,13 +139,13 @@ pub record FoundDatagram (side : Side) (turn : Turn) (log : Log) (for_session : 
 pub data ResponseFrom (turn : Turn) (before : List CallRecord) (accepts : Bool) (head : List ℕ) : Type 0 where
   ByAcceptance : (id : ℕ) (headers : Fields) → accepts ≡ true → turn ≡ turns.Call (calls.Accept headers) → head ≡ response_head (codes "200") headers
       → handshake_state before ≡ Requested id → ResponseFrom turn before accepts head
-  ByRejection : (id : ℕ) → accepts ≡ false → frame_of turn ≡ Some head → handshake_state before ≡ Requested id → ResponseFrom turn before accepts head
+  ByRejection : (id : ℕ) → accepts ≡ false → head_frame_of turn ≡ Some head → handshake_state before ≡ Requested id → ResponseFrom turn before accepts head
   FromBefore : turn ≡ turns.Call calls.Handshake → handshake_state before ≡ Responding accepts head → ResponseFrom turn before accepts head
 
 -- the rest of an acceptance goes out; or the call goes on with a connect that has no reserved name among its headers and whose whole
 -- request is out, and reads a response with a status code from 200 to 299
 pub data EstablishCause (side : Side) (turn : Turn) (log : Log) (own : List Action) (id at : ℕ) : Type 0 where
-  ByAnswer : (head : List ℕ) → ResponseFrom turn (calls_of log) true head → id ≡ requested (calls_of log) → is_covered log id (head_left log id head) ≡ true
+  ByAnswer : (head : List ℕ) → ResponseFrom turn (calls_of log) true head → id ≡ requested_stream (calls_of log) → is_covered log id (head_left log id head) ≡ true
       → own ≡ send_of id (head_left log id head) → at ≡ request_end (verdict_of id (stream_table side log).classified) → EstablishCause side turn log own id at
   ByResponse : (head : List ℕ) (fields : Fields) → turn ≡ turns.Call calls.Handshake → handshake_state (calls_of log) ≡ Connecting None head → settings_came side log ≡ true
       → response_walk_of (contents log id) (end_of (events_of log) id) ≡ responses.Response fields at → has_success fields ≡ true → id ≡ local_bi side → local_count (actions_of (with_actions own log)) id ≢ 0 → head_left (with_actions own log) id head ≡ [] → EstablishCause side turn log own id at
@@ -170,21 +170,21 @@ opened_kind side _ = None
 -- why a stream of this kind is opened: the call opens one on the established session; or a connect under way, with no reserved name
 -- among its headers, opens that of its request, which has none yet
 pub data OpenCause (side : Side) (turn : Turn) (log : Log) (kind : ℕ) : Type 0 where
-  OfCall : (session at : ℕ) → opened_kind side turn ≡ Some kind → established (calls_of log) ≡ Some (session, at) → OpenCause side turn log kind
+  OfCall : (session at : ℕ) → opened_kind side turn ≡ Some kind → established_session (calls_of log) ≡ Some (session, at) → OpenCause side turn log kind
   OfRequest : (head : List ℕ) → turn ≡ turns.Call calls.Handshake → handshake_state (calls_of log) ≡ Connecting None head → settings_came side log ≡ true → kind ≡ local_bi side → local_count (actions_of log) (local_bi side) ≡ 0 → OpenCause side turn log kind
 
 -- what a call sends on a stream, which the peer didn't stop (see ActionCause); of a connect's request, where no reserved name is among
 -- its headers
 pub data SendCause (side : Side) (turn : Turn) (log : Log) (k : ℕ) (piece : List ℕ) : Type 0 where
-  OfWrite : (bytes : List ℕ) → bytes_for k turn ≡ Some bytes → has_sending_half side log k ≡ true → write_error log k ≡ None → piece ≡ covered log k bytes → SendCause side turn log k piece
-  OfHeader : (session at : ℕ) → polls_opening k turn ≡ true → established (calls_of log) ≡ Some (session, at) → is_opening log k ≡ true → piece ≡ covered log k (head_left log k (stream_header k session)) → SendCause side turn log k piece
-  OfResponse : (accepts : Bool) (head : List ℕ) → ResponseFrom turn (calls_of log) accepts head → k ≡ requested (calls_of log) → piece ≡ covered log k (head_left log k head) → SendCause side turn log k piece
-  OfRequest : (head : List ℕ) → turn ≡ turns.Call calls.Handshake → handshake_state (calls_of log) ≡ Connecting None head → k ≡ local_bi side → local_count (actions_of log) (local_bi side) ≢ 0 → piece ≡ covered log k (head_left log k head) → SendCause side turn log k piece
+  OfWrite : (bytes : List ℕ) → bytes_for k turn ≡ Some bytes → has_sending_half side log k ≡ true → write_error log k ≡ None → piece ≡ bytes_within_credit log k bytes → SendCause side turn log k piece
+  OfHeader : (session at : ℕ) → polls_opening k turn ≡ true → established_session (calls_of log) ≡ Some (session, at) → is_opening log k ≡ true → piece ≡ bytes_within_credit log k (head_left log k (stream_header k session)) → SendCause side turn log k piece
+  OfResponse : (accepts : Bool) (head : List ℕ) → ResponseFrom turn (calls_of log) accepts head → k ≡ requested_stream (calls_of log) → piece ≡ bytes_within_credit log k (head_left log k head) → SendCause side turn log k piece
+  OfRequest : (head : List ℕ) → turn ≡ turns.Call calls.Handshake → handshake_state (calls_of log) ≡ Connecting None head → k ≡ local_bi side → local_count (actions_of log) (local_bi side) ≢ 0 → piece ≡ bytes_within_credit log k (head_left log k head) → SendCause side turn log k piece
 
 -- why a sending half is finished
 pub data FinishCause (side : Side) (turn : Turn) (log : Log) (k : ℕ) : Type 0 where
   OfCall : turn ≡ turns.Call (calls.Finish k) → has_sending_half side log k ≡ true → is_finished (actions_of log) k ≡ false → is_reset log k ≡ false → stop_of (events_of log) k ≡ None → FinishCause side turn log k
-  OfRejection : (head : List ℕ) → ResponseFrom turn (calls_of log) false head → k ≡ requested (calls_of log) → head_left log k head ≡ [] → is_finished (actions_of log) k ≡ false → FinishCause side turn log k
+  OfRejection : (head : List ℕ) → ResponseFrom turn (calls_of log) false head → k ≡ requested_stream (calls_of log) → head_left log k head ≡ [] → is_finished (actions_of log) k ≡ false → FinishCause side turn log k
 
 -- why a receiving half is stopped
 pub data StopCause (side : Side) (turn : Turn) (log : Log) (k code : ℕ) : Type 0 where
@@ -208,8 +208,8 @@ IsRequestOut side log request = (local_count (actions_of log) (local_bi side) �
 -- reserved name is among its headers, the peer stopped the request before it was out, its response has no success, or its stream
 -- ended before a response
 pub data HandshakeFailure (side : Side) (turn : Turn) (log : Log) : Type 0 where
-  Rejects : (head : List ℕ) → ResponseFrom turn (calls_of log) false head → is_finished (actions_of log) (requested (calls_of log)) ≡ true
-      → (is_some (stop_of (events_of log) (requested (calls_of log))) || is_acknowledged (events_of log) (requested (calls_of log))) ≡ true → HandshakeFailure side turn log
+  Rejects : (head : List ℕ) → ResponseFrom turn (calls_of log) false head → is_finished (actions_of log) (requested_stream (calls_of log)) ≡ true
+      → (is_some (stop_of (events_of log) (requested_stream (calls_of log))) || is_acknowledged (events_of log) (requested_stream (calls_of log))) ≡ true → HandshakeFailure side turn log
   Reserves : (name head : List ℕ) → turn ≡ turns.Call calls.Handshake → handshake_state (calls_of log) ≡ Connecting (Some name) head → settings_came side log ≡ true → HandshakeFailure side turn log
   Stops : (reserved : Option (List ℕ)) (head : List ℕ) → turn ≡ turns.Call calls.Handshake → handshake_state (calls_of log) ≡ Connecting reserved head → is_refused log (local_bi side) (head_left log (local_bi side) head) ≡ true → HandshakeFailure side turn log
   Declines : (fields : Fields) (at : ℕ) (response : ResponseIs side turn log (responses.Response fields at)) → IsRequestOut side log response.request → has_success fields ≡ false → HandshakeFailure side turn log
@@ -218,13 +218,13 @@ pub data HandshakeFailure (side : Side) (turn : Turn) (log : Log) : Type 0 where
 -- the code with which a handshake that fails closes the connection
 pub data HandshakeCode (side : Side) (turn : Turn) (log : Log) (code : ℕ) : Type 0 where
   Plain : HandshakeFailure side turn log → code ≡ 0 → HandshakeCode side turn log code
-  StoppedEarly : (accepts : Bool) (head : List ℕ) → ResponseFrom turn (calls_of log) accepts head → is_refused log (requested (calls_of log)) (head_left log (requested (calls_of log)) head) ≡ true
+  StoppedEarly : (accepts : Bool) (head : List ℕ) → ResponseFrom turn (calls_of log) accepts head → is_refused log (requested_stream (calls_of log)) (head_left log (requested_stream (calls_of log)) head) ≡ true
       → code ≡ code_of h3.ClosedCriticalStream → HandshakeCode side turn log code
   OfResponse : (fault : ErrorCode) (response : ResponseIs side turn log (responses.Fault fault)) → IsRequestOut side log response.request → code ≡ code_of fault → HandshakeCode side turn log code
 
 -- the application closes the established session, or the endpoint the connection, or a handshake that fails does
 pub data CloseCause (side : Side) (turn : Turn) (log : Log) (code : ℕ) (reason : List ℕ) : Type 0 where
-  OfCall : (session at : ℕ) → turn ≡ turns.Call (calls.Close code reason) → established (calls_of log) ≡ Some (session, at) → CloseCause side turn log code reason
+  OfCall : (session at : ℕ) → turn ≡ turns.Call (calls.Close code reason) → established_session (calls_of log) ≡ Some (session, at) → CloseCause side turn log code reason
   OfEndpoint : turn ≡ turns.Call (calls.EndpointClose code reason) → CloseCause side turn log code reason
   OfHandshake : is_under_way (handshake_state (calls_of log)) ≡ true → HandshakeCode side turn log code → reason ≡ [] → CloseCause side turn log code reason
 
@@ -234,7 +234,7 @@ pub record DatagramOf (turn : Turn) (log : Log) (bytes : List ℕ) : Type 0 wher
   pub session : ℕ
   pub at : ℕ
   pub sends : turn ≡ turns.Call (calls.SendDatagram payload)
-  pub is_established : established (calls_of log) ≡ Some (session, at)
+  pub is_established : established_session (calls_of log) ≡ Some (session, at)
   pub bytes_are : bytes ≡ datagram_bytes (session / 4) payload
 
 -- the call connects to a URL of https

@@ -9,7 +9,7 @@ use Rattle.wt_laws.specs.Causes.{is_receive}
 use Rattle.wt_laws.specs.Laws.{IsDuring, payload_for, payloads_for}
 use Rattle.wt_spec.specs.Answers.{answer_to, log_after}
 use Rattle.wt_spec.specs.Connection.{well_formed}
-use Rattle.wt_spec.specs.Driver.{established, settled_datagrams, stream_table}
+use Rattle.wt_spec.specs.Driver.{established_session, settled_datagrams, stream_table}
 use Rattle.wt_reply.specs.declared.reply.Reply.TheVariants as replies
 
 -- ---- what was received
@@ -37,7 +37,7 @@ pub record DatagramGiven (side : Side) (log : Log) (turn : Turn) (payload : List
   pub by_receive : is_receive turn ≡ true
   pub session : ℕ
   pub begins : ℕ
-  pub is_established : established (calls_of log) ≡ Some (session, begins)
+  pub is_established : established_session (calls_of log) ≡ Some (session, begins)
   pub place : ℕ  -- so many came before it
   pub piece : List ℕ
   pub arrived : slice_get (datagrams_of (events_of log)) place ≡ Some piece

@@ -18,9 +18,9 @@ abbrev pub ending_of : Side → Log → Option Ending
 ending_of side log = (stream_table side log).progress.ending
 
 -- the close that goes out for it: a fault closes with its code, the end of the session with H3_NO_ERROR
-abbrev pub close_of : Ending → Action
-close_of (ByFault code) = actions.Close (code_of code) []
-close_of (BySession code reason by_capsule) = actions.Close (code_of h3.NoError) []
+abbrev pub closing_action : Ending → Action
+closing_action (ByFault code) = actions.Close (code_of code) []
+closing_action (BySession code reason by_capsule) = actions.Close (code_of h3.NoError) []
 
 -- the last of these actions is this one
 abbrev pub EndsWith : Action → List Action → Type 0

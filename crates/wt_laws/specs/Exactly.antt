@@ -7,7 +7,7 @@ use Rattle.wt_message.specs.Datagram.{datagram_bytes}
 use Rattle.wt_message.specs.FixedBytes.{response_bytes}
 use Rattle.wt_proto.specs.ResponseWalk.{response_walk_of}
 use Rattle.wt_proto.specs.declared.response_walk.ResponseWalk.{ResponseWalk}
-use Rattle.wt_seam_spec.specs.Outgoing.{covered, may_open, next_id}
+use Rattle.wt_seam_spec.specs.Outgoing.{bytes_within_credit, may_open, next_id}
 use Rattle.wt_seam_spec.specs.Reports.{credit, datagram_fact, end_of, is_connected, stop_of}
 use Rattle.wt_seam_spec.specs.Sent.{priority_of, sent_on}
 use Rattle.wt_seam_spec.specs.Streams.{contents, local_bi, local_count, local_uni}
@@ -27,10 +27,10 @@ use Rattle.wt_laws.specs.ReplyCauses.{asks_for_session, half_of}
 use Rattle.wt_spec.specs.Answers.{answer_to, log_after}
 use Rattle.wt_spec.specs.Connect.{address_of, outcome_error, port_of}
 use Rattle.wt_spec.specs.Connection.{is_opening, opened_reply, payload_limit, stream_header}
-use Rattle.wt_spec.specs.Driver.{established, settings_came}
+use Rattle.wt_spec.specs.Driver.{established_session, settings_came}
 use Rattle.wt_spec.specs.Effect.{driver_error, head_left, is_covered, is_empty, transport_error}
 use Rattle.wt_spec.specs.Halves.{is_done, unread_body, write_error}
-use Rattle.wt_spec.specs.Handshake.{Connecting, HandshakeState, Responding, handshake_state, has_success, is_refused, lost, queued_requests, request_fields_of, requested, response_head}
+use Rattle.wt_spec.specs.Handshake.{Connecting, HandshakeState, Responding, handshake_state, has_success, is_refused, loss_to_connect, queued_requests, request_fields_of, requested_stream, response_head}
 use Rattle.wt_spec.specs.StreamTable.{Classified}
 use Rattle.wt_turn.specs.declared.call.Call.TheVariants as calls
 use Rattle.wt_error.specs.declared.connecting_error.ConnectingError.TheVariants as connects
@@ -54,7 +54,7 @@ reply_to side log call = (answer_to side log (turns.Call call)).reply
 
 -- without what it asks for, a session or a half of a stream, a call says so: the session first
 pub record AsksFirst (side : Side) (log : Log) (call : Call) : Type 0 where
-  pub no_session : asks_for_session (turns.Call call) ≡ true → established (calls_of log) ≡ None → reply_to side log call ≡ replies.NoSession
+  pub no_session : asks_for_session (turns.Call call) ≡ true → established_session (calls_of log) ≡ None → reply_to side log call ≡ replies.NoSession
   pub no_half : asks_for_session (turns.Call call) ≡ false → half_of side log (turns.Call call) ≡ Some false → reply_to side log call ≡ replies.NoStream
 
 -- ---- the calls on session s
@@ -88,10 +88,10 @@ pub record SessionCallsAnswer (side : Side) (log : Log) (s : ℕ) : Type 0 where
 pub record SendingCallsAnswer (side : Side) (log : Log) (k : ℕ) : Type 0 where
   pub write_failed : (bytes : List ℕ) (e : StreamWriteError) → write_error log k ≡ Some e → reply_to side log (calls.Write k bytes) ≡ replies.WriteFailed e
   pub write_none : write_error log k ≡ None → reply_to side log (calls.Write k []) ≡ replies.Written 0
-  pub written : (bytes : List ℕ) (b : ℕ) (more : List ℕ) → write_error log k ≡ None → covered log k bytes ≡ b ∷ more → reply_to side log (calls.Write k bytes) ≡ replies.Written (length (b ∷ more))
+  pub written : (bytes : List ℕ) (b : ℕ) (more : List ℕ) → write_error log k ≡ None → bytes_within_credit log k bytes ≡ b ∷ more → reply_to side log (calls.Write k bytes) ≡ replies.Written (length (b ∷ more))
   pub write_all_failed : (bytes : List ℕ) (e : StreamWriteError) → write_error log k ≡ Some e → reply_to side log (calls.WriteAll k bytes) ≡ replies.WriteFailed e
-  pub all_written : (bytes : List ℕ) → write_error log k ≡ None → (length (covered log k bytes) == length bytes) ≡ true → reply_to side log (calls.WriteAll k bytes) ≡ replies.AllWritten
-  pub some_written : (bytes : List ℕ) → write_error log k ≡ None → (length (covered log k bytes) == length bytes) ≡ false → reply_to side log (calls.WriteAll k bytes) ≡ replies.Count (length (covered log k bytes))
+  pub all_written : (bytes : List ℕ) → write_error log k ≡ None → (length (bytes_within_credit log k bytes) == length bytes) ≡ true → reply_to side log (calls.WriteAll k bytes) ≡ replies.AllWritten
+  pub some_written : (bytes : List ℕ) → write_error log k ≡ None → (length (bytes_within_credit log k bytes) == length bytes) ≡ false → reply_to side log (calls.WriteAll k bytes) ≡ replies.Count (length (bytes_within_credit log k bytes))
   pub finish_stopped : (code : ℕ) → stop_of (events_of log) k ≡ Some code → reply_to side log (calls.Finish k) ≡ replies.WriteFailed (writes.Stopped code)
   pub finished : stop_of (events_of log) k ≡ None → is_done log k ≡ true → reply_to side log (calls.Finish k) ≡ replies.Finished
   pub finish_ended : stop_of (events_of log) k ≡ None → is_done log k ≡ false → is_open log ≡ false → reply_to side log (calls.Finish k) ≡ replies.WriteFailed writes.NotConnected
@@ -132,19 +132,19 @@ response_by state call = None
 
 -- the rest of a response on the request's stream
 abbrev pub response_rest : Log → List ℕ → List ℕ
-response_rest log head = head_left log (requested (calls_of log)) head
+response_rest log head = head_left log (requested_stream (calls_of log)) head
 
 -- An acceptance or a rejection, in its order: the connection's end, the peer's stop, then the response that is out.
 pub record ResponsesAnswer (side : Side) (log : Log) (call : Call) : Type 0 where
   pub accept_ended : (head : List ℕ) → response_by (handshake_state (calls_of log)) call ≡ Some (true, head) → is_open log ≡ false → reply_to side log call ≡ replies.Failed (transport_error log)
-  pub accept_refused : (head : List ℕ) → response_by (handshake_state (calls_of log)) call ≡ Some (true, head) → is_open log ≡ true → is_refused log (requested (calls_of log)) (response_rest log head) ≡ true
+  pub accept_refused : (head : List ℕ) → response_by (handshake_state (calls_of log)) call ≡ Some (true, head) → is_open log ≡ true → is_refused log (requested_stream (calls_of log)) (response_rest log head) ≡ true
       → reply_to side log call ≡ replies.Failed (errors.LocalH3Error h3.ClosedCriticalStream)
-  pub accept_out : (head : List ℕ) → response_by (handshake_state (calls_of log)) call ≡ Some (true, head) → is_open log ≡ true → is_refused log (requested (calls_of log)) (response_rest log head) ≡ false → is_covered log (requested (calls_of log)) (response_rest log head) ≡ true
-      → reply_to side log call ≡ replies.Session (requested (calls_of log))
+  pub accept_out : (head : List ℕ) → response_by (handshake_state (calls_of log)) call ≡ Some (true, head) → is_open log ≡ true → is_refused log (requested_stream (calls_of log)) (response_rest log head) ≡ false → is_covered log (requested_stream (calls_of log)) (response_rest log head) ≡ true
+      → reply_to side log call ≡ replies.Session (requested_stream (calls_of log))
   pub reject_ended : (head : List ℕ) → response_by (handshake_state (calls_of log)) call ≡ Some (false, head) → is_open log ≡ false → reply_to side log call ≡ replies.Rejected
-  pub reject_refused : (head : List ℕ) → response_by (handshake_state (calls_of log)) call ≡ Some (false, head) → is_open log ≡ true → is_refused log (requested (calls_of log)) (response_rest log head) ≡ true → reply_to side log call ≡ replies.Rejected
-  pub rejected : (head : List ℕ) → response_by (handshake_state (calls_of log)) call ≡ Some (false, head) → is_open log ≡ true → is_refused log (requested (calls_of log)) (response_rest log head) ≡ false → is_covered log (requested (calls_of log)) (response_rest log head) ≡ true
-      → is_response_over log (requested (calls_of log)) ≡ true → reply_to side log call ≡ replies.Rejected
+  pub reject_refused : (head : List ℕ) → response_by (handshake_state (calls_of log)) call ≡ Some (false, head) → is_open log ≡ true → is_refused log (requested_stream (calls_of log)) (response_rest log head) ≡ true → reply_to side log call ≡ replies.Rejected
+  pub rejected : (head : List ℕ) → response_by (handshake_state (calls_of log)) call ≡ Some (false, head) → is_open log ≡ true → is_refused log (requested_stream (calls_of log)) (response_rest log head) ≡ false → is_covered log (requested_stream (calls_of log)) (response_rest log head) ≡ true
+      → is_response_over log (requested_stream (calls_of log)) ≡ true → reply_to side log call ≡ replies.Rejected
 
 -- a call for a request gives the first that is queued, and without one fails once the connection has ended
 pub record RequestsAnswer (side : Side) (log : Log) : Type 0 where
@@ -174,7 +174,7 @@ pub data RequestOut (side : Side) (log : Log) (head : List ℕ) : Type 0 where
 
 -- A connect that is under way, with this reserved name among its headers and this request, step by step.
 pub record ConnectGoesOn (side : Side) (log : Log) (reserved : Option (List ℕ)) (head : List ℕ) : Type 0 where
-  pub no_connection : is_connected (events_of log) ≡ false → is_open log ≡ false → reply_to side log calls.Handshake ≡ replies.ConnectFailed (lost log)
+  pub no_connection : is_connected (events_of log) ≡ false → is_open log ≡ false → reply_to side log calls.Handshake ≡ replies.ConnectFailed (loss_to_connect log)
   pub no_settings : is_connected (events_of log) ≡ true → settings_came side log ≡ false → is_open log ≡ false → reply_to side log calls.Handshake ≡ replies.ConnectFailed (connects.ConnectionError (driver_error side log))
   pub reserved_name : (name : List ℕ) → is_connected (events_of log) ≡ true → settings_came side log ≡ true → reserved ≡ Some name → reply_to side log calls.Handshake ≡ replies.ConnectFailed (connects.ReservedHeader name)
 
@@ -186,12 +186,12 @@ pub record MaySend (side : Side) (log : Log) (head : List ℕ) : Type 0 where
 
 -- Behind these steps: the stream of the request, the request, then its response.
 pub record RequestGoesOn (side : Side) (log : Log) (head : List ℕ) : Type 0 where
-  pub no_stream : local_count (actions_of log) (local_bi side) ≡ 0 → is_open log ≡ false → reply_to side log calls.Handshake ≡ replies.ConnectFailed (lost log)
-  pub unsent : local_count (actions_of log) (local_bi side) ≢ 0 → is_empty (head_left log (local_bi side) head) ≡ false → is_open log ≡ false → reply_to side log calls.Handshake ≡ replies.ConnectFailed (lost log)
+  pub no_stream : local_count (actions_of log) (local_bi side) ≡ 0 → is_open log ≡ false → reply_to side log calls.Handshake ≡ replies.ConnectFailed (loss_to_connect log)
+  pub unsent : local_count (actions_of log) (local_bi side) ≢ 0 → is_empty (head_left log (local_bi side) head) ≡ false → is_open log ≡ false → reply_to side log calls.Handshake ≡ replies.ConnectFailed (loss_to_connect log)
   pub refused : local_count (actions_of log) (local_bi side) ≢ 0 → is_open log ≡ true → is_refused log (local_bi side) (head_left log (local_bi side) head) ≡ true → reply_to side log calls.Handshake ≡ replies.ConnectFailed connects.SessionRejected
   pub fault : (code : ErrorCode) → RequestOut side log head → walk_at side log ≡ responses.Fault code → reply_to side log calls.Handshake ≡ replies.ConnectFailed (connects.ConnectionError (errors.LocalH3Error code))
-  pub stream_end : RequestOut side log head → walk_at side log ≡ responses.Ended → reply_to side log calls.Handshake ≡ replies.ConnectFailed (lost log)
-  pub no_response : RequestOut side log head → walk_at side log ≡ responses.Waiting → is_open log ≡ false → reply_to side log calls.Handshake ≡ replies.ConnectFailed (lost log)
+  pub stream_end : RequestOut side log head → walk_at side log ≡ responses.Ended → reply_to side log calls.Handshake ≡ replies.ConnectFailed (loss_to_connect log)
+  pub no_response : RequestOut side log head → walk_at side log ≡ responses.Waiting → is_open log ≡ false → reply_to side log calls.Handshake ≡ replies.ConnectFailed (loss_to_connect log)
   pub rejected : (fields : Fields) (at : ℕ) → RequestOut side log head → walk_at side log ≡ responses.Response fields at → has_success fields ≡ false → reply_to side log calls.Handshake ≡ replies.ConnectFailed connects.SessionRejected
   pub session : (fields : Fields) (at : ℕ) → RequestOut side log head → walk_at side log ≡ responses.Response fields at → has_success fields ≡ true → is_open log ≡ true → reply_to side log calls.Handshake ≡ replies.Session (local_bi side)
   pub ended : (fields : Fields) (at : ℕ) → RequestOut side log head → walk_at side log ≡ responses.Response fields at → has_success fields ≡ true → is_open log ≡ false
@@ -206,7 +206,7 @@ IsOutAsFar side log call k head = sent_on (actions_of (log_after side log (turns
 -- A call that finds the connection open and goes on with a head, of which the peer didn't stop a rest, sends it as far as
 -- credit allows: the header of a stream that is being opened, a response, and the request of a connect that has a stream.
 pub record HeadsGoOut (side : Side) (log : Log) (call : Call) : Type 0 where
-  pub header : (k s at : ℕ) → call ≡ calls.PollOpening k → established (calls_of log) ≡ Some (s, at) → is_opening log k ≡ true → is_open log ≡ true → is_refused log k (head_left log k (stream_header k s)) ≡ false → IsOutAsFar side log call k (stream_header k s)
-  pub response : (accepts : Bool) (head : List ℕ) → response_by (handshake_state (calls_of log)) call ≡ Some (accepts, head) → is_open log ≡ true → is_refused log (requested (calls_of log)) (response_rest log head) ≡ false → IsOutAsFar side log call (requested (calls_of log)) head
+  pub header : (k s at : ℕ) → call ≡ calls.PollOpening k → established_session (calls_of log) ≡ Some (s, at) → is_opening log k ≡ true → is_open log ≡ true → is_refused log k (head_left log k (stream_header k s)) ≡ false → IsOutAsFar side log call k (stream_header k s)
+  pub response : (accepts : Bool) (head : List ℕ) → response_by (handshake_state (calls_of log)) call ≡ Some (accepts, head) → is_open log ≡ true → is_refused log (requested_stream (calls_of log)) (response_rest log head) ≡ false → IsOutAsFar side log call (requested_stream (calls_of log)) head
   pub request : (head : List ℕ) → call ≡ calls.Handshake → MaySend side log head → is_open log ≡ true → (local_count (actions_of log) (local_bi side) ≡ 0 → may_open side log (local_bi side) ≡ true)
       → is_refused log (local_bi side) (head_left log (local_bi side) head) ≡ false → IsOutAsFar side log call (local_bi side) head

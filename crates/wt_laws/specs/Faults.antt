@@ -12,7 +12,7 @@ use Rattle.wt_turn.specs.Log.{Entry, Log, calls_of, events_of, is_open}
 use Rattle.wt_wire.specs.declared.error.ErrorCode.{ErrorCode}
 use Rattle.wt_wire.specs.declared.side.Side.{Side}
 use Rattle.wt_laws.specs.Reachable.{is_among}
-use Rattle.wt_spec.specs.Driver.{established, is_moment, is_ready, settings_came, settled_datagrams, stream_table}
+use Rattle.wt_spec.specs.Driver.{established_session, is_moment, settings_ready, settings_came, settled_datagrams, stream_table}
 use Rattle.wt_spec.specs.Scan.{has}
 use Rattle.wt_spec.specs.StreamTable.{ByFault, BySession, Classified, Ending, StreamTable, control_start, decoder_start, encoder_start, first_at, verdict_of}
 use Rattle.wt_wire.specs.declared.side.StreamEnd.TheVariants as ends
@@ -66,8 +66,8 @@ pub data EndingCause (side : Side) (log : Log) (before after : StreamTable) : En
   FaultyBi : (k : ℕ) (code : ErrorCode) → is_among (peer_bi side) (peer_count side (events_of log) (peer_bi side)) k ≡ true → bi_verdict_of (contents log k) (end_of (events_of log) k) ≡ verdicts.Fault code
       → TakenLast before after k (verdicts.Fault code) → EndingCause side log before after (ByFault code)
   NoDatagram : (piece : List ℕ) (code : ErrorCode) → TakesDatagram log before after piece → datagram_of piece ≡ Err code → EndingCause side log before after (ByFault code)
-  SessionFault : (s : ℕ × ℕ) (code : ErrorCode) → established (calls_of log) ≡ Some s → session_walk_of (drop s.1 (contents log s.0)) (end_of (events_of log) s.0) ≡ walks.Fault code → EndingCause side log before after (ByFault code)
-  SessionClosed : (s : ℕ × ℕ) (code : ℕ) (reason : List ℕ) → established (calls_of log) ≡ Some s → session_walk_of (drop s.1 (contents log s.0)) (end_of (events_of log) s.0) ≡ walks.Closed code reason
+  SessionFault : (s : ℕ × ℕ) (code : ErrorCode) → established_session (calls_of log) ≡ Some s → session_walk_of (drop s.1 (contents log s.0)) (end_of (events_of log) s.0) ≡ walks.Fault code → EndingCause side log before after (ByFault code)
+  SessionClosed : (s : ℕ × ℕ) (code : ℕ) (reason : List ℕ) → established_session (calls_of log) ≡ Some s → session_walk_of (drop s.1 (contents log s.0)) (end_of (events_of log) s.0) ≡ walks.Closed code reason
       → EndingCause side log before after (BySession code reason (is_over (session_walk_of (drop s.1 (contents log s.0)) ends.Running)))
   ControlStopped : is_some (stop_of (events_of log) (local_uni side)) ≡ true → EndingCause side log before after (ByFault h3.ClosedCriticalStream)
   ControlFault : (c : ℕ × ℕ) (code : ErrorCode) → first_at control_start after.classified ≡ Some c → (control_walk_of (drop c.1 (contents log c.0)) (end_of (events_of log) c.0)).fault ≡ Some code → EndingCause side log before after (ByFault code)
@@ -95,7 +95,7 @@ SettingsComeRead side e log =
 -- With these streams classified the log shows no fault behind them, and the session goes on; and SETTINGS that the walk over the
 -- first control stream has read did come.
 pub record Faultless (side : Side) (log : Log) (cs : List Classified) (came : Bool) : Type 0 where
-  pub session : (s : ℕ × ℕ) → established (calls_of log) ≡ Some s → session_walk_of (drop s.1 (contents log s.0)) (end_of (events_of log) s.0) ≡ walks.Running
+  pub session : (s : ℕ × ℕ) → established_session (calls_of log) ≡ Some s → session_walk_of (drop s.1 (contents log s.0)) (end_of (events_of log) s.0) ≡ walks.Running
   pub unstopped : is_some (stop_of (events_of log) (local_uni side)) ≡ false
   pub control : (c : ℕ × ℕ) → first_at control_start cs ≡ Some c → (control_walk_of (drop c.1 (contents log c.0)) (end_of (events_of log) c.0)).fault ≡ None
   pub settings : (c : ℕ × ℕ) → first_at control_start cs ≡ Some c → is_some (control_walk_of (drop c.1 (contents log c.0)) (end_of (events_of log) c.0)).settings ≡ true → came ≡ true
@@ -140,8 +140,8 @@ OnceEach side log = (offset : Verdict → Option ℕ) → ComesOnce offset → (
 -- passed, dequeues the next that came; where the driver doesn't end the connection then, that one has a quarter id. None is
 -- dequeued otherwise.
 pub record DatagramOrEnds (side : Side) (e : Entry) (log : Log) : Type 0 where
-  pub next : (piece : List ℕ) → is_moment e ≡ true → is_open (e ∷ log) ≡ true → is_ready side (e ∷ log) ≡ true → settled_datagrams (calls_of (e ∷ log)) ≡ (stream_table side log).progress.datagrams
+  pub next : (piece : List ℕ) → is_moment e ≡ true → is_open (e ∷ log) ≡ true → settings_ready side (e ∷ log) ≡ true → settled_datagrams (calls_of (e ∷ log)) ≡ (stream_table side log).progress.datagrams
       → slice_get (datagrams_of (events_of (e ∷ log))) (stream_table side log).progress.datagrams ≡ Some piece → (stream_table side (e ∷ log)).progress.ending ≡ None
       → TakesDatagram (e ∷ log) (stream_table side log) (stream_table side (e ∷ log)) piece × (is_ok (datagram_of piece) ≡ true)
   pub only : (stream_table side (e ∷ log)).progress.datagrams ≢ (stream_table side log).progress.datagrams
-      → (piece : List ℕ) × TakesDatagram (e ∷ log) (stream_table side log) (stream_table side (e ∷ log)) piece × (is_ready side (e ∷ log) ≡ true)
+      → (piece : List ℕ) × TakesDatagram (e ∷ log) (stream_table side log) (stream_table side (e ∷ log)) piece × (settings_ready side (e ∷ log) ≡ true)

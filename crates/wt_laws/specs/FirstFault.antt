@@ -11,7 +11,7 @@ use Rattle.wt_turn.specs.Log.{Entry, Log, calls_of, events_of, is_open}
 use Rattle.wt_wire.specs.declared.error.ErrorCode.{ErrorCode}
 use Rattle.wt_wire.specs.declared.side.Side.{Side}
 use Rattle.wt_laws.specs.Faults.{AtMostOne, ComesOnce, NoneFaulty, TakesDatagram}
-use Rattle.wt_spec.specs.Driver.{established, is_moment, stream_table}
+use Rattle.wt_spec.specs.Driver.{established_session, is_moment, stream_table}
 use Rattle.wt_spec.specs.StreamTable.{ByFault, BySession, Classified, StreamTable, control_start, decoder_start, encoder_start, first_at}
 use Rattle.wt_wire.specs.declared.side.StreamEnd.TheVariants as ends
 use Rattle.wt_wire.specs.declared.error.ErrorCode.TheVariants as h3
@@ -31,7 +31,7 @@ DatagramPasses log before after = (piece : List ℕ) → TakesDatagram log befor
 
 -- the session goes on
 abbrev pub SessionPasses : Log → Type 0
-SessionPasses log = (s : ℕ × ℕ) → established (calls_of log) ≡ Some s → session_walk_of (drop s.1 (contents log s.0)) (end_of (events_of log) s.0) ≡ walks.Running
+SessionPasses log = (s : ℕ × ℕ) → established_session (calls_of log) ≡ Some s → session_walk_of (drop s.1 (contents log s.0)) (end_of (events_of log) s.0) ≡ walks.Running
 
 -- the peer's control stream, the first that was classified, has no fault
 abbrev pub ControlPasses : Log → List Classified → Type 0
@@ -57,9 +57,9 @@ pub record TellsFirst (side : Side) (log : Log) (before after : StreamTable) : T
   pub second : (earlier : List Classified) (c : Classified) (offset : Verdict → Option ℕ) (first : ℕ × ℕ) → after.classified ≡ earlier ++ c ∷ [] → ComesOnce offset → is_some (offset c.verdict) ≡ true → first_at offset earlier ≡ Some first
       → after.progress.ending ≡ Some (ByFault h3.StreamCreation)
   pub datagram : (piece : List ℕ) (code : ErrorCode) → StreamsPass after.classified → TakesDatagram log before after piece → datagram_of piece ≡ Err code → after.progress.ending ≡ Some (ByFault code)
-  pub session_fault : (s : ℕ × ℕ) (code : ErrorCode) → StreamsPass after.classified → DatagramPasses log before after → established (calls_of log) ≡ Some s → session_walk_of (drop s.1 (contents log s.0)) (end_of (events_of log) s.0) ≡ walks.Fault code
+  pub session_fault : (s : ℕ × ℕ) (code : ErrorCode) → StreamsPass after.classified → DatagramPasses log before after → established_session (calls_of log) ≡ Some s → session_walk_of (drop s.1 (contents log s.0)) (end_of (events_of log) s.0) ≡ walks.Fault code
       → after.progress.ending ≡ Some (ByFault code)
-  pub session_closed : (s : ℕ × ℕ) (code : ℕ) (reason : List ℕ) → StreamsPass after.classified → DatagramPasses log before after → established (calls_of log) ≡ Some s
+  pub session_closed : (s : ℕ × ℕ) (code : ℕ) (reason : List ℕ) → StreamsPass after.classified → DatagramPasses log before after → established_session (calls_of log) ≡ Some s
       → session_walk_of (drop s.1 (contents log s.0)) (end_of (events_of log) s.0) ≡ walks.Closed code reason → after.progress.ending ≡ Some (BySession code reason (is_over (session_walk_of (drop s.1 (contents log s.0)) ends.Running)))
   pub stopped : StreamsPass after.classified → DatagramPasses log before after → SessionPasses log → is_some (stop_of (events_of log) (local_uni side)) ≡ true → after.progress.ending ≡ Some (ByFault h3.ClosedCriticalStream)
   pub control : (c : ℕ × ℕ) (code : ErrorCode) → PassesUpToControl side log before after → first_at control_start after.classified ≡ Some c → (control_walk_of (drop c.1 (contents log c.0)) (end_of (events_of log) c.0)).fault ≡ Some code

@@ -20,18 +20,18 @@ use Rattle.wt_wire.specs.HeaderList.{Fields}
 use Rattle.wt_wire.specs.declared.addr.Addr.{Addr}
 use Rattle.wt_wire.specs.declared.error.ErrorCode.{ErrorCode}
 use Rattle.wt_wire.specs.declared.side.Side.{Side}
-use Rattle.wt_laws.specs.Causes.{CloseCause, DialCause, bytes_for, frame_of, opened_kind, reads_from}
+use Rattle.wt_laws.specs.Causes.{CloseCause, DialCause, bytes_for, head_frame_of, opened_kind, reads_from}
 use Rattle.wt_laws.specs.Reachable.{Exchange, IsReachable, is_among}
 use Rattle.wt_laws.specs.ReplyCauses.{ReplyCause}
 use Rattle.wt_laws.specs.Told.{datagram_told, read_piece}
 use Rattle.wt_spec.specs.Answers.{answer_to, is_client, is_lawful, log_after, run_from}
 use Rattle.wt_spec.specs.Connect.{authority_of, path_of, request_head, reserved_name}
 use Rattle.wt_spec.specs.Connection.{is_for_session, is_opening, starts_opening, stream_header, well_formed}
-use Rattle.wt_spec.specs.Driver.{call_view, delivers, established, pending_actions, releases, reset_if, session_id, settings_came, settled_datagrams, stream_table}
+use Rattle.wt_spec.specs.Driver.{call_view, delivers, established_session, pending_actions, releases, reset_if, session_id, settings_came, settled_datagrams, stream_table}
 use Rattle.wt_spec.specs.Effect.{driver_error, head_left, is_covered, log_call, transport_error}
 use Rattle.wt_spec.specs.Halves.{body_start, has_sending_half, is_accepted}
 use Rattle.wt_spec.specs.Handshake.{Connecting, handshake_state, has_success, response_head}
-use Rattle.wt_spec.specs.StreamTable.{ByFault, BySession, Classified, Ending, Stopped, dispatched, verdict_of}
+use Rattle.wt_spec.specs.StreamTable.{ByFault, BySession, Classified, Ending, Stopped, dispatched_streams, verdict_of}
 use Rattle.wt_turn.specs.declared.action.Action.TheVariants as actions
 use Rattle.wt_turn.specs.declared.call.Call.TheVariants as calls
 use Rattle.wt_wire.specs.declared.error.ErrorCode.TheVariants as h3
@@ -71,7 +71,7 @@ pub record AcceptedRightly (side : Side) (log : Log) (kind k : ℕ) : Type 0 whe
   pub session : ℕ
   pub at : ℕ  -- where the stream's body begins
   pub begins : ℕ
-  pub is_established : established (calls_of log) ≡ Some (session, begins)
+  pub is_established : established_session (calls_of log) ≡ Some (session, begins)
   pub opened : is_among kind (peer_count side (events_of log) kind) k ≡ true
   pub header : kind ≡ peer_uni side → uni_verdict_of (contents log k) (end_of (events_of log) k) ≡ verdicts.WebTransport session at
   pub bi_header : kind ≡ peer_bi side → bi_verdict_of (contents log k) (end_of (events_of log) k) ≡ verdicts.WebTransport session at
@@ -116,16 +116,16 @@ pub record EstablishedRightly (side : Side) (log : Log) (s at : ℕ) : Type 0 wh
   pub follows : GoesOnFrom (Called (SessionEstablished s at) ∷ with_actions own before) log
   pub was_open : is_open before ≡ true
   pub settings : settings_came side before ≡ true
-  pub none_before : established (calls_of before) ≡ None
+  pub none_before : established_session (calls_of before) ≡ None
   pub how : EstablishedHow side before own s at
 
 -- the session that is established was so rightly
 abbrev pub SessionsRightly : Side → Log → Type 0
-SessionsRightly side log = (s at : ℕ) → established (calls_of log) ≡ Some (s, at) → EstablishedRightly side log s at
+SessionsRightly side log = (s at : ℕ) → established_session (calls_of log) ≡ Some (s, at) → EstablishedRightly side log s at
 
 -- a reply that tells of a session tells of the one that is established from then on
 abbrev pub SessionTold : Side → Log → Turn → Type 0
-SessionTold side log turn = (s : ℕ) → (answer_to side log turn).reply ≡ replies.Session s → (at : ℕ) × (established (calls_of (log_after side log turn)) ≡ Some (s, at))
+SessionTold side log turn = (s : ℕ) → (answer_to side log turn).reply ≡ replies.Session s → (at : ℕ) × (established_session (calls_of (log_after side log turn)) ≡ Some (s, at))
 
 -- no call delivered the request before the turn, it is delivered from then on, and its bytes give these fields
 pub record RequestGiven (side : Side) (log : Log) (turn : Turn) (k : ℕ) (headers : Fields) : Type 0 where
@@ -139,7 +139,7 @@ RequestTold side log turn = (k : ℕ) (headers : Fields) → (answer_to side log
 
 -- at most one session is ever established
 abbrev pub OneSession : Side → Log → Turn → Type 0
-OneSession side log turn = (s at : ℕ) → established (calls_of log) ≡ Some (s, at) → established (calls_of (log_after side log turn)) ≡ Some (s, at)
+OneSession side log turn = (s at : ℕ) → established_session (calls_of log) ≡ Some (s, at) → established_session (calls_of (log_after side log turn)) ≡ Some (s, at)
 
 -- ---- reads
 
@@ -192,7 +192,7 @@ received_by (x ∷ before) = more_received (datagram_told x.answer.reply) (recei
 -- many that were dequeued
 abbrev pub DatagramsInOrder : Side → List Exchange → Log → Type 0
 DatagramsInOrder side before log =
-    (s at : ℕ) → established (calls_of log) ≡ Some (s, at)
+    (s at : ℕ) → established_session (calls_of log) ≡ Some (s, at)
     → (settled_datagrams (calls_of log) ≤ (stream_table side log).progress.datagrams) × (received_by before ≡ payloads_for s (take (settled_datagrams (calls_of log)) (datagrams_of (events_of log))))
 
 -- ---- the end
@@ -217,7 +217,7 @@ pub record OpenExactly (side : Side) (log : Log) : Type 0 where
 pub record FaultCloses (side : Side) (log : Log) : Type 0 where
   pub fault : (code : ErrorCode) → (stream_table side log).progress.ending ≡ Some (ByFault code) → (before : List Action) × (pending_actions side log ≡ before ++ actions.Close (code_of code) [] ∷ [])
   pub session : (code : ℕ) (reason : List ℕ) (b : Bool) → (stream_table side log).progress.ending ≡ Some (BySession code reason b)
-      → (before : List Action) × (pending_actions side log ≡ before ++ reset_if b (session_id (established (calls_of log))) ++ actions.Close (code_of h3.NoError) [] ∷ [])
+      → (before : List Action) × (pending_actions side log ≡ before ++ reset_if b (session_id (established_session (calls_of log))) ++ actions.Close (code_of h3.NoError) [] ∷ [])
   pub none : (stream_table side log).progress.ending ≡ None → list_any closes (pending_actions side log) ≡ false
 
 -- after the end what it is told as never changes
@@ -246,7 +246,7 @@ pub record CutsWell (side : Side) (log : Log) (id : ℕ) (first second : List �
 pub data StoppedFor (side : Side) (log : Log) (classified : List Classified) (stop : Stopped) : Type 0 where
   IsRefused : is_among (peer_bi side) (peer_count side (events_of log) (peer_bi side)) stop.id ≡ true → bi_verdict_of (contents log stop.id) (end_of (events_of log) stop.id) ≡ verdicts.Refused stop.code → StoppedFor side log classified stop
   IsSurplus : (headers : Fields) (at : ℕ) (queued : Classified) (later : List Classified) → is_among (peer_bi side) (peer_count side (events_of log) (peer_bi side)) stop.id ≡ true → bi_verdict_of (contents log stop.id) (end_of (events_of log) stop.id) ≡ verdicts.Request headers at
-      → (dispatched (call_view log) classified).requests ≡ queued ∷ later → (queued.id == stop.id) ≡ false → stop.code ≡ h3.RequestRejected → StoppedFor side log classified stop
+      → (dispatched_streams (call_view log) classified).requests ≡ queued ∷ later → (queued.id == stop.id) ≡ false → stop.code ≡ h3.RequestRejected → StoppedFor side log classified stop
 
 -- the log before its newest entry
 abbrev pub before_newest : Log → Log
@@ -259,7 +259,7 @@ pub data DriverCause (side : Side) (log : Log) : Action → Type 0 where
   OpensControl : unis_allowed (events_of log) ≢ 0 → local_count (actions_of log) (local_uni side) ≡ 0 → DriverCause side log (actions.Opened (local_uni side))
   SendsControl : (piece : List ℕ) → piece ≡ drop (length (sent_on (actions_of log) (local_uni side))) (take (credit (events_of log) (local_uni side)) local_control_bytes) → DriverCause side log (actions.Send (local_uni side) piece)
   StopsStream : (stop : Stopped) (v : Verdict) → verdict_of stop.id (stream_table side (before_newest log)).classified ≡ None → verdict_of stop.id (stream_table side log).classified ≡ Some v → StoppedFor side log (stream_table side log).classified stop → DriverCause side log (actions.StopOut stop.id (code_of stop.code))
-  ResetsSession : (code : ℕ) (reason : List ℕ) → (stream_table side log).progress.ending ≡ Some (BySession code reason true) → DriverCause side log (actions.ResetOut (session_id (established (calls_of log))) (code_of h3.NoError))
+  ResetsSession : (code : ℕ) (reason : List ℕ) → (stream_table side log).progress.ending ≡ Some (BySession code reason true) → DriverCause side log (actions.ResetOut (session_id (established_session (calls_of log))) (code_of h3.NoError))
   ClosesFault : (code : ErrorCode) → (stream_table side log).progress.ending ≡ Some (ByFault code) → DriverCause side log (actions.Close (code_of code) [])
   ClosesSession : (code : ℕ) (reason : List ℕ) (b : Bool) → (stream_table side log).progress.ending ≡ Some (BySession code reason b) → DriverCause side log (actions.Close (code_of h3.NoError) [])
 
@@ -286,7 +286,7 @@ pub record SettingsOut (side : Side) (log : Log) : Type 0 where
 
 -- the frame of the call that connected, or that answered the request
 abbrev pub session_frame : List Exchange → Option (List ℕ)
-session_frame before = newest (λ (x : Exchange). frame_of x.turn) before
+session_frame before = newest (λ (x : Exchange). head_frame_of x.turn) before
 
 -- it is the session's: a client's first bidirectional stream, or one whose request was delivered
 abbrev pub is_session_stream : Side → List CallRecord → ℕ → Bool
@@ -297,7 +297,7 @@ is_session_stream side calls k = if is_client side then k == local_bi side else 
 -- stream of the peer's that wasn't given and whose request wasn't delivered.
 pub record SessionStreamOut (side : Side) (before : List Exchange) (log : Log) : Type 0 where
   pub prefix : (k : ℕ) → is_session_stream side (calls_of log) k ≡ true → (n : ℕ) × (sent_on (actions_of log) k ≡ take n (unwrap_or (session_frame before) []))
-  pub whole : (s at : ℕ) → established (calls_of log) ≡ Some (s, at) → (is_session_stream side (calls_of log) s ≡ true) × (session_frame before ≡ Some (sent_on (actions_of log) s))
+  pub whole : (s at : ℕ) → established_session (calls_of log) ≡ Some (s, at) → (is_session_stream side (calls_of log) s ≡ true) × (session_frame before ≡ Some (sent_on (actions_of log) s))
   pub rejected : (k : ℕ) → is_session_stream side (calls_of log) k ≡ true → is_finished (actions_of log) k ≡ true → session_frame before ≡ Some (sent_on (actions_of log) k)
   pub never_given : (k : ℕ) → is_session_stream side (calls_of log) k ≡ true → is_accepted log k ≡ false
   pub untouched : (k : ℕ) → is_of_this_end side k ≡ false → is_accepted log k ≡ false → list_any (delivers k) (calls_of log) ≡ false → sent_on (actions_of log) k ≡ []
@@ -323,7 +323,7 @@ is_stream_of (Some s) k = s.0 == k
 
 -- the head of the stream is out: it was given, or it is the established session's, or the response of a rejection is finished on it
 abbrev pub is_head_out : Side → Log → ℕ → Bool
-is_head_out side log k = is_accepted log k || (is_stream_of (established (calls_of log)) k || (is_session_stream side (calls_of log) k && is_finished (actions_of log) k))
+is_head_out side log k = is_accepted log k || (is_stream_of (established_session (calls_of log)) k || (is_session_stream side (calls_of log) k && is_finished (actions_of log) k))
 
 -- From where its head is out, exactly what writes accept goes out on a stream.
 abbrev pub SendsInOrder : Side → Log → Turn → Type 0
@@ -353,7 +353,7 @@ head_of side k session = if is_of_this_end side k then stream_header k session e
 -- What is out on a stream that was given is its head, followed by all bytes that writes accepted.
 abbrev pub SendsAll : Side → List Exchange → Log → Type 0
 SendsAll side before log =
-    (k s at : ℕ) → k ≢ local_uni side → is_accepted log k ≡ true → established (calls_of log) ≡ Some (s, at) → sent_on (actions_of log) k ≡ head_of side k s ++ written_on k before
+    (k s at : ℕ) → k ≢ local_uni side → is_accepted log k ≡ true → established_session (calls_of log) ≡ Some (s, at) → sent_on (actions_of log) k ≡ head_of side k s ++ written_on k before
 
 -- ---- what a call sends goes out, once
 
@@ -367,7 +367,7 @@ GoesOut side log turn a r = log_after side log turn ≡ log_call side log (a ∷
 -- proceed dials it.
 pub record TakenGoesOut (side : Side) (log : Log) : Type 0 where
   pub datagram : (payload : List ℕ) → (answer_to side log (turns.Call (calls.SendDatagram payload))).reply ≡ replies.Done
-      → (s : ℕ) × (at : ℕ) × (established (calls_of log) ≡ Some (s, at)) × GoesOut side log (turns.Call (calls.SendDatagram payload)) (actions.DatagramOut (datagram_bytes (s / 4) payload)) Polled
+      → (s : ℕ) × (at : ℕ) × (established_session (calls_of log) ≡ Some (s, at)) × GoesOut side log (turns.Call (calls.SendDatagram payload)) (actions.DatagramOut (datagram_bytes (s / 4) payload)) Polled
   pub close : (code : ℕ) (reason : List ℕ) → is_open log ≡ true → (answer_to side log (turns.Call (calls.Close code reason))).reply ≡ replies.Done → GoesOut side log (turns.Call (calls.Close code reason)) (actions.Close code reason) Polled
   pub endpoint_close : (code : ℕ) (reason : List ℕ) → is_open log ≡ true → GoesOut side log (turns.Call (calls.EndpointClose code reason)) (actions.Close code reason) Polled
   pub reset : (k code : ℕ) → is_open log ≡ true → (answer_to side log (turns.Call (calls.ResetSend k code))).reply ≡ replies.Done → GoesOut side log (turns.Call (calls.ResetSend k code)) (actions.ResetOut k code) Polled
@@ -375,7 +375,7 @@ pub record TakenGoesOut (side : Side) (log : Log) : Type 0 where
   pub finish : (k : ℕ) → has_sending_half side log k ≡ true → is_open log ≡ true → is_finished (actions_of log) k ≡ false → is_reset log k ≡ false → stop_of (events_of log) k ≡ None
       → GoesOut side log (turns.Call (calls.Finish k)) (actions.Finish k) Polled
   pub opening : (turn : Turn) (kind k : ℕ) → opened_kind side turn ≡ Some kind → (answer_to side log turn).reply ≡ replies.Opening k
-      → (s : ℕ) × (at : ℕ) × (established (calls_of log) ≡ Some (s, at)) × GoesOut side log turn (actions.Opened k) (OpeningStarted k s)
+      → (s : ℕ) × (at : ℕ) × (established_session (calls_of log) ≡ Some (s, at)) × GoesOut side log turn (actions.Opened k) (OpeningStarted k s)
   pub dial : (turn : Turn) (address : Addr) (name : List ℕ) (dials : DialCause turn address name)
       → GoesOut side log turn (actions.Dial address name) (ConnectStarted (reserved_name dials.to.headers) (request_head (authority_of dials.to.url) (path_of dials.to.url) dials.to.headers))
 
@@ -385,6 +385,6 @@ pub record TakenGoesOut (side : Side) (log : Log) : Type 0 where
 -- opening failed and it never is; from then on, its header and what follows.
 pub record HeadersOut (side : Side) (log : Log) : Type 0 where
   pub unopened : (k : ℕ) → is_of_this_end side k ≡ true → k ≢ local_uni side → local_count (actions_of log) (k % 4) ≤ k / 4 → sent_on (actions_of log) k ≡ []
-  pub ungiven : (k s at : ℕ) → list_any (starts_opening k) (calls_of log) ≡ true → is_accepted log k ≡ false → established (calls_of log) ≡ Some (s, at) → (n : ℕ) × (sent_on (actions_of log) k ≡ take n (stream_header k s))
-  pub begun : (k s at : ℕ) → is_opening log k ≡ true → established (calls_of log) ≡ Some (s, at) → (n : ℕ) × (sent_on (actions_of log) k ≡ take n (stream_header k s))
-  pub whole : (k s at : ℕ) → is_of_this_end side k ≡ true → is_accepted log k ≡ true → established (calls_of log) ≡ Some (s, at) → (rest : List ℕ) × (sent_on (actions_of log) k ≡ stream_header k s ++ rest)
+  pub ungiven : (k s at : ℕ) → list_any (starts_opening k) (calls_of log) ≡ true → is_accepted log k ≡ false → established_session (calls_of log) ≡ Some (s, at) → (n : ℕ) × (sent_on (actions_of log) k ≡ take n (stream_header k s))
+  pub begun : (k s at : ℕ) → is_opening log k ≡ true → established_session (calls_of log) ≡ Some (s, at) → (n : ℕ) × (sent_on (actions_of log) k ≡ take n (stream_header k s))
+  pub whole : (k s at : ℕ) → is_of_this_end side k ≡ true → is_accepted log k ≡ true → established_session (calls_of log) ≡ Some (s, at) → (rest : List ℕ) × (sent_on (actions_of log) k ≡ stream_header k s ++ rest)

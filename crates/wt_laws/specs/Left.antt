@@ -7,7 +7,7 @@ use Rattle.url.specs.declared.error.ParseError.{ParseError}
 use Rattle.wt_message.specs.FixedBytes.{response_bytes}
 use Rattle.wt_proto.specs.ResponseWalk.{response_walk_of}
 use Rattle.wt_proto.specs.declared.response_walk.ResponseWalk.{ResponseWalk}
-use Rattle.wt_seam_spec.specs.Outgoing.{covered, may_open}
+use Rattle.wt_seam_spec.specs.Outgoing.{bytes_within_credit, may_open}
 use Rattle.wt_seam_spec.specs.Reports.{end_of, is_acknowledged, is_connected, is_running, stop_of}
 use Rattle.wt_seam_spec.specs.Sent.{is_finished}
 use Rattle.wt_seam_spec.specs.Streams.{contents, local_bi, local_count, local_uni, peer_bi, peer_uni}
@@ -23,10 +23,10 @@ use Rattle.wt_laws.specs.Told.{given_stream}
 use Rattle.wt_spec.specs.Answers.{answer_to}
 use Rattle.wt_spec.specs.Connect.{address_of, outcome_error, port_of}
 use Rattle.wt_spec.specs.Connection.{is_opening, next_datagram, next_due, pass_stream, stream_header}
-use Rattle.wt_spec.specs.Driver.{established, settings_came, stream_table}
+use Rattle.wt_spec.specs.Driver.{established_session, settings_came, stream_table}
 use Rattle.wt_spec.specs.Effect.{head_left, is_covered, is_empty, log_call, pending_or_failed}
 use Rattle.wt_spec.specs.Halves.{has_receiving_half, has_sending_half, is_done, unread_body, write_error}
-use Rattle.wt_spec.specs.Handshake.{Connecting, HandshakeState, Responding, handshake_state, is_refused, queued_requests, requested, response_head}
+use Rattle.wt_spec.specs.Handshake.{Connecting, HandshakeState, Responding, handshake_state, is_refused, queued_requests, requested_stream, response_head}
 use Rattle.wt_spec.specs.StreamTable.{Classified}
 use Rattle.wt_turn.specs.Log.{DatagramPassed}
 use Rattle.wt_turn.specs.declared.call.Call.TheVariants as calls
@@ -78,8 +78,8 @@ rejection_waits log k rest = not (is_refused log k rest) && (not (is_covered log
 
 -- a response with this frame waits: an acceptance for credit alone
 abbrev pub response_waits : Log → Bool → List ℕ → Bool
-response_waits log true head = lacks_credit log (requested (calls_of log)) (head_left log (requested (calls_of log)) head)
-response_waits log false head = rejection_waits log (requested (calls_of log)) (head_left log (requested (calls_of log)) head)
+response_waits log true head = lacks_credit log (requested_stream (calls_of log)) (head_left log (requested_stream (calls_of log)) head)
+response_waits log false head = rejection_waits log (requested_stream (calls_of log)) (head_left log (requested_stream (calls_of log)) head)
 
 -- the handshake that is under way waits
 abbrev pub handshake_waits : Side → Log → HandshakeState → Bool
@@ -101,15 +101,15 @@ of_session test (Some s) = test s.0
 
 -- no stream of this kind that was classified is left for an accept
 abbrev pub has_no_stream : Side → Log → ℕ → Bool
-has_no_stream side log kind = of_session (λ s. not (is_some (next_due side log kind s))) (established (calls_of log))
+has_no_stream side log kind = of_session (λ s. not (is_some (next_due side log kind s))) (established_session (calls_of log))
 
 -- a stream may not be opened
 abbrev pub has_no_credit : Side → Log → ℕ → Bool
-has_no_credit side log kind = of_session (λ s. not (may_open side log kind)) (established (calls_of log))
+has_no_credit side log kind = of_session (λ s. not (may_open side log kind)) (established_session (calls_of log))
 
 -- nothing hinders a write, which has bytes and no credit for any of them
 abbrev pub write_waits : Log → ℕ → List ℕ → Bool
-write_waits log k bytes = not (is_some (write_error log k)) && (not (is_empty bytes) && is_empty (covered log k bytes))
+write_waits log k bytes = not (is_some (write_error log k)) && (not (is_empty bytes) && is_empty (bytes_within_credit log k bytes))
 
 -- the sending half goes on: the peer didn't stop it, and it isn't done
 abbrev pub goes_on : Log → ℕ → Bool
@@ -126,11 +126,11 @@ has_nothing_left side (turns.Call calls.TooManyRequests) log = response_waits lo
 has_nothing_left side (turns.Call calls.Handshake) log = handshake_waits side log (handshake_state (calls_of log))
 has_nothing_left side (turns.Call calls.AcceptUni) log = has_no_stream side log (peer_uni side)
 has_nothing_left side (turns.Call calls.AcceptBi) log = has_no_stream side log (peer_bi side)
-has_nothing_left side (turns.Call calls.ReceiveDatagram) log = of_session (λ s. not (is_some (next_datagram side log))) (established (calls_of log))
+has_nothing_left side (turns.Call calls.ReceiveDatagram) log = of_session (λ s. not (is_some (next_datagram side log))) (established_session (calls_of log))
 has_nothing_left side (turns.Call calls.OpenUni) log = has_no_credit side log (local_uni side)
 has_nothing_left side (turns.Call calls.OpenBi) log = has_no_credit side log (local_bi side)
-has_nothing_left side (turns.Call (calls.PollOpening id)) log = of_session (λ s. is_opening log id && lacks_credit log id (head_left log id (stream_header id s))) (established (calls_of log))
-has_nothing_left side (turns.Call calls.Closed) log = of_session (λ s. true) (established (calls_of log))
+has_nothing_left side (turns.Call (calls.PollOpening id)) log = of_session (λ s. is_opening log id && lacks_credit log id (head_left log id (stream_header id s))) (established_session (calls_of log))
+has_nothing_left side (turns.Call calls.Closed) log = of_session (λ s. true) (established_session (calls_of log))
 has_nothing_left side (turns.Call (calls.Write id bytes)) log = has_sending_half side log id && write_waits log id bytes
 has_nothing_left side (turns.Call (calls.Finish id)) log = has_sending_half side log id && goes_on log id
 has_nothing_left side (turns.Call (calls.Stopped id)) log = has_sending_half side log id && goes_on log id
@@ -170,9 +170,9 @@ session_reply reply (Some s) = reply s.0
 
 -- the reply of an accept or a receive where it decides
 abbrev pub passing_reply : Side → Turn → Log → Option Reply
-passing_reply side (turns.Call calls.AcceptUni) log = Some (session_reply (λ s. stream_reply side log replies.Uni (next_due side log (peer_uni side) s)) (established (calls_of log)))
-passing_reply side (turns.Call calls.AcceptBi) log = Some (session_reply (λ s. stream_reply side log replies.Bi (next_due side log (peer_bi side) s)) (established (calls_of log)))
-passing_reply side (turns.Call calls.ReceiveDatagram) log = Some (session_reply (λ s. datagram_reply side log (next_datagram side log)) (established (calls_of log)))
+passing_reply side (turns.Call calls.AcceptUni) log = Some (session_reply (λ s. stream_reply side log replies.Uni (next_due side log (peer_uni side) s)) (established_session (calls_of log)))
+passing_reply side (turns.Call calls.AcceptBi) log = Some (session_reply (λ s. stream_reply side log replies.Bi (next_due side log (peer_bi side) s)) (established_session (calls_of log)))
+passing_reply side (turns.Call calls.ReceiveDatagram) log = Some (session_reply (λ s. datagram_reply side log (next_datagram side log)) (established_session (calls_of log)))
 passing_reply side _ log = None
 
 -- Behind what it passes, at the log in the turn at which it decides, a call is answered Pending exactly where nothing is left for it
@@ -186,5 +186,5 @@ pub record PendingExactly (side : Side) (log : Log) (turn : Turn) : Type 0 where
   pub no_datagram : FoundDatagram side turn decided false → ⊥
   pub exactly : is_pending (answer_to side log turn).reply ≡ (is_open decided && has_nothing_left side turn decided)
   pub gives : (r : Reply) → passing_reply side turn decided ≡ Some r → (answer_to side log turn).reply ≡ r
-  pub none_left : (session at : ℕ) → is_accept turn ≡ true → given_stream (answer_to side log turn).reply ≡ None → established (calls_of decided) ≡ Some (session, at)
+  pub none_left : (session at : ℕ) → is_accept turn ≡ true → given_stream (answer_to side log turn).reply ≡ None → established_session (calls_of decided) ≡ Some (session, at)
       → list_any (is_left_for decided (accepted_kind side turn) session) (stream_table side decided).classified ≡ false

@@ -1,6 +1,6 @@
 -- Why a call records what it does: each record has one of these causes, in the call that leaves it.
 use Rattle.std.specs.Prelude.{[], ◌%◌, ◌∷◌, ◌≡◌, ◌≤◌, List, Option, Some, false, length, nat_lt, true, ℕ}
-use Rattle.wt_seam_spec.specs.Outgoing.{may_open, next_id, opening}
+use Rattle.wt_seam_spec.specs.Outgoing.{may_open, next_id, actions_to_open}
 use Rattle.wt_turn.specs.Log.{BytesRead, CallRecord, ConnectStarted, DatagramPassed, DatagramReceived, HandshakeOver, Log, OpeningFailed, OpeningStarted, Polled, PrioritySet, RequestDelivered, ResetUnsent, ResponseStarted, Sent, SessionEstablished, StreamAccepted, StreamGivenUp, StreamPassed, calls_of, is_open, with_actions}
 use Rattle.wt_turn.specs.declared.action.Action.{Action}
 use Rattle.wt_turn.specs.declared.connecting_error.ConnectingError.{ConnectingError}
@@ -9,14 +9,14 @@ use Rattle.wt_wire.specs.declared.addr.Addr.{Addr}
 use Rattle.wt_wire.specs.declared.side.Side.{Side}
 use Rattle.wt_laws.specs.Causes.{AcceptCause, DialCause, EstablishedBy, FoundDatagram, FoundStream, ResponseFrom, asked_size, is_under_way, opened_kind, polls_opening, reads_from}
 use Rattle.wt_laws.specs.ReplyCauses.{ConnectFailedCause, RejectedCause}
-use Rattle.wt_spec.specs.Turns.{is_call}
+use Rattle.wt_turn.specs.Turns.{is_call}
 use Rattle.wt_spec.specs.Answers.{is_client}
 use Rattle.wt_spec.specs.Connect.{authority_of, path_of, request_head, reserved_name}
 use Rattle.wt_spec.specs.Connection.{is_opening, stream_header}
-use Rattle.wt_spec.specs.Driver.{established}
+use Rattle.wt_spec.specs.Driver.{established_session}
 use Rattle.wt_spec.specs.Effect.{head_left}
 use Rattle.wt_spec.specs.Halves.{has_receiving_half, has_sending_half, is_done, unread_body}
-use Rattle.wt_spec.specs.Handshake.{AwaitingRequest, Requested, handshake_state, is_refused, queued_requests, requested}
+use Rattle.wt_spec.specs.Handshake.{AwaitingRequest, Requested, handshake_state, is_refused, queued_requests, requested_stream}
 use Rattle.wt_spec.specs.StreamTable.{Classified}
 use Rattle.wt_turn.specs.declared.action.Action.TheVariants as actions
 use Rattle.wt_turn.specs.declared.call.Call.TheVariants as calls
@@ -51,7 +51,7 @@ pub record ConnectCause (side : Side) (turn : Turn) (log : Log) (reserved : Opti
 pub data OverCause (side : Side) (turn : Turn) (log : Log) : Type 0 where
   NoMoreRequests : turn ≡ turns.Call calls.Incoming → queued_requests side log ≡ [] → is_open log ≡ false → OverCause side turn log
   AcceptanceEnded : (head : List ℕ) → ResponseFrom turn (calls_of log) true head → is_open log ≡ false → OverCause side turn log
-  AcceptanceStopped : (head : List ℕ) → ResponseFrom turn (calls_of log) true head → is_refused log (requested (calls_of log)) (head_left log (requested (calls_of log)) head) ≡ true → OverCause side turn log
+  AcceptanceStopped : (head : List ℕ) → ResponseFrom turn (calls_of log) true head → is_refused log (requested_stream (calls_of log)) (head_left log (requested_stream (calls_of log)) head) ≡ true → OverCause side turn log
   RejectionEnded : RejectedCause side turn log → OverCause side turn log
   ConnectEnded : (e : ConnectingError) → ConnectFailedCause side turn log e → OverCause side turn log
 
@@ -70,7 +70,7 @@ pub record OverBy (side : Side) (turn : Turn) (log : Log) : Type 0 where
 pub record OpeningCause (side : Side) (turn : Turn) (log : Log) (k session : ℕ) : Type 0 where
   pub opens : opened_kind side turn ≡ Some (k % 4)
   pub at : ℕ
-  pub is_established : established (calls_of log) ≡ Some (session, at)
+  pub is_established : established_session (calls_of log) ≡ Some (session, at)
   pub earlier : Log
   pub sent : log ≡ Sent (actions.Opened k) ∷ earlier
   pub allowed : may_open side earlier (k % 4) ≡ true
@@ -79,7 +79,7 @@ pub record OpeningCause (side : Side) (turn : Turn) (log : Log) (k session : ℕ
 -- why an opening fails, which the call polls: the connection ended, or the peer stopped the stream before its header was out
 pub data OpeningOver (side : Side) (turn : Turn) (log : Log) (k : ℕ) : Type 0 where
   AtEnd : polls_opening k turn ≡ true → is_opening log k ≡ true → is_open log ≡ false → OpeningOver side turn log k
-  HeaderStopped : (session at : ℕ) → polls_opening k turn ≡ true → is_opening log k ≡ true → established (calls_of log) ≡ Some (session, at) → is_refused log k (head_left log k (stream_header k session)) ≡ true → OpeningOver side turn log k
+  HeaderStopped : (session at : ℕ) → polls_opening k turn ≡ true → is_opening log k ≡ true → established_session (calls_of log) ≡ Some (session, at) → is_refused log k (head_left log k (stream_header k session)) ≡ true → OpeningOver side turn log k
 
 -- why so many bytes of a stream count as read: the call reads it, asks for no fewer, and they came and weren't read before
 pub record ReadCause (side : Side) (turn : Turn) (log : Log) (k count : ℕ) : Type 0 where
@@ -113,7 +113,7 @@ RecordCause side turn log Polled = is_call turn ≡ true
 pub record NewOpening (side : Side) (turn : Turn) (log : Log) (own : List Action) (k session : ℕ) : Type 0 where
   pub cause : OpeningCause side turn (with_actions own log) k session
   pub kind : ℕ
-  pub own_is : own ≡ opening side log kind
+  pub own_is : own ≡ actions_to_open side log kind
   pub may : may_open side log kind ≡ true
   pub next : k ≡ next_id side log kind
   pub small : nat_lt kind 4 ≡ true

@@ -4,11 +4,11 @@ use Rattle.url.specs.Parser.{parse_url}
 use Rattle.url.specs.Parts.{Parts, host_or_empty}
 use Rattle.url.specs.declared.error.ParseError.{ParseError}
 use Rattle.wt_proto.specs.ResponseWalk.{response_walk_of}
-use Rattle.wt_seam_spec.specs.Outgoing.{covered, may_open, next_id}
+use Rattle.wt_seam_spec.specs.Outgoing.{bytes_within_credit, may_open, next_id}
 use Rattle.wt_seam_spec.specs.Reports.{datagram_fact, end_of, is_acknowledged, is_connected, stop_of}
 use Rattle.wt_seam_spec.specs.Sent.{is_finished, priority_of}
 use Rattle.wt_seam_spec.specs.Streams.{contents, local_bi, local_count, peer_bi, peer_uni}
-use Rattle.wt_spec.specs.Turns.{is_call}
+use Rattle.wt_turn.specs.Turns.{is_call}
 use Rattle.wt_turn.specs.Log.{Log, actions_of, calls_of, events_of, is_open, with_actions}
 use Rattle.wt_turn.specs.declared.action.Action.{Action}
 use Rattle.wt_error.specs.declared.connecting_error.ConnectingError.{ConnectingError}
@@ -29,10 +29,10 @@ use Rattle.wt_wire.specs.declared.side.Side.{Side}
 use Rattle.wt_laws.specs.Causes.{ConnectTo, DatagramOf, EstablishedBy, FoundDatagram, FoundStream, ResponseFrom, ResponseIs, accepted_kind, bytes_for, is_accept, is_receive, opened_kind, polls_opening}
 use Rattle.wt_spec.specs.Connect.{address_of, outcome_error, port_of}
 use Rattle.wt_spec.specs.Connection.{is_opening, next_datagram, next_due, payload_limit, stream_header}
-use Rattle.wt_spec.specs.Driver.{established, settings_came}
+use Rattle.wt_spec.specs.Driver.{established_session, settings_came}
 use Rattle.wt_spec.specs.Effect.{driver_error, head_left, is_covered, is_empty, transport_error}
 use Rattle.wt_spec.specs.Halves.{has_receiving_half, has_sending_half, is_done, unread_body, write_error}
-use Rattle.wt_spec.specs.Handshake.{Connecting, handshake_state, has_success, is_refused, lost, queued_requests, request_fields_of, requested}
+use Rattle.wt_spec.specs.Handshake.{Connecting, handshake_state, has_success, is_refused, loss_to_connect, queued_requests, request_fields_of, requested_stream}
 use Rattle.wt_spec.specs.StreamTable.{Classified}
 use Rattle.wt_turn.specs.declared.call.Call.TheVariants as calls
 use Rattle.wt_error.specs.declared.connecting_error.ConnectingError.TheVariants as connects
@@ -88,9 +88,9 @@ waits_for_end _ = None
 
 -- whose head the call sends: a response's, the request's of the connect that is under way, or an opened stream's
 pub data HeadFor (side : Side) (turn : Turn) (log : Log) (k : ℕ) (head : List ℕ) : Type 0 where
-  OfTheResponse : (accepts : Bool) → ResponseFrom turn (calls_of log) accepts head → k ≡ requested (calls_of log) → HeadFor side turn log k head
+  OfTheResponse : (accepts : Bool) → ResponseFrom turn (calls_of log) accepts head → k ≡ requested_stream (calls_of log) → HeadFor side turn log k head
   OfTheRequest : (reserved : Option (List ℕ)) → turn ≡ turns.Call calls.Handshake → handshake_state (calls_of log) ≡ Connecting reserved head → k ≡ local_bi side → HeadFor side turn log k head
-  OfTheStream : (session at : ℕ) → polls_opening k turn ≡ true → is_opening log k ≡ true → established (calls_of log) ≡ Some (session, at) → head ≡ stream_header k session → HeadFor side turn log k head
+  OfTheStream : (session at : ℕ) → polls_opening k turn ≡ true → is_opening log k ≡ true → established_session (calls_of log) ≡ Some (session, at) → head ≡ stream_header k session → HeadFor side turn log k head
 
 -- what the call can still give isn't there
 pub data PendingCause (side : Side) (turn : Turn) (log : Log) : Type 0 where
@@ -102,14 +102,14 @@ pub data PendingCause (side : Side) (turn : Turn) (log : Log) : Type 0 where
   NoSessionStream : (reserved : Option (List ℕ)) (head : List ℕ) → turn ≡ turns.Call calls.Handshake → handshake_state (calls_of log) ≡ Connecting reserved head → local_count (actions_of log) (local_bi side) ≡ 0
       → may_open side log (local_bi side) ≡ false → PendingCause side turn log
   HeadUnsent : (k : ℕ) (head : List ℕ) → HeadFor side turn log k head → is_covered log k (head_left log k head) ≡ false → stop_of (events_of log) k ≡ None → PendingCause side turn log
-  NoWriteCredit : (k : ℕ) (bytes : List ℕ) → turn ≡ turns.Call (calls.Write k bytes) → write_error log k ≡ None → is_empty bytes ≡ false → covered log k bytes ≡ [] → PendingCause side turn log
+  NoWriteCredit : (k : ℕ) (bytes : List ℕ) → turn ≡ turns.Call (calls.Write k bytes) → write_error log k ≡ None → is_empty bytes ≡ false → bytes_within_credit log k bytes ≡ [] → PendingCause side turn log
   NoResponse : (reserved : Option (List ℕ)) (head : List ℕ) → turn ≡ turns.Call calls.Handshake → handshake_state (calls_of log) ≡ Connecting reserved head
       → response_walk_of (contents log (local_bi side)) (end_of (events_of log) (local_bi side)) ≡ responses.Waiting → PendingCause side turn log
-  Finishing : (head : List ℕ) → ResponseFrom turn (calls_of log) false head → is_covered log (requested (calls_of log)) (head_left log (requested (calls_of log)) head) ≡ true
-      → is_finished (actions_of log) (requested (calls_of log)) ≡ false → PendingCause side turn log
-  Unacknowledged : (head : List ℕ) → ResponseFrom turn (calls_of log) false head → is_finished (actions_of log) (requested (calls_of log)) ≡ true → stop_of (events_of log) (requested (calls_of log)) ≡ None
-      → is_acknowledged (events_of log) (requested (calls_of log)) ≡ false → PendingCause side turn log
-  NoStreamLeft : (session at : ℕ) → is_accept turn ≡ true → established (calls_of log) ≡ Some (session, at) → next_due side log (accepted_kind side turn) session ≡ None → PendingCause side turn log
+  Finishing : (head : List ℕ) → ResponseFrom turn (calls_of log) false head → is_covered log (requested_stream (calls_of log)) (head_left log (requested_stream (calls_of log)) head) ≡ true
+      → is_finished (actions_of log) (requested_stream (calls_of log)) ≡ false → PendingCause side turn log
+  Unacknowledged : (head : List ℕ) → ResponseFrom turn (calls_of log) false head → is_finished (actions_of log) (requested_stream (calls_of log)) ≡ true → stop_of (events_of log) (requested_stream (calls_of log)) ≡ None
+      → is_acknowledged (events_of log) (requested_stream (calls_of log)) ≡ false → PendingCause side turn log
+  NoStreamLeft : (session at : ℕ) → is_accept turn ≡ true → established_session (calls_of log) ≡ Some (session, at) → next_due side log (accepted_kind side turn) session ≡ None → PendingCause side turn log
   NoDatagramLeft : is_receive turn ≡ true → next_datagram side log ≡ None → PendingCause side turn log
   NotEnded : (k : ℕ) → waits_for_end turn ≡ Some k → stop_of (events_of log) k ≡ None → is_done log k ≡ false → PendingCause side turn log
   NothingUnread : (k size : ℕ) → turn ≡ turns.Call (calls.Read k size) → (size == 0) ≡ false → unread_body side log k ≡ [] → end_of (events_of log) k ≡ ends.Running → PendingCause side turn log
@@ -127,7 +127,7 @@ pub data FailedCause (side : Side) (turn : Turn) (log : Log) (e : ConnectionErro
   AsDriver : (is_accept turn || is_receive turn || is_incoming turn) ≡ true → is_open log ≡ false → e ≡ driver_error side log → FailedCause side turn log e
   AtOpening : (kind : ℕ) → opened_kind side turn ≡ Some kind → is_open log ≡ false → e ≡ transport_error log → FailedCause side turn log e
   AtResponse : (head : List ℕ) → ResponseFrom turn (calls_of log) true head → is_open log ≡ false → e ≡ transport_error log → FailedCause side turn log e
-  ByStop : (head : List ℕ) → ResponseFrom turn (calls_of log) true head → is_refused log (requested (calls_of log)) (head_left log (requested (calls_of log)) head) ≡ true
+  ByStop : (head : List ℕ) → ResponseFrom turn (calls_of log) true head → is_refused log (requested_stream (calls_of log)) (head_left log (requested_stream (calls_of log)) head) ≡ true
       → e ≡ errors.LocalH3Error h3.ClosedCriticalStream → FailedCause side turn log e
 
 -- a step of the connect failed: of the call that begins it, or of one that goes on with it
@@ -138,12 +138,12 @@ pub data ConnectFailedCause (side : Side) (turn : Turn) (log : Log) (e : Connect
       → parse_url None text ≡ Ok url → bytes_eq url.scheme (codes "https") ≡ false → e ≡ connects.InvalidUrl refusals.Scheme → ConnectFailedCause side turn log e
   NoAddress : (to : ConnectTo turn) → address_of (host_or_empty to.url) (port_of to.url) to.lookup ≡ Err e → ConnectFailedCause side turn log e
   NotProceeding : (to : ConnectTo turn) (address : Addr) → address_of (host_or_empty to.url) (port_of to.url) to.lookup ≡ Ok address → outcome_error to.outcome ≡ Some e → ConnectFailedCause side turn log e
-  BeforeConnection : (reserved : Option (List ℕ)) (head : List ℕ) → turn ≡ turns.Call calls.Handshake → handshake_state (calls_of log) ≡ Connecting reserved head → is_connected (events_of log) ≡ false → is_open log ≡ false → e ≡ lost log → ConnectFailedCause side turn log e
+  BeforeConnection : (reserved : Option (List ℕ)) (head : List ℕ) → turn ≡ turns.Call calls.Handshake → handshake_state (calls_of log) ≡ Connecting reserved head → is_connected (events_of log) ≡ false → is_open log ≡ false → e ≡ loss_to_connect log → ConnectFailedCause side turn log e
   BeforeSettings : (reserved : Option (List ℕ)) (head : List ℕ) → turn ≡ turns.Call calls.Handshake → handshake_state (calls_of log) ≡ Connecting reserved head → settings_came side log ≡ false → is_open log ≡ false
       → e ≡ connects.ConnectionError (driver_error side log) → ConnectFailedCause side turn log e
-  BeforeStream : (reserved : Option (List ℕ)) (head : List ℕ) → turn ≡ turns.Call calls.Handshake → handshake_state (calls_of log) ≡ Connecting reserved head → local_count (actions_of log) (local_bi side) ≡ 0 → is_open log ≡ false → e ≡ lost log → ConnectFailedCause side turn log e
-  BeforeRequest : (reserved : Option (List ℕ)) (head : List ℕ) → turn ≡ turns.Call calls.Handshake → handshake_state (calls_of log) ≡ Connecting reserved head → is_empty (head_left log (local_bi side) head) ≡ false → is_open log ≡ false → e ≡ lost log → ConnectFailedCause side turn log e
-  BeforeResponse : ResponseIs side turn log responses.Waiting → is_open log ≡ false → e ≡ lost log → ConnectFailedCause side turn log e
+  BeforeStream : (reserved : Option (List ℕ)) (head : List ℕ) → turn ≡ turns.Call calls.Handshake → handshake_state (calls_of log) ≡ Connecting reserved head → local_count (actions_of log) (local_bi side) ≡ 0 → is_open log ≡ false → e ≡ loss_to_connect log → ConnectFailedCause side turn log e
+  BeforeRequest : (reserved : Option (List ℕ)) (head : List ℕ) → turn ≡ turns.Call calls.Handshake → handshake_state (calls_of log) ≡ Connecting reserved head → is_empty (head_left log (local_bi side) head) ≡ false → is_open log ≡ false → e ≡ loss_to_connect log → ConnectFailedCause side turn log e
+  BeforeResponse : ResponseIs side turn log responses.Waiting → is_open log ≡ false → e ≡ loss_to_connect log → ConnectFailedCause side turn log e
   AfterSuccess : (fields : Fields) (at : ℕ) → ResponseIs side turn log (responses.Response fields at) → has_success fields ≡ true → is_open log ≡ false
       → e ≡ connects.ConnectionError (driver_error side log) → ConnectFailedCause side turn log e
   ByReserved : (name head : List ℕ) → turn ≡ turns.Call calls.Handshake → handshake_state (calls_of log) ≡ Connecting (Some name) head → settings_came side log ≡ true → e ≡ connects.ReservedHeader name → ConnectFailedCause side turn log e
@@ -152,7 +152,7 @@ pub data ConnectFailedCause (side : Side) (turn : Turn) (log : Log) (e : Connect
       → e ≡ connects.SessionRejected → ConnectFailedCause side turn log e
   ByResponseFault : (code : ErrorCode) → ResponseIs side turn log (responses.Fault code)
       → e ≡ connects.ConnectionError (errors.LocalH3Error code) → ConnectFailedCause side turn log e
-  ByStreamEnd : ResponseIs side turn log responses.Ended → e ≡ lost log → ConnectFailedCause side turn log e
+  ByStreamEnd : ResponseIs side turn log responses.Ended → e ≡ loss_to_connect log → ConnectFailedCause side turn log e
 
 -- the next stream of the session, of the kind that the accept asks for
 abbrev pub GivenStream : Side → Turn → Log → ℕ → ℕ → Type 0
@@ -165,7 +165,7 @@ pub record OpenedCause (side : Side) (turn : Turn) (log : Log) (k : ℕ) : Type 
   pub still_open : is_open log ≡ true
   pub session : ℕ
   pub at : ℕ
-  pub is_established : established (calls_of log) ≡ Some (session, at)
+  pub is_established : established_session (calls_of log) ≡ Some (session, at)
   pub covers : is_covered log k (head_left log k (stream_header k session)) ≡ true
 
 -- so many bytes of those handed in for a half that the application has went out, as far as credit went
@@ -175,7 +175,7 @@ pub record WrittenCause (side : Side) (turn : Turn) (log : Log) (count : ℕ) : 
   pub handed_in : bytes_for stream turn ≡ Some bytes
   pub has_half : has_sending_half side log stream ≡ true
   pub no_error : write_error log stream ≡ None
-  pub as_credit : count ≡ length (covered log stream bytes)
+  pub as_credit : count ≡ length (bytes_within_credit log stream bytes)
 
 -- whether and how a sending half ended, as it is asked in this order: the peer's stop, its own end, the connection's
 abbrev pub StoppedCause : Log → ℕ → StreamWriteError → Type 0
@@ -221,16 +221,16 @@ DatagramErrorCause log bytes datagrams.TooLarge = (limit : ℕ) × (datagram_fac
 -- a rejection is over: the connection ended, the peer stopped the response before it was out, or wants no more of it, or has it
 pub data RejectedCause (side : Side) (turn : Turn) (log : Log) : Type 0 where
   ConnectionEnded : (head : List ℕ) → ResponseFrom turn (calls_of log) false head → is_open log ≡ false → RejectedCause side turn log
-  RejectionRefused : (head : List ℕ) → ResponseFrom turn (calls_of log) false head → is_refused log (requested (calls_of log)) (head_left log (requested (calls_of log)) head) ≡ true → RejectedCause side turn log
-  RejectionOver : (head : List ℕ) → ResponseFrom turn (calls_of log) false head → is_finished (actions_of log) (requested (calls_of log)) ≡ true
-      → (is_some (stop_of (events_of log) (requested (calls_of log))) || is_acknowledged (events_of log) (requested (calls_of log))) ≡ true → RejectedCause side turn log
+  RejectionRefused : (head : List ℕ) → ResponseFrom turn (calls_of log) false head → is_refused log (requested_stream (calls_of log)) (head_left log (requested_stream (calls_of log)) head) ≡ true → RejectedCause side turn log
+  RejectionOver : (head : List ℕ) → ResponseFrom turn (calls_of log) false head → is_finished (actions_of log) (requested_stream (calls_of log)) ≡ true
+      → (is_some (stop_of (events_of log) (requested_stream (calls_of log))) || is_acknowledged (events_of log) (requested_stream (calls_of log))) ≡ true → RejectedCause side turn log
 
 -- what the turn asks for is done: an event is taken; a datagram goes out; a close, on an established session or of the
 -- endpoint; a priority is set, unless the half is done; a half that isn't done is reset; a receiving half is given up
 pub data DoneCause (side : Side) (turn : Turn) (log : Log) : Type 0 where
   AtEvent : is_call turn ≡ false → DoneCause side turn log
   AtDatagram : (bytes : List ℕ) (limit : ℕ) → is_open log ≡ true → DatagramOf turn log bytes → datagram_fact (events_of log) ≡ Some (facts.Limit limit) → nat_lt limit (length bytes) ≡ false → DoneCause side turn log
-  AtClose : (code : ℕ) (reason : List ℕ) → turn ≡ turns.Call (calls.Close code reason) → is_some (established (calls_of log)) ≡ true → DoneCause side turn log
+  AtClose : (code : ℕ) (reason : List ℕ) → turn ≡ turns.Call (calls.Close code reason) → is_some (established_session (calls_of log)) ≡ true → DoneCause side turn log
   AtEndpointClose : (code : ℕ) (reason : List ℕ) → turn ≡ turns.Call (calls.EndpointClose code reason) → DoneCause side turn log
   AtPriority : (k : ℕ) (p : ℤ) → turn ≡ turns.Call (calls.SetPriority k p) → has_sending_half side log k ≡ true → DoneCause side turn log
   AtReset : (k code : ℕ) → turn ≡ turns.Call (calls.ResetSend k code) → has_sending_half side log k ≡ true → is_done log k ≡ false → DoneCause side turn log
@@ -240,7 +240,7 @@ pub data DoneCause (side : Side) (turn : Turn) (log : Log) : Type 0 where
 abbrev pub ReplyCause : Side → Turn → Log → Reply → Type 0
 ReplyCause side turn log replies.Done = DoneCause side turn log
 ReplyCause side turn log replies.Pending = (is_open log ≡ true) × PendingCause side turn log
-ReplyCause side turn log replies.NoSession = (asks_for_session turn ≡ true) × (established (calls_of log) ≡ None)
+ReplyCause side turn log replies.NoSession = (asks_for_session turn ≡ true) × (established_session (calls_of log) ≡ None)
 ReplyCause side turn log replies.NoStream = half_of side log turn ≡ Some false
 ReplyCause side turn log (replies.Request id headers) = (turn ≡ turns.Call calls.Incoming) × (queued : Classified) × (later : List Classified) × (queued_requests side log ≡ queued ∷ later) × (queued.id ≡ id) × (headers ≡ request_fields_of queued.verdict)
 ReplyCause side turn log (replies.Session id) = (own : List Action) × (at : ℕ) × EstablishedBy side turn (with_actions own log) id at
@@ -250,9 +250,9 @@ ReplyCause side turn log (replies.Bi k) = GivenStream side turn log (peer_bi sid
 ReplyCause side turn log (replies.Opening k) = (is_open log ≡ true) × (kind : ℕ) × (opened_kind side turn ≡ Some kind) × (may_open side log kind ≡ true) × (k ≡ next_id side log kind)
 ReplyCause side turn log (replies.SendReady k) = OpenedCause side turn log k × (is_bidirectional k ≡ false)
 ReplyCause side turn log (replies.BiReady k) = OpenedCause side turn log k × (is_bidirectional k ≡ true)
-ReplyCause side turn log (replies.Id s) = (turn ≡ turns.Call calls.SessionId) × (at : ℕ) × (established (calls_of log) ≡ Some (s, at))
+ReplyCause side turn log (replies.Id s) = (turn ≡ turns.Call calls.SessionId) × (at : ℕ) × (established_session (calls_of log) ≡ Some (s, at))
 ReplyCause side turn log (replies.Datagram piece) = (found : FoundDatagram side turn log true) × (piece ≡ found.datagram.1)
-ReplyCause side turn log (replies.Size size) = (turn ≡ turns.Call calls.MaxDatagramSize) × (s : ℕ) × (at : ℕ) × (established (calls_of log) ≡ Some (s, at)) × (size ≡ payload_limit s (datagram_fact (events_of log)))
+ReplyCause side turn log (replies.Size size) = (turn ≡ turns.Call calls.MaxDatagramSize) × (s : ℕ) × (at : ℕ) × (established_session (calls_of log) ≡ Some (s, at)) × (size ≡ payload_limit s (datagram_fact (events_of log)))
 ReplyCause side turn log (replies.Written count) = (x : WrittenCause side turn log count) × (turn ≡ turns.Call (calls.Write x.stream x.bytes)) × (count ≡ 0 → x.bytes ≡ [])
 ReplyCause side turn log replies.AllWritten = (count : ℕ) × (x : WrittenCause side turn log count) × (turn ≡ turns.Call (calls.WriteAll x.stream x.bytes)) × (count ≡ length x.bytes)
 ReplyCause side turn log (replies.Count count) = (x : WrittenCause side turn log count) × (turn ≡ turns.Call (calls.WriteAll x.stream x.bytes)) × (nat_lt count (length x.bytes) ≡ true)
@@ -266,7 +266,7 @@ ReplyCause side turn log (replies.Failed e) = FailedCause side turn log e
 ReplyCause side turn log (replies.Closed e) = (turn ≡ turns.Call calls.Closed) × (is_open log ≡ false) × (e ≡ transport_error log)
 ReplyCause side turn log (replies.ConnectFailed e) = ConnectFailedCause side turn log e
 ReplyCause side turn log (replies.OpeningFailed openings.NotConnected) = (is_open log ≡ false) × (k : ℕ) × (polls_opening k turn ≡ true) × (is_opening log k ≡ true)
-ReplyCause side turn log (replies.OpeningFailed openings.Refused) = (k : ℕ) × (session : ℕ) × (at : ℕ) × (polls_opening k turn ≡ true) × (is_opening log k ≡ true) × (established (calls_of log) ≡ Some (session, at)) × (is_refused log k (head_left log k (stream_header k session)) ≡ true)
+ReplyCause side turn log (replies.OpeningFailed openings.Refused) = (k : ℕ) × (session : ℕ) × (at : ℕ) × (polls_opening k turn ≡ true) × (is_opening log k ≡ true) × (established_session (calls_of log) ≡ Some (session, at)) × (is_refused log k (head_left log k (stream_header k session)) ≡ true)
 ReplyCause side turn log (replies.WriteFailed e) = WriteFailedCause side turn log e
 ReplyCause side turn log (replies.StoppedBy e) = (k : ℕ) × (turn ≡ turns.Call (calls.Stopped k)) × (has_sending_half side log k ≡ true) × StoppedCause log k e
 ReplyCause side turn log (replies.ReadFailed e) = (k : ℕ) × (size : ℕ) × (turn ≡ turns.Call (calls.Read k size)) × (has_receiving_half side log k ≡ true) × ((size == 0) ≡ false) × (unread_body side log k ≡ []) × ReadErrorCause side log k e

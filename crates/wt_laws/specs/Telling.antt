@@ -5,7 +5,7 @@ use Rattle.wt_seam_spec.specs.Streams.{contents}
 use Rattle.wt_turn.specs.Log.{Event, Log, is_open}
 use Rattle.wt_turn.specs.declared.turn.Turn.{Turn}
 use Rattle.wt_wire.specs.declared.side.Side.{Side}
-use Rattle.wt_spec.specs.Turns.{event_of}
+use Rattle.wt_turn.specs.Turns.{event_of}
 use Rattle.wt_spec.specs.Answers.{log_after}
 use Rattle.wt_spec.specs.Driver.{log_and_flush}
 use Rattle.wt_turn.specs.declared.turn.Turn.TheVariants as turns

@@ -52,19 +52,19 @@ is_quiet (replies.Request k headers) = false
 is_quiet _ = true
 
 -- the reply tells of what was recorded
-abbrev pub Tells : Turn → CallRecord → Reply → Type 0
-Tells turn (BytesRead k count) reply = (piece : List ℕ) × (read_piece reply ≡ Some piece) × (count ≡ length piece) × (reads_from k turn ≡ true)
-Tells turn (StreamAccepted k) reply = given_stream reply ≡ Some k
-Tells turn DatagramReceived reply = (piece : List ℕ) × (datagram_told reply ≡ Some piece)
-Tells turn (SessionEstablished s at) reply = session_told reply ≡ Some s
-Tells turn (RequestDelivered k) reply = request_told reply ≡ Some k
-Tells turn _ reply = is_quiet reply ≡ true
+abbrev pub TellsOf : Turn → CallRecord → Reply → Type 0
+TellsOf turn (BytesRead k count) reply = (piece : List ℕ) × (read_piece reply ≡ Some piece) × (count ≡ length piece) × (reads_from k turn ≡ true)
+TellsOf turn (StreamAccepted k) reply = given_stream reply ≡ Some k
+TellsOf turn DatagramReceived reply = (piece : List ℕ) × (datagram_told reply ≡ Some piece)
+TellsOf turn (SessionEstablished s at) reply = session_told reply ≡ Some s
+TellsOf turn (RequestDelivered k) reply = request_told reply ≡ Some k
+TellsOf turn _ reply = is_quiet reply ≡ true
 
 -- what a turn recorded, behind what it passed, and what its reply tells of it
 pub data Logged (turn : Turn) (before after : List CallRecord) (reply : Reply) : Type 0 where
   NoRecord : after ≡ before → is_quiet reply ≡ true → Logged turn before after reply
-  OneRecord : (r : CallRecord) → after ≡ r ∷ before → Tells turn r reply → Logged turn before after reply
-  ThenPolled : (r : CallRecord) → after ≡ Polled ∷ r ∷ before → Tells turn r reply → Logged turn before after reply
+  OneRecord : (r : CallRecord) → after ≡ r ∷ before → TellsOf turn r reply → Logged turn before after reply
+  ThenPolled : (r : CallRecord) → after ≡ Polled ∷ r ∷ before → TellsOf turn r reply → Logged turn before after reply
 
 -- what an accept or a receive passed before it decided
 abbrev pub is_pass : CallRecord → Bool

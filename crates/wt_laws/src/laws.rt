@@ -4,10 +4,10 @@ ghost use Rattle.wt_laws.specs.Exactly.{AsksFirst, ConnectGoesOn, ConnectsAnswer
 ghost use Rattle.wt_laws.specs.Laws.{CutsWell, DatagramsInOrder, FaultCloses, HeadersOut, NothingAfterEnd, OneSession, OpenExactly, ReadsFromStart, ReadsInOrder, ReplyHasCause, RequestTold, ResultStays, SendsAll, SendsEnd, SendsInOrder, SessionStreamOut, SessionTold, SessionsRightly, SettingsOut, StreamsAcceptedRightly, TakenGoesOut, WithinCredit};
 ghost use Rattle.wt_laws.specs.Left.{PendingExactly, is_pending};
 ghost use Rattle.wt_laws.specs.Reachable.{AllLawful, IsReachable, exchanges};
-ghost use Rattle.wt_spec.specs.Turns.{is_call};
+ghost use Rattle.wt_turn.specs.Turns.{is_call};
 ghost use Rattle.wt_laws.specs.Runs.{DoneLate, InOrderOfOpening, LateChangesNothing, RunsLawful, RunsLongest, StaysSo};
 ghost use Rattle.wt_spec.specs.Answers.{answer_to, is_lawful, log_from};
-ghost use Rattle.wt_spec.specs.Driver.{established, stream_table};
+ghost use Rattle.wt_spec.specs.Driver.{established_session, stream_table};
 ghost use Rattle.wt_spec.specs.Halves.{has_receiving_half, has_sending_half};
 ghost use Rattle.wt_spec.specs.Handshake.{Connecting, handshake_state};
 ghost use Rattle.wt_seam_spec.specs.Streams.{peer_bi};
@@ -159,7 +159,7 @@ pub fn late_turns_do_nothing()
 #[tactic(auto, using(crate::proofs::Theorems::asks_first_theorem, crate::proofs::Theorems::session_calls_theorem, crate::proofs::Theorems::sending_calls_theorem, crate::proofs::Theorems::receiving_calls_theorem))]
 pub fn calls_answer_exactly()
     ensures first { (side : Side) (log : Log) (call : Call) → AsksFirst side log call }
-    ensures session { (side : Side) (log : Log) (s at : ℕ) → established (calls_of log) ≡ Some (s, at) → SessionCallsAnswer side log s }
+    ensures session { (side : Side) (log : Log) (s at : ℕ) → established_session (calls_of log) ≡ Some (s, at) → SessionCallsAnswer side log s }
     ensures sending { (side : Side) (log : Log) (k : ℕ) → has_sending_half side log k ≡ true → SendingCallsAnswer side log k }
     ensures receiving { (side : Side) (log : Log) (k : ℕ) → has_receiving_half side log k ≡ true → ReceivingCallsAnswer side log k }
 {}

@@ -4,7 +4,7 @@ use Rattle.std.proofs.lemmas.List.{drop_all, drop-drop, take_rest}
 use Rattle.wt_message.specs.declared.settings.Settings.{Settings}
 use Rattle.wt_wire.specs.declared.error.ErrorCode.{ErrorCode}
 use Rattle.wt_wire.specs.declared.error.ErrorCode.TheVariants as errors
-use Rattle.wt_message.specs.SettingPair.{Pair, pair_at}
+use Rattle.wt_message.specs.SettingPair.{ParsedPair, pair_at}
 use Rattle.wt_message.specs.Settings.{pairs_from, with_pair}
 use Rattle.wt_wire.specs.ResultBind.{◌>>=◌}
 
@@ -23,7 +23,7 @@ unfolding pairs_from
 cut_in_front s [] l h = absurd (omega arith)
 cut_in_front s (b ∷ bytes) l h = ap (λ o. ok_or o errors.Frame >>= (λ p. with_pair s p.id p.value >>= (λ t. pairs_from t (p.len - 1) bytes))) (sym h)
 
-pub pair_in_front : (s : Settings) (bytes : List ℕ) (p : Pair) → Some p ≡ pair_at bytes → 1 ≤ p.len → p.len ≤ length bytes →
+pub pair_in_front : (s : Settings) (bytes : List ℕ) (p : ParsedPair) → Some p ≡ pair_at bytes → 1 ≤ p.len → p.len ≤ length bytes →
     pairs_from s 0 bytes ≡ (with_pair s p.id p.value >>= (λ t. pairs_from t 0 (drop p.len bytes)))
 unfolding pairs_from
 pair_in_front s [] p h some fits = absurd (omega arith)
@@ -42,7 +42,7 @@ pair_in_front s (b ∷ bytes) p h some fits =
 pub pairs_cut : (s : Settings) (at : ℕ) (bytes : List ℕ) → at < length bytes → None ≡ pair_at (take (length bytes - at) (drop at bytes)) → pairs_from s 0 (drop at bytes) ≡ Err errors.Frame
 pairs_cut s at bytes l h = cut_in_front s (drop at bytes) (omega (arith, length-drop at bytes)) (h ∙ ap pair_at (take_rest bytes at))
 
-pub pairs_step : (s : Settings) (at : ℕ) (bytes : List ℕ) (p : Pair) → Some p ≡ pair_at (take (length bytes - at) (drop at bytes)) → 1 ≤ p.len → at + p.len ≤ length bytes →
+pub pairs_step : (s : Settings) (at : ℕ) (bytes : List ℕ) (p : ParsedPair) → Some p ≡ pair_at (take (length bytes - at) (drop at bytes)) → 1 ≤ p.len → at + p.len ≤ length bytes →
     (r : Result Settings ErrorCode) → r ≡ with_pair s p.id p.value → pairs_from s 0 (drop at bytes) ≡ (r >>= (λ t. pairs_from t 0 (drop (at + p.len) bytes)))
 pairs_step s at bytes p h some fits r e =
     pair_in_front s (drop at bytes) p (h ∙ ap pair_at (take_rest bytes at)) some (omega (arith, length-drop at bytes))

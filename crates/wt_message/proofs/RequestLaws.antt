@@ -6,7 +6,7 @@ use Rattle.std.specs.Cmp.Lexicographic.{nat_list_eq_equiv}
 use Rattle.std.specs.Str.{bytes_eq}
 use Rattle.wt_message.specs.declared.session.HeadersParseError.TheVariants.{MethodNotConnect, Other}
 use Rattle.wt_wire.specs.HeaderList.{Fields, with_field, value_of}
-use Rattle.wt_message.specs.Requests.{is_value, is_for_session, is_reserved, request_with, request_of, request_fields}
+use Rattle.wt_message.specs.Requests.{is_value, is_session_request, is_reserved, request_with, request_of, request_fields}
 use Rattle.wt_wire.proofs.ValueLaws.{value_of_other}
 
 pub five_are_request : (fields : Fields) (authority path : List ℕ) → fields ≡ request_fields authority path → request_of fields ≡ Ok fields
@@ -14,16 +14,16 @@ unfolding request_of
 five_are_request fields authority path e = subst (λ (fs : Fields). request_of fs ≡ Ok fs) (sym e) refl
 
 -- what was judged: the method, and the rest
-for_session_with : (fields : Fields) (o : Option (List ℕ)) → request_with fields o ≡ Ok fields → is_for_session fields ≡ true
+for_session_with : (fields : Fields) (o : Option (List ℕ)) → request_with fields o ≡ Ok fields → is_session_request fields ≡ true
 for_session_with fields None h = absurd cc
-for_session_with fields (Some method) h = by (bytes_eq method (codes "CONNECT")) (is_for_session fields) h
+for_session_with fields (Some method) h = by (bytes_eq method (codes "CONNECT")) (is_session_request fields) h
   where
     by : (t u : Bool) → cond t (cond u (Ok fields) (Err Other)) (Err MethodNotConnect) ≡ Ok fields → u ≡ true
     by true true e = refl
     by true false e = absurd cc
     by false u e = absurd cc
 
-for_session : (fields : Fields) → request_of fields ≡ Ok fields → is_for_session fields ≡ true
+for_session : (fields : Fields) → request_of fields ≡ Ok fields → is_session_request fields ≡ true
 unfolding request_of
 for_session fields h = for_session_with fields (value_of (codes ":method") fields) h
 
@@ -70,16 +70,16 @@ not_reserved name h = by (bytes_eq name (codes ":method")) (bytes_eq name (codes
 kept : (wanted name value : List ℕ) (fields : Fields) → bytes_eq name wanted ≡ false → value_of wanted (with_field name value fields) ≡ value_of wanted fields
 kept wanted name value fields h = value_of_other wanted name value fields (nat_list_eq_equiv.symm wanted name ∙ h)
 
-same_judgement : (name value : List ℕ) (fields : Fields) → NotReserved name → is_for_session (with_field name value fields) ≡ is_for_session fields
+same_judgement : (name value : List ℕ) (fields : Fields) → NotReserved name → is_session_request (with_field name value fields) ≡ is_session_request fields
 same_judgement name value fields n = λ i.
     is_value (codes "https") (kept (codes ":scheme") name value fields n.scheme i) && is_value (codes "webtransport") (kept (codes ":protocol") name value fields n.protocol i)
     && is_some (kept (codes ":authority") name value fields n.authority i) && is_some (kept (codes ":path") name value fields n.path i)
 
-request_with_same : (f g : Fields) (o : Option (List ℕ)) → is_for_session g ≡ is_for_session f → request_with f o ≡ Ok f → request_with g o ≡ Ok g
+request_with_same : (f g : Fields) (o : Option (List ℕ)) → is_session_request g ≡ is_session_request f → request_with f o ≡ Ok f → request_with g o ≡ Ok g
 request_with_same f g None e h = absurd cc
-request_with_same f g (Some method) e h = by (bytes_eq method (codes "CONNECT")) (is_for_session f) e h
+request_with_same f g (Some method) e h = by (bytes_eq method (codes "CONNECT")) (is_session_request f) e h
   where
-    by : (t u : Bool) → is_for_session g ≡ u → cond t (cond u (Ok f) (Err Other)) (Err MethodNotConnect) ≡ Ok f → cond t (cond (is_for_session g) (Ok g) (Err Other)) (Err MethodNotConnect) ≡ Ok g
+    by : (t u : Bool) → is_session_request g ≡ u → cond t (cond u (Ok f) (Err Other)) (Err MethodNotConnect) ≡ Ok f → cond t (cond (is_session_request g) (Ok g) (Err Other)) (Err MethodNotConnect) ≡ Ok g
     by true true k r = rw k refl
     by true false k r = absurd cc
     by false u k r = absurd cc

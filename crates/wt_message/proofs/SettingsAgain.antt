@@ -14,22 +14,12 @@ use Rattle.wt_wire.proofs.VarintLaws.{varint_at-within}
 
 number_small : (id : SettingId) → setting_number id < 2 ^ 62
 number_small QPackMaxTableCapacity = omega arith
-number_small MaxFieldSectionSize = omega arith
-number_small QPackBlockedStreams = omega arith
-number_small EnableConnectProtocol = omega arith
-number_small H3Datagram = omega arith
-number_small EnableWebTransport = omega arith
-number_small WebTransportMaxSessions = omega arith
+number_small _ = omega arith
 
 with_new_pair : (t : Settings) (id : SettingId) (v : ℕ) → setting t id ≡ None → with_pair t (setting_number id) v ≡ Ok (with_setting id (Some v) t)
 unfolding with_pair
 with_new_pair t QPackMaxTableCapacity v h = rw h refl
-with_new_pair t MaxFieldSectionSize v h = rw h refl
-with_new_pair t QPackBlockedStreams v h = rw h refl
-with_new_pair t EnableConnectProtocol v h = rw h refl
-with_new_pair t H3Datagram v h = rw h refl
-with_new_pair t EnableWebTransport v h = rw h refl
-with_new_pair t WebTransportMaxSessions v h = rw h refl
+with_new_pair t _ v h = rw h refl
 
 pair_again : (i v : ℕ) (more : List ℕ) → i < 2 ^ 62 → v < 2 ^ 62 → pair_at ((varint_bytes i ++ varint_bytes v) ++ more) ≡ Some (record { id = i; value = v; len = length (varint_bytes i ++ varint_bytes v) })
 unfolding pair_at

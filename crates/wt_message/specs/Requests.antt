@@ -11,8 +11,8 @@ is_value text None = false
 is_value text (Some value) = bytes_eq value text
 
 -- beside the method: `:scheme` https, `:protocol` webtransport, and any `:authority` and `:path`
-abbrev pub is_for_session : Fields → Bool
-is_for_session fields =
+abbrev pub is_session_request : Fields → Bool
+is_session_request fields =
     is_value (codes "https") (value_of (codes ":scheme") fields) && is_value (codes "webtransport") (value_of (codes ":protocol") fields)
     && is_some (value_of (codes ":authority") fields) && is_some (value_of (codes ":path") fields)
 
@@ -20,7 +20,7 @@ is_for_session fields =
 abbrev pub request_with : Fields → Option (List ℕ) → Result Fields HeadersParseError
 request_with fields None = Err Other
 request_with fields (Some method) =
-    if bytes_eq method (codes "CONNECT") then (if is_for_session fields then Ok fields else Err Other) else Err MethodNotConnect
+    if bytes_eq method (codes "CONNECT") then (if is_session_request fields then Ok fields else Err Other) else Err MethodNotConnect
 
 -- the fields as a request
 unfoldable pub request_of : Fields → Result Fields HeadersParseError

@@ -5,7 +5,7 @@ use Rattle.wt_message.specs.declared.settings.SettingId.TheVariants.{QPackMaxTab
 use Rattle.wt_message.specs.declared.settings.Settings.{Settings}
 use Rattle.wt_wire.specs.declared.error.ErrorCode.{ErrorCode}
 use Rattle.wt_wire.specs.declared.error.ErrorCode.TheVariants as errors
-use Rattle.wt_message.specs.SettingPair.{Pair, pair_at}
+use Rattle.wt_message.specs.SettingPair.{ParsedPair, pair_at}
 use Rattle.wt_wire.specs.ResultBind.{◌>>=◌}
 use Rattle.wt_wire.specs.Varint.{varint_bytes}
 
@@ -63,7 +63,7 @@ with_pair s n v = if is_reserved_setting n then Err errors.Settings else with_kn
 
 -- the pair at the front; a pair that is cut is a frame error (RFC 9114, section 7.1), whatever its id, where no pair before it is at fault
 -- (this order is the repository's rule; RFC 9114 doesn't say which of several faults is reported)
-abbrev pub whole_pair_at : List ℕ → Result Pair ErrorCode
+abbrev pub whole_pair_at : List ℕ → Result ParsedPair ErrorCode
 whole_pair_at bytes = ok_or (pair_at bytes) errors.Frame
 
 -- the settings of the pairs from left to right, after pairs that gave these settings and so many bytes that were read

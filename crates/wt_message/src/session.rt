@@ -2,7 +2,7 @@
 ghost use Rattle.std.specs.Prelude.{IfOk, OnOk, OnErr, is_err, if◌then◌else◌, ◌≡◌, nat_eq, codes, is_some, is_none, true, false, Some, None, Ok, Err};
 ghost use Rattle.std.specs.Option.{option_copied};
 ghost use Rattle.std.specs.Str.{bytes_eq};
-ghost use Rattle.wt_message.specs.Requests.{is_for_session, is_reserved, is_value, request_fields, request_of, request_with};
+ghost use Rattle.wt_message.specs.Requests.{is_session_request, is_reserved, is_value, request_fields, request_of, request_with};
 ghost use Rattle.wt_message.specs.Responses.{response_of, status_fields, status_of, with_added};
 ghost use Rattle.wt_wire.specs.FieldSection.{AreShort, headers_of, section_bytes};
 ghost use Rattle.wt_wire.specs.HeaderList.{value_of, with_field};
@@ -80,7 +80,7 @@ fn has(headers: &Headers, name: &str) -> bool
 }
 
 fn is_for_session(headers: &Headers) -> bool
-    ensures { result ≡ is_for_session headers.now }
+    ensures { result ≡ is_session_request headers.now }
 {
     has_value(headers, ":scheme", "https")
         && has_value(headers, ":protocol", "webtransport")

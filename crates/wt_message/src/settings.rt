@@ -2,7 +2,7 @@
 ghost use Rattle.std.specs.Prelude.{◌≡◌, ◌↔◌, ◌≤◌, ◌++◌, length, IfErr, IfSome, IfOk, IsTrue, OnOk, Some, None, Ok, ◌⊎◌};
 ghost use Rattle.std.specs.Option.{option_map};
 ghost use Rattle.wt_message.specs.Settings.{AreSmall, IsSmall, known_setting, no_settings, option_bytes, pairs_from, setting, setting_number, settings_bytes, settings_of, with_pair, with_setting};
-ghost use Rattle.wt_message.specs.SettingPair.{Pair, pair_at};
+ghost use Rattle.wt_message.specs.SettingPair.{ParsedPair, pair_at};
 ghost use Rattle.wt_message.specs.FixedBytes.{local_settings};
 ghost use Rattle.wt_wire.specs.declared.error.ErrorCode.TheVariants as errors;
 ghost use Rattle.wt_wire.specs.declared.frame.FrameKind.TheVariants as kinds;

@@ -2,7 +2,6 @@
 use Rattle.std.specs.Prelude.{[], ◌++◌, ◌∷◌, ◌≡◌, Bool, List, None, Option, Some, true, ℕ}
 use Rattle.std.proofs.Common.{◌∙◌, ap, refl, sym}
 use Rattle.wt_driver_spec.specs.DriverState as driver
-use Rattle.wt_driver_spec.specs.DriverState.{DriverState}
 use Rattle.wt_laws.proofs.Classified.{classified-stays}
 use Rattle.wt_laws.proofs.HeaderLaws.{heads-hold}
 use Rattle.wt_laws.proofs.SessionLaws.{has_request}
@@ -15,7 +14,7 @@ use Rattle.wt_seam_spec.specs.Unread.{ReadPosition}
 use Rattle.wt_spec.specs.Answers.{is_first}
 use Rattle.wt_spec.specs.Driver.{stream_table}
 use Rattle.wt_spec.specs.Effect.{error_of_ending, loss_or_local}
-use Rattle.wt_spec.specs.Handshake.{Connecting, HandshakeState, Requested, Responding, handshake_state, request_end, requested}
+use Rattle.wt_spec.specs.Handshake.{Connecting, HandshakeState, Requested, Responding, handshake_state, request_end, requested_stream}
 use Rattle.wt_spec.specs.StreamTable.{ByFault, BySession, Ending, verdict_of}
 use Rattle.wt_turn.specs.Log.{Log, calls_of, events_of}
 use Rattle.wt_turn.specs.declared.action.Action.{Action}
@@ -76,12 +75,12 @@ answering-has _ e = absurd (cc)
 
 -- the end of the request that a call delivers is kept from then on, as long as no other is delivered
 pub delivered_end : (side : Side) (more log : Log) (k : ℕ) (headers : Fields) (at : ℕ) → verdict_of k (stream_table side log).classified ≡ Some (verdicts.Request headers at)
-    → requested (calls_of (more ++ log)) ≡ k → KeepsRequestEnd side (more ++ log) at
+    → requested_stream (calls_of (more ++ log)) ≡ k → KeepsRequestEnd side (more ++ log) at
 delivered_end side more log k headers at v q a = sym (ap (λ j. request_end (verdict_of j (stream_table side (more ++ log)).classified)) q ∙ request_ends_there side more log k (verdicts.Request headers at) v)
 
 pub request_end_kept : (side : Side) (more log : Log) (end : ℕ) → IsReachable side log → KeepsRequestEnd side log end → is_answering (handshake_state (calls_of log)) ≡ true
-    → requested (calls_of (more ++ log)) ≡ requested (calls_of log) → KeepsRequestEnd side (more ++ log) end
+    → requested_stream (calls_of (more ++ log)) ≡ requested_stream (calls_of log) → KeepsRequestEnd side (more ++ log) end
 request_end_kept side more log end r k b q a =
     let h = (heads-hold side log r).given.handshakes in
-    let w = h.delivered (requested (calls_of log)) (h.has_one (answering-has (handshake_state (calls_of log)) b)) in
-    k b ∙ ap request_end w.verdict ∙ delivered_end side more log (requested (calls_of log)) w.headers w.at w.verdict q a
+    let w = h.delivered (requested_stream (calls_of log)) (h.has_one (answering-has (handshake_state (calls_of log)) b)) in
+    k b ∙ ap request_end w.verdict ∙ delivered_end side more log (requested_stream (calls_of log)) w.headers w.at w.verdict q a

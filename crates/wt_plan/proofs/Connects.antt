@@ -4,7 +4,7 @@ use Rattle.url.specs.Parser.{Parsed, parse_url}
 use Rattle.url.specs.Parts.{Parts, host_or_empty}
 use Rattle.wt_connect.specs.ConnectTarget.{and_then, target_at, target_of, target_of_url, unless_hindered, with_https}
 use Rattle.wt_connect.specs.declared.connect_target.ConnectTarget.{ConnectTarget}
-use Rattle.wt_session_spec.specs.ConnectPlans.{connect_plan, dialled_at, dialled_to, dialled_unless, dialling}
+use Rattle.wt_session_spec.specs.ConnectPlans.{connect_plan, dialled_at, dialled_to, dialled_unless, dial_plan}
 use Rattle.wt_session_spec.specs.HandshakePlans.{failed_connect}
 use Rattle.wt_session_spec.specs.Plan.{Plan}
 use Rattle.wt_spec.specs.Connect.{address_of, outcome_error, port_of}
@@ -18,7 +18,7 @@ use Rattle.wt_wire.specs.declared.lookup.Lookup.{Lookup}
 
 -- the plan of a connect that has this target, or none for this reason
 abbrev target_plan : Result ConnectTarget ConnectingError → Fields → Plan
-target_plan (Ok target) headers = dialling target.server_name target.authority target.path headers target.address
+target_plan (Ok target) headers = dial_plan target.server_name target.authority target.path headers target.address
 target_plan (Err error) headers = failed_connect [] error
 
 hindered : (url : Parts) (headers : Fields) (hindrance : Option ConnectingError) (address : Addr) →
@@ -53,7 +53,7 @@ by_target text headers lookup outcome = parsed_plan (parse_url None text) header
 
 pub with_target : (text : List ℕ) (headers : Fields) (lookup : Lookup) (outcome : ConnectOutcome) (target : ConnectTarget) →
     Ok target ≡ target_of text lookup outcome →
-    dialling target.server_name target.authority target.path headers target.address ≡ connect_plan text headers lookup outcome
+    dial_plan target.server_name target.authority target.path headers target.address ≡ connect_plan text headers lookup outcome
 with_target text headers lookup outcome target found =
     ap (λ t. target_plan t headers) found ∙ sym (by_target text headers lookup outcome)
 

@@ -1,20 +1,21 @@
 -- What calls ask of every log that lawful turns lead to.
-use Rattle.std.specs.Prelude.{[], ◌%◌, ◌&&◌, ◌+◌, ◌/◌, ◌<◌, ◌==◌, ◌||◌, ◌∷◌, ◌≡◌, ◌≤◌, ◌⊎◌, Bool, Some, false, is_some, nat_lt, not, true, ℕ}
+use Rattle.std.specs.Prelude.{[], ◌%◌, ◌&&◌, ◌+◌, ◌/◌, ◌<◌, ◌==◌, ◌||◌, ◌∷◌, ◌≡◌, ◌≤◌, ◌⊎◌, Bool, Some, false, is_some, not, true, ℕ}
 use Rattle.std.proofs.Common.{◌∙◌, ap, arith, inl, inr, refl, sym}
-use Rattle.std.proofs.lemmas.Bool.{and_from, and_parts, eq-eqb, eqb-true, lt-ltb, ltb-true}
+use Rattle.std.proofs.lemmas.Bool.{and_from, and_parts, eq-eqb, eqb-true, lt-ltb}
 use Rattle.std.specs.List.{list_any}
 use Rattle.wt_laws.proofs.Classified.{are-peers, is_peers}
 use Rattle.wt_laws.proofs.Facts.{IsSessions, facts-hold, is_local, open-before}
 use Rattle.wt_laws.proofs.HeaderLaws.{heads-hold}
+use Rattle.wt_laws.proofs.PeersExist.{among-exist}
 use Rattle.wt_laws.proofs.Reached.{reached}
 use Rattle.wt_laws.proofs.Steps.{Brings, KeepsEntries, by-entries}
-use Rattle.wt_spec.specs.Turns.{event_of}
+use Rattle.wt_turn.specs.Turns.{event_of}
 use Rattle.wt_laws.specs.Reachable.{IsReachable, is_among}
 use Rattle.wt_seam_spec.specs.Arrivals.{fits}
 use Rattle.wt_seam_spec.specs.Reports.{datagram_fact, is_connected, loss_of}
-use Rattle.wt_seam_spec.specs.Streams.{exists, local_count, local_uni, one_more_if, peer_bi, peer_count, peer_opens, peer_uni}
+use Rattle.wt_seam_spec.specs.Streams.{exists, local_count, local_uni, peer_bi, peer_count, peer_uni}
 use Rattle.wt_spec.specs.Halves.{gives_up, is_accepted}
-use Rattle.wt_turn.specs.Log.{Called, Connected, DatagramLimit, Event, Log, Received, Reported, ReportedLate, Sent, actions_of, all_events_of, calls_of, events_of, is_open}
+use Rattle.wt_turn.specs.Log.{Connected, DatagramLimit, Event, Log, actions_of, all_events_of, calls_of, events_of, is_open}
 use Rattle.wt_turn.specs.declared.datagram_fact.DatagramFact.{DatagramFact}
 use Rattle.wt_turn.specs.declared.turn.Turn.{Turn}
 use Rattle.wt_wire.specs.declared.side.Side.{Side}
@@ -54,34 +55,9 @@ datagrams-told side log r = reached DatagramsTold (record { same_events = λ o. 
 
 -- ---- a stream that was given was opened
 
-more-if : (b : Bool) (m n : ℕ) → m ≤ n → one_more_if b m ≤ one_more_if b n
-more-if true m n l = omega arith
-more-if false m n l = l
-
-one-if : (b : Bool) (m n : ℕ) → m ≤ n → m ≤ one_more_if b n
-one-if true m n l = omega arith
-one-if false m n l = l
-
--- the events that counted are among all
-peers-ever : (side : Side) (kind : ℕ) (log : Log) → peer_count side (events_of log) kind ≤ peer_count side (all_events_of log) kind
-peers-ever side kind [] = omega arith
-peers-ever side kind (Reported e ∷ log) = more-if (peer_opens side kind e) _ _ (peers-ever side kind log)
-peers-ever side kind (ReportedLate e ∷ log) = one-if (peer_opens side kind e) _ _ (peers-ever side kind log)
-peers-ever side kind (Received id b ∷ log) = peers-ever side kind log
-peers-ever side kind (Sent a ∷ log) = peers-ever side kind log
-peers-ever side kind (Called r ∷ log) = peers-ever side kind log
-
-among-exists : (side : Side) (log : Log) (kind k : ℕ) → is_among kind (peer_count side (events_of log) kind) k ≡ true → exists side log k ≡ true
-among-exists side log kind k e =
-    let a = and_parts (k % 4 == kind) (nat_lt (k / 4) (peer_count side (events_of log) kind)) e in
-    let same : k % 4 ≡ kind = eqb-true (k % 4) kind a.0 in
-    let l : k / 4 < peer_count side (events_of log) kind = ltb-true (k / 4) _ a.1 in
-    let ever : peer_count side (events_of log) kind ≤ peer_count side (all_events_of log) kind = peers-ever side kind log in
-    rw same (lt-ltb (k / 4) (peer_count side (all_events_of log) kind + local_count (actions_of log) kind) (omega arith))
-
 peers-exist : (side : Side) (log : Log) (k : ℕ) (b : Bool) → is_among (peer_uni side) (peer_count side (events_of log) (peer_uni side)) k ≡ b → is_peers side (events_of log) k ≡ true → exists side log k ≡ true
-peers-exist side log k true u e = among-exists side log (peer_uni side) k u
-peers-exist side log k false u e = among-exists side log (peer_bi side) k (sym (ap (λ b. b || is_among (peer_bi side) (peer_count side (events_of log) (peer_bi side)) k) u) ∙ e)
+peers-exist side log k true u e = among-exist side log (peer_uni side) k u
+peers-exist side log k false u e = among-exist side log (peer_bi side) k (sym (ap (λ b. b || is_among (peer_bi side) (peer_count side (events_of log) (peer_bi side)) k) u) ∙ e)
 
 given-exists : (side : Side) (log : Log) → IsReachable side log → (k : ℕ) → is_accepted log k ≡ true → exists side log k ≡ true
 given-exists side log r k a = at ((facts-hold side log r).accepted k a)

@@ -13,8 +13,8 @@ use Rattle.wt_seam_spec.specs.Unread.{from_position}
 use Rattle.wt_session_spec.proofs.Theorems.{may_call_theorem, planned_theorem}
 use Rattle.wt_session_spec.proofs.Uses.{same-opening, same-receiving, same-sending}
 use Rattle.wt_session_spec.specs.CallFacts.{CallFacts, facts_of}
-use Rattle.wt_session_spec.specs.HandshakePlans.{AllOut, Ended, HeadProgress, Refused, Short, acceptance, actions_of_head, continued_by, continued_connect, delivery, left_of, progress_of, rejection, request_left, request_plan, request_sent, request_unless, response_left, response_read, start_plan}
-use Rattle.wt_session_spec.specs.HalfPlans.{exact_plan, read_exact_plan, read_plan, read_record, read_reply}
+use Rattle.wt_session_spec.specs.HandshakePlans.{AllOut, Ended, HeadProgress, Refused, Short, acceptance, actions_of_head, continued_by, continued_connect, delivery, left_of, head_progress_of, rejection, request_left, request_plan, request_sent, request_unless, response_left, response_read, start_plan}
+use Rattle.wt_session_spec.specs.HalfPlans.{exact_plan, read_exact_plan, read_plan, read_record, reply_of_read}
 use Rattle.wt_session_spec.specs.Plan.{Establish, Plan, Step, perform}
 use Rattle.wt_session_spec.specs.Plans.{may_call_now, may_respond_now, plan_of, with_half}
 use Rattle.wt_session_spec.specs.SessionState.{SessionState, has_receiving_now, has_sending_now, is_opening_now, session_state}
@@ -32,14 +32,14 @@ use Rattle.wt_wire.specs.declared.side.Side.{Side}
 use Rattle.wt_plan.proofs.FactsSame.{facts-same}
 use Rattle.wt_plan.specs.FactsNow.{DriverAnswers, facts_now}
 use Rattle.wt_table.specs.Table.{KeepsCalls, TableValue}
-use Rattle.wt_plan.specs.Tells.{TellsFacts, session_now}
+use Rattle.wt_plan.specs.Tells.{TellsFacts, session_of_table}
 use Rattle.wt_session_spec.specs.SessionState.{is_answering}
 use Rattle.wt_turn.specs.declared.action.Action.TheVariants as actions
 use Rattle.wt_turn.specs.declared.call.Call.TheVariants as calls
 use Rattle.wt_proto.specs.declared.response_walk.ResponseWalk.TheVariants as responses
 
 -- what is kept of the calls is what the table keeps
-pub table-same : (s : TableValue) (log : Log) → KeepsCalls s (calls_of log) → session_now s ≡ session_state log
+pub table-same : (s : TableValue) (log : Log) → KeepsCalls s (calls_of log) → session_of_table s ≡ session_state log
 table-same s log k = λ j. record { handshake = k.handshake_is j; requested = k.requested_is j; streams = λ i. k.uses i j }
 
 -- ---- what only some calls ask
@@ -62,10 +62,8 @@ module _ (f : CallFacts) (end : ℕ) (walk : ResponseWalk) (bytes : ℕ → List
   delivery-same (c ∷ cs) = refl
 
   acceptance-same : end ≡ f.request_end → (p : HeadProgress) (id : ℕ) (own : List Action) (waiting : CallRecord) → acceptance p other id own waiting ≡ acceptance p f id own waiting
-  acceptance-same q Ended id own waiting = refl
-  acceptance-same q Refused id own waiting = refl
-  acceptance-same q Short id own waiting = refl
   acceptance-same q AllOut id own waiting = ap (Establish own id) q
+  acceptance-same q _ id own waiting = refl
 
   rejection-same : (p : HeadProgress) (id : ℕ) (own : List Action) (waiting : CallRecord) → rejection p other id own waiting ≡ rejection p f id own waiting
   rejection-same Ended id own waiting = refl
@@ -73,9 +71,9 @@ module _ (f : CallFacts) (end : ℕ) (walk : ResponseWalk) (bytes : ℕ → List
   rejection-same Short id own waiting = refl
   rejection-same AllOut id own waiting = refl
 
-  response-same : end ≡ f.request_end → (accepts : Bool) (id : ℕ) (left : List ℕ) (waiting : CallRecord) → response_left accepts other id left waiting ≡ response_left accepts f id left waiting
-  response-same q true id left waiting = acceptance-same q (progress_of f id left) id (actions_of_head f id left) waiting
-  response-same q false id left waiting = rejection-same (progress_of f id left) id (actions_of_head f id left) waiting
+  pub response-same : end ≡ f.request_end → (accepts : Bool) (id : ℕ) (left : List ℕ) (waiting : CallRecord) → response_left accepts other id left waiting ≡ response_left accepts f id left waiting
+  response-same q true id left waiting = acceptance-same q (head_progress_of f id left) id (actions_of_head f id left) waiting
+  response-same q false id left waiting = rejection-same (head_progress_of f id left) id (actions_of_head f id left) waiting
 
   read-walk : (id : ℕ) (own : List Action) (w : ResponseWalk) → response_read other id own w ≡ response_read f id own w
   read-walk id own (responses.Fault code) = refl
@@ -88,13 +86,11 @@ module _ (f : CallFacts) (end : ℕ) (walk : ResponseWalk) (bytes : ℕ → List
     response-read id own = read-walk id own walk ∙ ap (response_read f id own) same
 
     sent-same : (p : HeadProgress) (id : ℕ) (own out : List Action) → request_sent p other id own out ≡ request_sent p f id own out
-    sent-same Ended id own out = refl
-    sent-same Refused id own out = refl
-    sent-same Short id own out = refl
     sent-same AllOut id own out = response-read id (own ++ out)
+    sent-same _ id own out = refl
 
     left-same : (id : ℕ) (own : List Action) (left : List ℕ) → request_left other id own left ≡ request_left f id own left
-    left-same id own left = if-same (is_empty left) _ _ _ _ (response-read id own) (sent-same (progress_of f id left) id own (actions_of_head f id left))
+    left-same id own left = if-same (is_empty left) _ _ _ _ (response-read id own) (sent-same (head_progress_of f id left) id own (actions_of_head f id left))
 
     request-same : (kind : ℕ) (head : List ℕ) → request_plan other kind head ≡ request_plan f kind head
     request-same kind head =
@@ -129,7 +125,7 @@ module _ (f : CallFacts) (s : SessionState) (end : ℕ) (walk : ResponseWalk) (b
   half-same false p q e = refl
 
   read-same : (k size : ℕ) → has_receiving_now f.side s k ≡ true → read_plan (with_other f end walk bytes) k size ≡ read_plan f k size
-  read-same k size h = ap (λ us. Step [] (read_record k (read_count (record { unread = length us; end = f.end k }) size)) (read_reply us (read_answer f.is_open (record { unread = length us; end = f.end k }) size))) (had k h)
+  read-same k size h = ap (λ us. Step [] (read_record k (read_count (record { unread = length us; end = f.end k }) size)) (reply_of_read us (read_answer f.is_open (record { unread = length us; end = f.end k }) size))) (had k h)
 
   exact-same : (k size : ℕ) → has_receiving_now f.side s k ≡ true → read_exact_plan (with_other f end walk bytes) k size ≡ read_exact_plan f k size
   exact-same k size h = ap (λ us. exact_plan k size us (read_exact_answer f.is_open (record { unread = length us; end = f.end k }) size)) (had k h)
@@ -164,21 +160,21 @@ module _ (side : Side) (log : Log) (t : TransportState) (d : DriverAnswers) (x :
   facts-are = facts-same side t log x.position x.untaken x.refines d x.answers x.lawful
 
   -- the plan by what is kept is the one by the log
-  pub plan_same : (s : TableValue) → KeepsCalls s (calls_of log) → (call : Call) → may_call side log call ≡ true → plan_of (facts_now t d) (session_now s) call ≡ plan_of (facts_of side log) (session_state log) call
+  pub plan_same : (s : TableValue) → KeepsCalls s (calls_of log) → (call : Call) → may_call side log call ≡ true → plan_of (facts_now t d) (session_of_table s) call ≡ plan_of (facts_of side log) (session_state log) call
   plan_same s k call may =
-      ap (λ f. plan_of f (session_now s) call) facts-are
+      ap (λ f. plan_of f (session_of_table s) call) facts-are
       ∙ ap (λ u. plan_of (with_other (facts_of side log) d.request_end d.response (unread_now t)) u call) (table-same s log k)
       ∙ other-same (facts_of side log) (session_state log) d.request_end d.response (unread_now t) x.answers.request_end x.answers.response
       (λ j h. unread_had j (sym (same-receiving side log j) ∙ h)) call (sym (may_call_theorem side log call) ∙ may)
 
   -- what the plan by what is kept leads to is what the call does
-  pub effect_same : (s : TableValue) → KeepsCalls s (calls_of log) → (call : Call) → may_call side log call ≡ true → call_effect side log call ≡ perform side log (plan_of (facts_now t d) (session_now s) call)
+  pub effect_same : (s : TableValue) → KeepsCalls s (calls_of log) → (call : Call) → may_call side log call ≡ true → call_effect side log call ≡ perform side log (plan_of (facts_now t d) (session_of_table s) call)
   effect_same s k call may = planned_theorem side log call ∙ ap (perform side log) (sym (plan_same s k call may))
 
   -- whether the call may come
-  pub may_same : (s : TableValue) → KeepsCalls s (calls_of log) → (call : Call) → may_call_now (facts_now t d) (session_now s) call ≡ may_call side log call
+  pub may_same : (s : TableValue) → KeepsCalls s (calls_of log) → (call : Call) → may_call_now (facts_now t d) (session_of_table s) call ≡ may_call side log call
   may_same s k call =
-      ap (λ f. may_call_now f (session_now s) call) facts-are
+      ap (λ f. may_call_now f (session_of_table s) call) facts-are
       ∙ ap (λ u. may_call_now (with_other (facts_of side log) d.request_end d.response (unread_now t)) u call) (table-same s log k)
       ∙ may-other call ∙ sym (may_call_theorem side log call)
     where
@@ -188,11 +184,11 @@ module _ (side : Side) (log : Log) (t : TransportState) (d : DriverAnswers) (x :
 
 -- ---- what the table tells of streams
 
-pub opening_kept : (s : TableValue) (log : Log) (k : ℕ) → KeepsCalls s (calls_of log) → is_opening_now (session_now s) k ≡ is_opening log k
+pub opening_kept : (s : TableValue) (log : Log) (k : ℕ) → KeepsCalls s (calls_of log) → is_opening_now (session_of_table s) k ≡ is_opening log k
 opening_kept s log k c = ap (λ u. is_opening_now u k) (table-same s log c) ∙ same-opening log k
 
-pub sending_kept : (side : Side) (s : TableValue) (log : Log) (k : ℕ) → KeepsCalls s (calls_of log) → has_sending_now side (session_now s) k ≡ has_sending_half side log k
+pub sending_kept : (side : Side) (s : TableValue) (log : Log) (k : ℕ) → KeepsCalls s (calls_of log) → has_sending_now side (session_of_table s) k ≡ has_sending_half side log k
 sending_kept side s log k c = ap (λ u. has_sending_now side u k) (table-same s log c) ∙ same-sending side log k
 
-pub receiving_kept : (side : Side) (s : TableValue) (log : Log) (k : ℕ) → KeepsCalls s (calls_of log) → has_receiving_now side (session_now s) k ≡ has_receiving_half side log k
+pub receiving_kept : (side : Side) (s : TableValue) (log : Log) (k : ℕ) → KeepsCalls s (calls_of log) → has_receiving_now side (session_of_table s) k ≡ has_receiving_half side log k
 receiving_kept side s log k c = ap (λ u. has_receiving_now side u k) (table-same s log c) ∙ same-receiving side log k

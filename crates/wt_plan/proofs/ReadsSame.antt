@@ -1,7 +1,7 @@
 -- The readers of the application's streams are as far as its calls read them.
 use Rattle.std.specs.Prelude.{◌≡◌, List, Some, ℕ}
 use Rattle.wt_inbox.specs.Stage as inboxes
-use Rattle.wt_inbox.specs.Stage.{Anywhere, BiHeader, Body, ControlBody, GivenUp, IsAt, ResponseHead, SessionBody, Stage, UniHeader, Untouched}
+use Rattle.wt_inbox.specs.Stage.{Body, IsAt, Stage, Untouched}
 use Rattle.wt_inbox.specs.State.{InboxState}
 use Rattle.wt_laws.specs.Reachable.{IsReachable}
 use Rattle.wt_seam_spec.specs.Streams.{contents}
@@ -17,13 +17,7 @@ use Rattle.wt_plan.specs.Inboxes.{StagesReadAsCalled}
 read-at : (x : InboxState) (k : ℕ) (bytes : List ℕ) (position : ReadPosition) (stage : Stage) (n : ℕ) → IsAt x k bytes position stage → inboxes.body_offset stage ≡ Some n → position ≡ AtOffset n
 read-at x k bytes position Untouched n i e = let p = i.0 in cc
 read-at x k bytes position (Body m) n i e = let p = i.0 in cc
-read-at x k bytes position UniHeader n i e = absurd (cc)
-read-at x k bytes position BiHeader n i e = absurd (cc)
-read-at x k bytes position ResponseHead n i e = absurd (cc)
-read-at x k bytes position (ControlBody at) n i e = absurd (cc)
-read-at x k bytes position (SessionBody at) n i e = absurd (cc)
-read-at x k bytes position GivenUp n i e = absurd (cc)
-read-at x k bytes position Anywhere n i e = absurd (cc)
+read-at x k bytes position _ n i e = absurd (cc)
 
 -- an inbox, whose stages say how far the calls read, tells what a log does
 pub inbox_tells : (side : Side) (log : Log) (x : InboxState) (stage : ℕ → Stage) (untaken : List Action) (d : DriverAnswers)

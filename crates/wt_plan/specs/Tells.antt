@@ -1,5 +1,5 @@
 -- When a transport, the driver's answers and a table tell what a log does.
-use Rattle.std.specs.Prelude.{◌+◌, ◌≡◌, Bool, List, Option, false, is_some, true, ℕ}
+use Rattle.std.specs.Prelude.{◌+◌, ◌≡◌, List, Option, is_some, true, ℕ}
 use Rattle.wt_plan.specs.FactsNow.{DriverAnswers}
 use Rattle.wt_table.specs.Table.{TableValue, use_as, use_now}
 use Rattle.wt_proto.specs.ResponseWalk.{response_walk_of}
@@ -9,10 +9,10 @@ use Rattle.wt_seam_spec.specs.Streams.{can_receive, can_send, contents, local_bi
 use Rattle.wt_seam_spec.specs.Unread.{AtOffset, ReadPosition}
 use Rattle.wt_session_spec.specs.SessionState.{SessionState, is_answering}
 use Rattle.wt_spec.specs.Answers.{is_first}
-use Rattle.wt_spec.specs.Driver.{established, settings_came, stream_table}
+use Rattle.wt_spec.specs.Driver.{established_session, settings_came, stream_table}
 use Rattle.wt_spec.specs.Effect.{driver_error}
 use Rattle.wt_spec.specs.Halves.{body_start, has_receiving_half, has_sending_half, total_read}
-use Rattle.wt_spec.specs.Handshake.{Connecting, handshake_state, queued_requests, request_end, requested}
+use Rattle.wt_spec.specs.Handshake.{Connecting, handshake_state, queued_requests, request_end, requested_stream}
 use Rattle.wt_spec.specs.StreamTable.{verdict_of}
 use Rattle.wt_turn.specs.Log.{Log, calls_of, events_of}
 use Rattle.wt_turn.specs.declared.action.Action.{Action}
@@ -25,9 +25,9 @@ driver_facts side log = record {
   driver_error = driver_error side log;
   settings_came = settings_came side log;
   requests = queued_requests side log;
-  request_end = request_end (verdict_of (requested (calls_of log)) (stream_table side log).classified);
+  request_end = request_end (verdict_of (requested_stream (calls_of log)) (stream_table side log).classified);
   response = response_walk_of (contents log (local_bi side)) (end_of (events_of log) (local_bi side));
-  session = established (calls_of log);
+  session = established_session (calls_of log);
 }
 
 -- while the request is answered this is where it ends
@@ -68,5 +68,5 @@ pub record TellsFacts (side : Side) (log : Log) (t : TransportState) (d : Driver
   pub lawful : LogTells side log
 
 -- what a session keeps, by its table
-abbrev pub session_now : TableValue → SessionState
-session_now s = record { handshake = s.handshake; requested = s.requested; streams = λ k. use_as (use_now s k) }
+abbrev pub session_of_table : TableValue → SessionState
+session_of_table s = record { handshake = s.handshake; requested = s.requested; streams = λ k. use_as (use_now s k) }

@@ -1,7 +1,7 @@
 //! How a connect begins.
 ghost use Rattle.std.specs.Prelude.{◌≡◌, IfOk};
-ghost use Rattle.wt_plan.specs.Planned.{planned};
-ghost use Rattle.wt_session_spec.specs.ConnectPlans.{connect_plan, dialling};
+ghost use Rattle.wt_plan.specs.Planned.{defined_plan};
+ghost use Rattle.wt_session_spec.specs.ConnectPlans.{connect_plan, dial_plan};
 ghost use Rattle.wt_spec.specs.Connect as connects;
 
 use crate::plan::{Plan, one};
@@ -28,7 +28,7 @@ fn reserved_text(alloc: Global, headers: &HeaderList) -> Result<Option<Text>, Ou
 
 /// The transport is asked for a connection to this target.
 fn dialling(alloc: Global, target: ConnectTarget, headers: &HeaderList) -> Result<Plan, OutOfMemory>
-    ensures { IfOk result (λ p. planned p ≡ dialling target.server_name target.authority target.path headers.now target.address) }
+    ensures { IfOk result (λ p. defined_plan p ≡ dial_plan target.server_name target.authority target.path headers.now target.address) }
 {
     let authority = target.authority.as_str();
     let path = target.path.as_str();
@@ -56,7 +56,7 @@ pub fn connect(
     lookup: &Lookup,
     outcome: &ConnectOutcome,
 ) -> Result<Plan, OutOfMemory>
-    ensures { IfOk result (λ p. planned p ≡ connect_plan url.now headers.now lookup.now outcome.now) }
+    ensures { IfOk result (λ p. defined_plan p ≡ connect_plan url.now headers.now lookup.now outcome.now) }
 {
     match connect_target(alloc, url, lookup.copy()?, outcome.copy()?)? {
         Ok(target) => dialling(alloc, target, headers),

@@ -3,7 +3,7 @@ ghost use Rattle.std.specs.Prelude.{◌≡◌, ◌++◌, ◌/◌, IfOk, ℕ};
 ghost use Rattle.wt_message.specs.Datagram.{datagram_bytes};
 ghost use Rattle.wt_plan.specs.FactsNow.{DriverAnswers, facts_now, sending_now};
 ghost use Rattle.wt_plan.specs.Heads.{progress_as};
-ghost use Rattle.wt_plan.specs.Planned.{planned};
+ghost use Rattle.wt_plan.specs.Planned.{defined_plan};
 ghost use Rattle.wt_seam.specs.Step.{opened_id_now};
 ghost use Rattle.wt_seam_spec.specs.Streams.{local_bi, local_uni};
 ghost use Rattle.wt_session_spec.specs.ConnectionPlans.{close_plan, closed_plan, datagram_plan, header_left, header_sent, opening_plan};
@@ -35,7 +35,7 @@ fn opening(
     next: Option<StreamId>,
     session: SessionId,
 ) -> Result<Plan, OutOfMemory>
-    ensures { (d : DriverAnswers) (kind : ℕ) → next ≡ opened_id_now t.now kind → IfOk result (λ p. planned p ≡ opening_plan (facts_now t.now d) kind session) }
+    ensures { (d : DriverAnswers) (kind : ℕ) → next ≡ opened_id_now t.now kind → IfOk result (λ p. defined_plan p ≡ opening_plan (facts_now t.now d) kind session) }
 {
     if !t.is_open() {
         let error = transport_error(alloc, t)?;
@@ -53,14 +53,14 @@ fn opening(
 
 /// The next unidirectional stream of the session.
 pub fn open_uni(alloc: Global, t: &Transport, session: SessionId) -> Result<Plan, OutOfMemory>
-    ensures { (d : DriverAnswers) → IfOk result (λ p. planned p ≡ opening_plan (facts_now t.now d) (local_uni t.now.side) session) }
+    ensures { (d : DriverAnswers) → IfOk result (λ p. defined_plan p ≡ opening_plan (facts_now t.now d) (local_uni t.now.side) session) }
 {
     opening(alloc, t, t.next_uni(), session)
 }
 
 /// The next bidirectional stream of the session.
 pub fn open_bi(alloc: Global, t: &Transport, session: SessionId) -> Result<Plan, OutOfMemory>
-    ensures { (d : DriverAnswers) → IfOk result (λ p. planned p ≡ opening_plan (facts_now t.now d) (local_bi t.now.side) session) }
+    ensures { (d : DriverAnswers) → IfOk result (λ p. defined_plan p ≡ opening_plan (facts_now t.now d) (local_bi t.now.side) session) }
 {
     opening(alloc, t, t.next_bi(), session)
 }
@@ -89,7 +89,7 @@ fn stream_header(alloc: Global, id: StreamId, session: SessionId) -> Result<Vec<
 
 /// The header goes out as far as credit goes; once it is out, the stream is given.
 fn header_sent(alloc: Global, progress: HeadProgress, id: StreamId, own: Vec<Action>) -> Plan
-    ensures { planned result ≡ header_sent (progress_as progress) id own.items }
+    ensures { defined_plan result ≡ header_sent (progress_as progress) id own.items }
 {
     match progress {
         HeadProgress::Ended => Plan::only_record(
@@ -113,7 +113,7 @@ fn header_sent(alloc: Global, progress: HeadProgress, id: StreamId, own: Vec<Act
 
 /// What is left of a stream's header goes out.
 fn header_left(alloc: Global, t: &Transport, id: StreamId, left: &[u8]) -> Result<Plan, OutOfMemory>
-    ensures { (d : DriverAnswers) → IfOk result (λ p. planned p ≡ header_left (facts_now t.now d) id left.now) }
+    ensures { (d : DriverAnswers) → IfOk result (λ p. defined_plan p ≡ header_left (facts_now t.now d) id left.now) }
 {
     let progress = head_progress(t, id, left);
     let own = with_head(alloc, Vec::new(alloc), t, id, progress, left)?;
@@ -127,7 +127,7 @@ pub fn poll_opening(
     id: StreamId,
     session: SessionId,
 ) -> Result<Plan, OutOfMemory>
-    ensures { (d : DriverAnswers) → IfOk result (λ p. planned p ≡ header_left (facts_now t.now d) id (left_of (facts_now t.now d) id (stream_header id session))) }
+    ensures { (d : DriverAnswers) → IfOk result (λ p. defined_plan p ≡ header_left (facts_now t.now d) id (left_of (facts_now t.now d) id (stream_header id session))) }
 {
     let head = stream_header(alloc, id, session)?;
     header_left(alloc, t, id, left_of(t, id, head.as_slice()))
@@ -151,7 +151,7 @@ pub fn datagram(
     payload: &[u8],
     session: SessionId,
 ) -> Result<Plan, OutOfMemory>
-    ensures { (d : DriverAnswers) → IfOk result (λ p. planned p ≡ datagram_plan (facts_now t.now d) payload.now session) }
+    ensures { (d : DriverAnswers) → IfOk result (λ p. defined_plan p ≡ datagram_plan (facts_now t.now d) payload.now session) }
 {
     if !t.is_open() {
         return Ok(Plan::only_reply(
@@ -200,7 +200,7 @@ pub fn close(
     code: VarInt,
     reason: &Piece,
 ) -> Result<Plan, OutOfMemory>
-    ensures { (d : DriverAnswers) → IfOk result (λ p. planned p ≡ close_plan (facts_now t.now d) code reason.now) }
+    ensures { (d : DriverAnswers) → IfOk result (λ p. defined_plan p ≡ close_plan (facts_now t.now d) code reason.now) }
 {
     let own = if t.is_open() {
         let reason = reason.copy()?;
@@ -213,7 +213,7 @@ pub fn close(
 
 /// Whether and how the connection ended.
 pub fn closed(alloc: Global, t: &Transport) -> Result<Plan, OutOfMemory>
-    ensures { (d : DriverAnswers) → IfOk result (λ p. planned p ≡ closed_plan (facts_now t.now d)) }
+    ensures { (d : DriverAnswers) → IfOk result (λ p. defined_plan p ≡ closed_plan (facts_now t.now d)) }
 {
     if t.is_open() {
         return Ok(Plan::only_reply(alloc, Reply::Pending));

@@ -1,7 +1,7 @@
 //! Which halves of which streams the application has, by a session's table.
 ghost use Rattle.std.specs.Prelude.{◌≡◌};
 ghost use Rattle.wt_table.specs.Table.{KeepsCalls};
-ghost use Rattle.wt_plan.specs.Tells.{session_now};
+ghost use Rattle.wt_plan.specs.Tells.{session_of_table};
 ghost use Rattle.wt_seam_spec.specs.Streams.{local_uni, peer_uni};
 ghost use Rattle.wt_session_spec.specs.SessionState.{has_receiving_now, has_sending_now, is_opening_now};
 ghost use Rattle.wt_spec.specs.Connection.{is_opening};
@@ -35,14 +35,14 @@ fn peer_uni(side: Side) -> u64
 /// The stream is being opened.
 #[tactic(auto, using(crate::proofs::PlansSame::opening_kept))]
 pub fn is_opening(s: &SessionTable, id: StreamId) -> bool
-    ensures now { result ≡ is_opening_now (session_now s.now) id }
+    ensures now { result ≡ is_opening_now (session_of_table s.now) id }
     ensures log { (log : Log) → KeepsCalls s.now (calls_of log) → result ≡ is_opening log id }
 {
     s.stream_use(id).is_in_opening()
 }
 
 fn has_sending_now(s: &SessionTable, side: Side, id: StreamId) -> bool
-    ensures { result ≡ has_sending_now side (session_now s.now) id }
+    ensures { result ≡ has_sending_now side (session_of_table s.now) id }
 {
     s.stream_use(id).was_given() && id.into_u64() % 4 != peer_uni(side)
 }
@@ -50,14 +50,14 @@ fn has_sending_now(s: &SessionTable, side: Side, id: StreamId) -> bool
 /// The application has the stream's sending half.
 #[tactic(auto, using(crate::proofs::PlansSame::sending_kept))]
 pub fn has_sending(s: &SessionTable, side: Side, id: StreamId) -> bool
-    ensures now { result ≡ has_sending_now side (session_now s.now) id }
+    ensures now { result ≡ has_sending_now side (session_of_table s.now) id }
     ensures log { (log : Log) → KeepsCalls s.now (calls_of log) → result ≡ has_sending_half side log id }
 {
     has_sending_now(s, side, id)
 }
 
 fn has_receiving_now(s: &SessionTable, side: Side, id: StreamId) -> bool
-    ensures { result ≡ has_receiving_now side (session_now s.now) id }
+    ensures { result ≡ has_receiving_now side (session_of_table s.now) id }
 {
     let stream = s.stream_use(id);
     stream.was_given() && id.into_u64() % 4 != local_uni(side) && !stream.is_given_up
@@ -66,7 +66,7 @@ fn has_receiving_now(s: &SessionTable, side: Side, id: StreamId) -> bool
 /// The application has the stream's receiving half, and didn't give it up.
 #[tactic(auto, using(crate::proofs::PlansSame::receiving_kept))]
 pub fn has_receiving(s: &SessionTable, side: Side, id: StreamId) -> bool
-    ensures now { result ≡ has_receiving_now side (session_now s.now) id }
+    ensures now { result ≡ has_receiving_now side (session_of_table s.now) id }
     ensures log { (log : Log) → KeepsCalls s.now (calls_of log) → result ≡ has_receiving_half side log id }
 {
     has_receiving_now(s, side, id)

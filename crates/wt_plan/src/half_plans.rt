@@ -1,7 +1,7 @@
 //! What the calls on the halves of a stream do.
 ghost use Rattle.std.specs.Prelude.{◌≡◌, ◌∷◌, [], ◌≤◌, IfOk, IsTrue, ℕ, take, length, if◌then◌else◌};
 ghost use Rattle.wt_plan.specs.FactsNow.{DriverAnswers, facts_now};
-ghost use Rattle.wt_plan.specs.Planned.{planned};
+ghost use Rattle.wt_plan.specs.Planned.{defined_plan};
 ghost use Rattle.wt_seam_spec.specs.Joined.{send_of};
 ghost use Rattle.wt_seam.specs.Rules.{sending_half_now};
 ghost use Rattle.wt_seam.specs.Step.{can_send_now, unread_now};
@@ -96,7 +96,7 @@ fn write_actions(
 #[tactic(auto, using(crate::proofs::Halves::sending_there))]
 pub fn write(alloc: Global, t: &Transport, id: StreamId, bytes: &[u8]) -> Result<Plan, OutOfMemory>
     requires { IsTrue (can_send_now t.now id) }
-    ensures { (d : DriverAnswers) → IfOk result (λ p. planned p ≡ write_plan (facts_now t.now d) id bytes.now) }
+    ensures { (d : DriverAnswers) → IfOk result (λ p. defined_plan p ≡ write_plan (facts_now t.now d) id bytes.now) }
 {
     let own = write_actions(alloc, t, id, bytes)?;
     Ok(Plan::send_and_reply(own, write_reply(t.write_answer(id, bytes))))
@@ -111,7 +111,7 @@ pub fn write_all(
     bytes: &[u8],
 ) -> Result<Plan, OutOfMemory>
     requires { IsTrue (can_send_now t.now id) }
-    ensures { (d : DriverAnswers) → IfOk result (λ p. planned p ≡ write_all_plan (facts_now t.now d) id bytes.now) }
+    ensures { (d : DriverAnswers) → IfOk result (λ p. defined_plan p ≡ write_all_plan (facts_now t.now d) id bytes.now) }
 {
     let own = write_actions(alloc, t, id, bytes)?;
     Ok(Plan::send_and_reply(own, write_all_reply(t.write_all_answer(id, bytes))))
@@ -133,7 +133,7 @@ fn stopped_by(answer: Poll<StreamWriteError>) -> Reply
 #[tactic(auto, using(crate::proofs::Halves::sending_there))]
 pub fn stopped(alloc: Global, t: &Transport, id: StreamId) -> Plan
     requires { IsTrue (can_send_now t.now id) }
-    ensures { (d : DriverAnswers) → planned result ≡ stopped_plan (facts_now t.now d) id }
+    ensures { (d : DriverAnswers) → defined_plan result ≡ stopped_plan (facts_now t.now d) id }
 {
     Plan::only_reply(alloc, stopped_by(t.stopped_answer(id)))
 }
@@ -165,7 +165,7 @@ fn finish_actions(alloc: Global, t: &Transport, id: StreamId) -> Result<Vec<Acti
 #[tactic(auto, using(crate::proofs::Halves::sending_there))]
 pub fn finish(alloc: Global, t: &Transport, id: StreamId) -> Result<Plan, OutOfMemory>
     requires { IsTrue (can_send_now t.now id) }
-    ensures { (d : DriverAnswers) → IfOk result (λ p. planned p ≡ finish_plan (facts_now t.now d) id) }
+    ensures { (d : DriverAnswers) → IfOk result (λ p. defined_plan p ≡ finish_plan (facts_now t.now d) id) }
 {
     let own = finish_actions(alloc, t, id)?;
     Ok(Plan::send_and_reply(own, finish_reply(t.finish_answer(id))))
@@ -175,7 +175,7 @@ pub fn finish(alloc: Global, t: &Transport, id: StreamId) -> Result<Plan, OutOfM
 #[tactic(auto, using(crate::proofs::Halves::sending_there))]
 pub fn reset(alloc: Global, t: &Transport, id: StreamId, code: VarInt) -> Result<Plan, OutOfMemory>
     requires { IsTrue (can_send_now t.now id) }
-    ensures { (d : DriverAnswers) → IfOk result (λ p. planned p ≡ reset_plan (facts_now t.now d) id code) }
+    ensures { (d : DriverAnswers) → IfOk result (λ p. defined_plan p ≡ reset_plan (facts_now t.now d) id code) }
 {
     if t.is_closed(id) {
         return Ok(Plan::only_reply(alloc, Reply::ClosedStream));
@@ -201,7 +201,7 @@ fn priority_reply(answer: Result<i32, ClosedStream>) -> Reply
 #[tactic(auto, using(crate::proofs::Halves::sending_there))]
 pub fn priority(alloc: Global, t: &Transport, id: StreamId) -> Plan
     requires { IsTrue (can_send_now t.now id) }
-    ensures { (d : DriverAnswers) → planned result ≡ priority_plan (facts_now t.now d) id }
+    ensures { (d : DriverAnswers) → defined_plan result ≡ priority_plan (facts_now t.now d) id }
 {
     Plan::only_reply(alloc, priority_reply(t.priority_answer(id)))
 }
@@ -210,7 +210,7 @@ pub fn priority(alloc: Global, t: &Transport, id: StreamId) -> Plan
 #[tactic(auto, using(crate::proofs::Halves::sending_there))]
 pub fn set_priority(alloc: Global, t: &Transport, id: StreamId, priority: i32) -> Plan
     requires { IsTrue (can_send_now t.now id) }
-    ensures { (d : DriverAnswers) → planned result ≡ set_priority_plan (facts_now t.now d) id priority }
+    ensures { (d : DriverAnswers) → defined_plan result ≡ set_priority_plan (facts_now t.now d) id priority }
 {
     if t.is_closed(id) {
         return Plan::only_reply(alloc, Reply::Done);
@@ -220,7 +220,7 @@ pub fn set_priority(alloc: Global, t: &Transport, id: StreamId, priority: i32) -
 
 /// The half is given up.
 pub fn stop(alloc: Global, t: &Transport, id: StreamId, code: VarInt) -> Result<Plan, OutOfMemory>
-    ensures { (d : DriverAnswers) → IfOk result (λ p. planned p ≡ stop_plan (facts_now t.now d) id code) }
+    ensures { (d : DriverAnswers) → IfOk result (λ p. defined_plan p ≡ stop_plan (facts_now t.now d) id code) }
 {
     let own = if t.is_open() {
         one(alloc, Action::StopOut { id, code })?

@@ -3,11 +3,11 @@
 ghost use Rattle.std.specs.Prelude.{◌≡◌, ◌++◌, ◌∷◌, [], IfOk, List, None, Some, ℕ, if◌then◌else◌};
 ghost use Rattle.wt_plan.specs.FactsNow.{DriverAnswers, facts_now, sending_now};
 ghost use Rattle.wt_plan.specs.Heads.{established_or_failed, progress_as};
-ghost use Rattle.wt_plan.specs.Planned.{planned};
+ghost use Rattle.wt_plan.specs.Planned.{defined_plan};
 ghost use Rattle.wt_turn.specs.Records.{record_of};
 ghost use Rattle.wt_seam_spec.specs.Streams.{local_bi};
 ghost use Rattle.wt_session_spec.specs.CallFacts.{CallFacts};
-ghost use Rattle.wt_session_spec.specs.HandshakePlans.{abandoned, acceptance, awaited, continued_connect, delivery, failed_connect, finished_rejection, head_actions, lost_connect, rejection, rejection_out, request_left, request_plan, request_sent, request_unless, response_left, response_plan, response_read};
+ghost use Rattle.wt_session_spec.specs.HandshakePlans.{abandon_plan, acceptance, wait_plan, continued_connect, delivery, failed_connect, finished_rejection, head_actions, lost_connect, rejection, rejection_out, request_left, request_plan, request_sent, request_unless, response_left, response_plan, response_read};
 ghost use Rattle.wt_session_spec.specs.SessionState.{SessionState};
 ghost use Rattle.wt_spec.specs.Effect.{is_empty};
 ghost use Rattle.wt_spec.specs.Handshake.{request_fields_of};
@@ -35,7 +35,7 @@ use wt_wire::varint::VarInt;
 
 /// The queued request is delivered.
 pub fn delivered(alloc: Global, id: SessionId, headers: HeaderList) -> Plan
-    ensures { (f : CallFacts) (c : Classified) (later : List Classified) → c.id ≡ id → request_fields_of c.verdict ≡ headers → planned result ≡ delivery f (c ∷ later) }
+    ensures { (f : CallFacts) (c : Classified) (later : List Classified) → c.id ≡ id → request_fields_of c.verdict ≡ headers → defined_plan result ≡ delivery f (c ∷ later) }
 {
     Plan::only_record(
         alloc,
@@ -46,7 +46,7 @@ pub fn delivered(alloc: Global, id: SessionId, headers: HeaderList) -> Plan
 
 /// Without a request the call waits, or fails once the connection has ended.
 pub fn no_request(alloc: Global, t: &Transport, error: ConnectionError) -> Plan
-    ensures { (d : DriverAnswers) → d.driver_error ≡ error → planned result ≡ delivery (facts_now t.now d) [] }
+    ensures { (d : DriverAnswers) → d.driver_error ≡ error → defined_plan result ≡ delivery (facts_now t.now d) [] }
 {
     if t.is_open() {
         return Plan::only_reply(alloc, Reply::Pending);
@@ -66,7 +66,7 @@ fn acceptance(
     own: Vec<Action>,
     waiting: Record,
 ) -> Result<Plan, OutOfMemory>
-    ensures { (d : DriverAnswers) → d.request_end ≡ end → IfOk result (λ p. planned p ≡ acceptance (progress_as progress) (facts_now t.now d) id own.items (record_of waiting)) }
+    ensures { (d : DriverAnswers) → d.request_end ≡ end → IfOk result (λ p. defined_plan p ≡ acceptance (progress_as progress) (facts_now t.now d) id own.items (record_of waiting)) }
 {
     match progress {
         HeadProgress::Ended => {
@@ -99,7 +99,7 @@ fn finished_rejection(
     id: StreamId,
     waiting: Record,
 ) -> Result<Plan, OutOfMemory>
-    ensures { (d : DriverAnswers) → IfOk result (λ p. planned p ≡ finished_rejection (facts_now t.now d) (sending_now t.now id) (record_of waiting)) }
+    ensures { (d : DriverAnswers) → IfOk result (λ p. defined_plan p ≡ finished_rejection (facts_now t.now d) (sending_now t.now id) (record_of waiting)) }
 {
     if t.stop_code(id).is_some() || t.is_acknowledged(id) {
         let own = with_close(alloc, Vec::new(alloc), t.is_open(), VarInt::from_u32(0))?;
@@ -117,7 +117,7 @@ fn rejection_out(
     own: Vec<Action>,
     waiting: Record,
 ) -> Result<Plan, OutOfMemory>
-    ensures { (d : DriverAnswers) → IfOk result (λ p. planned p ≡ rejection_out (facts_now t.now d) id own.items (record_of waiting)) }
+    ensures { (d : DriverAnswers) → IfOk result (λ p. defined_plan p ≡ rejection_out (facts_now t.now d) id own.items (record_of waiting)) }
 {
     if t.is_finished(id) {
         return finished_rejection(alloc, t, id, waiting);
@@ -138,7 +138,7 @@ fn rejection(
     own: Vec<Action>,
     waiting: Record,
 ) -> Result<Plan, OutOfMemory>
-    ensures { (d : DriverAnswers) → IfOk result (λ p. planned p ≡ rejection (progress_as progress) (facts_now t.now d) id own.items (record_of waiting)) }
+    ensures { (d : DriverAnswers) → IfOk result (λ p. defined_plan p ≡ rejection (progress_as progress) (facts_now t.now d) id own.items (record_of waiting)) }
 {
     match progress {
         HeadProgress::Ended => Ok(Plan::fail_with(Vec::new(alloc), Reply::Rejected)),
@@ -166,7 +166,7 @@ fn response_left(
     left: &[u8],
     waiting: Record,
 ) -> Result<Plan, OutOfMemory>
-    ensures { (d : DriverAnswers) → d.request_end ≡ end → IfOk result (λ p. planned p ≡ response_left accepts (facts_now t.now d) id left.now (record_of waiting)) }
+    ensures { (d : DriverAnswers) → d.request_end ≡ end → IfOk result (λ p. defined_plan p ≡ response_left accepts (facts_now t.now d) id left.now (record_of waiting)) }
 {
     let stream = id.session_stream();
     let progress = head_progress(t, stream, left);
@@ -188,7 +188,7 @@ pub fn response(
     head: &[u8],
     waiting: Record,
 ) -> Result<Plan, OutOfMemory>
-    ensures { (d : DriverAnswers) (s : SessionState) → s.requested ≡ id → d.request_end ≡ end → IfOk result (λ p. planned p ≡ response_plan (facts_now t.now d) s accepts head.now (record_of waiting)) }
+    ensures { (d : DriverAnswers) (s : SessionState) → s.requested ≡ id → d.request_end ≡ end → IfOk result (λ p. defined_plan p ≡ response_plan (facts_now t.now d) s accepts head.now (record_of waiting)) }
 {
     let left = left_of(t, id.session_stream(), head);
     response_left(alloc, t, accepts, id, end, left, waiting)
@@ -198,7 +198,7 @@ pub fn response(
 
 /// The connect fails.
 pub fn failed_connect(own: Vec<Action>, error: ConnectingError) -> Plan
-    ensures { planned result ≡ failed_connect own.items error }
+    ensures { defined_plan result ≡ failed_connect own.items error }
 {
     Plan::fail_with(own, Reply::ConnectFailed(error))
 }
@@ -210,7 +210,7 @@ fn abandoned(
     own: Vec<Action>,
     error: ConnectingError,
 ) -> Result<Plan, OutOfMemory>
-    ensures { (d : DriverAnswers) → IfOk result (λ p. planned p ≡ abandoned (facts_now t.now d) own.items error) }
+    ensures { (d : DriverAnswers) → IfOk result (λ p. defined_plan p ≡ abandon_plan (facts_now t.now d) own.items error) }
 {
     let own = with_close(alloc, own, t.is_open(), VarInt::from_u32(0))?;
     Ok(failed_connect(own, error))
@@ -231,7 +231,7 @@ fn established(
     at: usize,
     error: ConnectionError,
 ) -> Plan
-    ensures { (d : DriverAnswers) → d.driver_error ≡ error → planned result ≡ established_or_failed (facts_now t.now d) own.items id at }
+    ensures { (d : DriverAnswers) → d.driver_error ≡ error → defined_plan result ≡ established_or_failed (facts_now t.now d) own.items id at }
 {
     if t.is_open() {
         Plan::Establish { own, id, at }
@@ -249,7 +249,7 @@ fn response_read(
     walk: ResponseWalk,
     error: ConnectionError,
 ) -> Result<Plan, OutOfMemory>
-    ensures { (d : DriverAnswers) → d.driver_error ≡ error → IfOk result (λ p. planned p ≡ response_read (facts_now t.now d) id own.items walk) }
+    ensures { (d : DriverAnswers) → d.driver_error ≡ error → IfOk result (λ p. defined_plan p ≡ response_read (facts_now t.now d) id own.items walk) }
 {
     match walk {
         ResponseWalk::Fault(code) => {
@@ -278,7 +278,7 @@ fn response_read(
 
 /// A step waits while the connection is open.
 pub fn awaited(alloc: Global, t: &Transport, error: ConnectionError) -> Plan
-    ensures { (d : DriverAnswers) → planned result ≡ awaited (facts_now t.now d) error }
+    ensures { (d : DriverAnswers) → defined_plan result ≡ wait_plan (facts_now t.now d) error }
 {
     if t.is_open() {
         Plan::only_reply(alloc, Reply::Pending)
@@ -300,7 +300,7 @@ fn request_sent(
     walk: ResponseWalk,
     error: ConnectionError,
 ) -> Result<Plan, OutOfMemory>
-    ensures { (d : DriverAnswers) → d.driver_error ≡ error → d.response ≡ walk → IfOk result (λ p. planned p ≡ request_sent (progress_as progress) (facts_now t.now d) id own.items (head_actions (progress_as progress) id (sending_now t.now id) left.now)) }
+    ensures { (d : DriverAnswers) → d.driver_error ≡ error → d.response ≡ walk → IfOk result (λ p. defined_plan p ≡ request_sent (progress_as progress) (facts_now t.now d) id own.items (head_actions (progress_as progress) id (sending_now t.now id) left.now)) }
 {
     let stream = id.session_stream();
     match progress {
@@ -337,7 +337,7 @@ fn request_left(
     walk: ResponseWalk,
     error: ConnectionError,
 ) -> Result<Plan, OutOfMemory>
-    ensures { (d : DriverAnswers) → d.driver_error ≡ error → d.response ≡ walk → IfOk result (λ p. planned p ≡ request_left (facts_now t.now d) id own.items left.now) }
+    ensures { (d : DriverAnswers) → d.driver_error ≡ error → d.response ≡ walk → IfOk result (λ p. defined_plan p ≡ request_left (facts_now t.now d) id own.items left.now) }
 {
     if is_empty(left) {
         return response_read(alloc, t, id, own, walk, error);
@@ -349,7 +349,7 @@ fn request_left(
 
 /// A header that only the session layer sets fails the connect.
 pub fn reserved(alloc: Global, t: &Transport, name: &Text) -> Result<Plan, OutOfMemory>
-    ensures { (d : DriverAnswers) (head : List ℕ) → IfOk result (λ p. planned p ≡ request_unless (facts_now t.now d) (Some name.now) head) }
+    ensures { (d : DriverAnswers) (head : List ℕ) → IfOk result (λ p. defined_plan p ≡ request_unless (facts_now t.now d) (Some name.now) head) }
 {
     let error = ConnectingError::ReservedHeader(name.copy()?);
     abandoned(alloc, t, Vec::new(alloc), error)
@@ -365,7 +365,7 @@ pub fn request(
     error: ConnectionError,
 ) -> Result<Plan, OutOfMemory>
     requires { id ≡ local_bi t.now.side }
-    ensures { (d : DriverAnswers) → d.driver_error ≡ error → d.response ≡ walk → IfOk result (λ p. planned p ≡ request_plan (facts_now t.now d) (local_bi t.now.side) head.now) }
+    ensures { (d : DriverAnswers) → d.driver_error ≡ error → d.response ≡ walk → IfOk result (λ p. defined_plan p ≡ request_plan (facts_now t.now d) (local_bi t.now.side) head.now) }
 {
     let left = left_of(t, id.session_stream(), head);
     if t.has_local_bi() {

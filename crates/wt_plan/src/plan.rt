@@ -3,7 +3,7 @@ ghost use Rattle.std.specs.Prelude.{◌≡◌, ◌++◌, ◌∷◌, [], IfOk, On
 ghost use Rattle.wt_seam_spec.specs.Joined.{send_of};
 ghost use Rattle.wt_turn.specs.Log.{HandshakeOver, Polled};
 ghost use Rattle.wt_turn.specs.declared.action.Action.TheVariants as actions;
-ghost use Rattle.wt_plan.specs.Planned.{planned};
+ghost use Rattle.wt_plan.specs.Planned.{defined_plan};
 ghost use Rattle.wt_turn.specs.Records.{record_of};
 ghost use Rattle.wt_session_spec.specs.Plan as session;
 
@@ -92,7 +92,7 @@ pub fn with_close(
 impl Plan {
     /// These go out, and nothing else is recorded.
     pub fn send_and_reply(own: Vec<Action>, reply: Reply) -> Plan
-        ensures { planned result ≡ session.Step own.items Polled reply }
+        ensures { defined_plan result ≡ session.Step own.items Polled reply }
     {
         Plan::Step {
             own,
@@ -103,14 +103,14 @@ impl Plan {
 
     /// Nothing goes out, and nothing else is recorded.
     pub fn only_reply(alloc: Global, reply: Reply) -> Plan
-        ensures { planned result ≡ session.Step [] Polled reply }
+        ensures { defined_plan result ≡ session.Step [] Polled reply }
     {
         Plan::send_and_reply(Vec::new(alloc), reply)
     }
 
     /// Nothing goes out, and this is recorded.
     pub fn only_record(alloc: Global, call: Record, reply: Reply) -> Plan
-        ensures { planned result ≡ session.Step [] (record_of call) reply }
+        ensures { defined_plan result ≡ session.Step [] (record_of call) reply }
     {
         Plan::Step {
             own: Vec::new(alloc),
@@ -121,7 +121,7 @@ impl Plan {
 
     /// The handshake is over, with no session.
     pub fn fail_with(own: Vec<Action>, reply: Reply) -> Plan
-        ensures { planned result ≡ session.Step own.items HandshakeOver reply }
+        ensures { defined_plan result ≡ session.Step own.items HandshakeOver reply }
     {
         Plan::Step {
             own,

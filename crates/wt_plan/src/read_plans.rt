@@ -1,10 +1,10 @@
 //! What the calls on receiving halves do.
 ghost use Rattle.std.specs.Prelude.{◌≡◌, ◌≤◌, IfOk, IsTrue, Ok, Some, ℕ, take, length};
 ghost use Rattle.wt_plan.specs.FactsNow.{DriverAnswers, facts_now};
-ghost use Rattle.wt_plan.specs.Planned.{planned};
+ghost use Rattle.wt_plan.specs.Planned.{defined_plan};
 ghost use Rattle.wt_turn.specs.Records.{record_of};
 ghost use Rattle.wt_seam.specs.Step.{end_now, unread_now};
-ghost use Rattle.wt_session_spec.specs.HalfPlans.{exact_plan, read_exact_plan, read_plan, read_record, read_reply};
+ghost use Rattle.wt_session_spec.specs.HalfPlans.{exact_plan, read_exact_plan, read_plan, read_record, reply_of_read};
 ghost use Rattle.wt_streams.specs.HalfRules.{too_few};
 ghost use Rattle.wt_turn.specs.declared.poll.Poll.TheVariants.{Ready};
 
@@ -48,7 +48,7 @@ fn read_reply(
     answer: Poll<Result<Option<usize>, StreamReadError>>,
 ) -> Result<Reply, OutOfMemory>
     requires { (count : ℕ) → answer ≡ Ready (Ok (Some count)) → count ≤ length (unread_now t.now id) }
-    ensures { IfOk result (λ reply. reply ≡ read_reply (unread_now t.now id) answer) }
+    ensures { IfOk result (λ reply. reply ≡ reply_of_read (unread_now t.now id) answer) }
 {
     match answer {
         Poll::Pending => Ok(Reply::Pending),
@@ -61,7 +61,7 @@ fn read_reply(
 /// At most so many of the unread bytes.
 #[tactic(auto, using(crate::proofs::Reading::read_within))]
 pub fn read(alloc: Global, t: &Transport, id: StreamId, size: u64) -> Result<Plan, OutOfMemory>
-    ensures { (d : DriverAnswers) → IfOk result (λ p. planned p ≡ read_plan (facts_now t.now d) id size) }
+    ensures { (d : DriverAnswers) → IfOk result (λ p. defined_plan p ≡ read_plan (facts_now t.now d) id size) }
 {
     let size = size as usize;
     let count = size.min(t.unread(id) as usize);
@@ -72,7 +72,7 @@ pub fn read(alloc: Global, t: &Transport, id: StreamId, size: u64) -> Result<Pla
 /// With too few bytes: they are taken only where no more can come.
 #[tactic(auto, using(std::proofs::lemmas::List::take_all))]
 fn too_few_bytes(alloc: Global, t: &Transport, id: StreamId) -> Result<Plan, OutOfMemory>
-    ensures { (size : ℕ) → IfOk result (λ p. planned p ≡ exact_plan id size (unread_now t.now id) (too_few t.now.is_open (end_now t.now id) (length (unread_now t.now id)))) }
+    ensures { (size : ℕ) → IfOk result (λ p. defined_plan p ≡ exact_plan id size (unread_now t.now id) (too_few t.now.is_open (end_now t.now id) (length (unread_now t.now id)))) }
 {
     let error = match t.end(id) {
         StreamEnd::Running if t.is_open() => return Ok(Plan::only_reply(alloc, Reply::Pending)),
@@ -101,7 +101,7 @@ pub fn read_exact(
     id: StreamId,
     size: u64,
 ) -> Result<Plan, OutOfMemory>
-    ensures { (d : DriverAnswers) → IfOk result (λ p. planned p ≡ read_exact_plan (facts_now t.now d) id size) }
+    ensures { (d : DriverAnswers) → IfOk result (λ p. defined_plan p ≡ read_exact_plan (facts_now t.now d) id size) }
 {
     if t.unread(id) < size {
         return too_few_bytes(alloc, t, id);

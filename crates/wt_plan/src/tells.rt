@@ -9,7 +9,7 @@ ghost use Rattle.wt_plan.specs.DriverAnswers.{answers_now};
 ghost use Rattle.wt_plan.specs.FactsNow.{DriverAnswers, facts_now};
 ghost use Rattle.wt_plan.specs.Inboxes.{StagesReadAsCalled};
 ghost use Rattle.wt_table.specs.Table.{KeepsCalls, TableValue};
-ghost use Rattle.wt_plan.specs.Tells.{AnswersLog, KeepsRequestEnd, LogTells, TellsFacts, driver_facts, session_now};
+ghost use Rattle.wt_plan.specs.Tells.{AnswersLog, KeepsRequestEnd, LogTells, TellsFacts, driver_facts, session_of_table};
 ghost use Rattle.wt_session_spec.specs.SessionState.{is_answering};
 ghost use Rattle.wt_proto.specs.declared.verdict.Verdict.TheVariants as verdicts;
 ghost use Rattle.wt_proto.specs.declared.response_walk.ResponseWalk.{ResponseWalk};
@@ -24,7 +24,7 @@ ghost use Rattle.wt_session_spec.specs.SessionState.{session_state};
 ghost use Rattle.wt_spec.specs.Answers.{call_effect, is_first, may_call};
 ghost use Rattle.wt_spec.specs.Driver.{stream_table};
 ghost use Rattle.wt_spec.specs.Halves.{has_receiving_half, has_sending_half, unread_body};
-ghost use Rattle.wt_spec.specs.Handshake.{Connecting, handshake_state, request_end, requested};
+ghost use Rattle.wt_spec.specs.Handshake.{Connecting, handshake_state, request_end, requested_stream};
 ghost use Rattle.wt_spec.specs.StreamTable.{verdict_of};
 ghost use Rattle.wt_turn.specs.Log.{Log, calls_of};
 ghost use Rattle.wt_turn.specs.declared.action.Action.{Action};
@@ -45,8 +45,8 @@ pub fn inboxes_tell()
 
 /// Where a request ends is kept from its delivery on, as long as no other is delivered.
 pub fn request_ends_are_kept()
-    ensures delivered { (side : Side) (more : Log) (log : Log) (k : ℕ) (headers : Fields) (at : ℕ) → verdict_of k (stream_table side log).classified ≡ Some (verdicts.Request headers at) → requested (calls_of (more ++ log)) ≡ k → KeepsRequestEnd side (more ++ log) at }
-    ensures later { (side : Side) (more : Log) (log : Log) (end : ℕ) → IsReachable side log → KeepsRequestEnd side log end → is_answering (handshake_state (calls_of log)) ≡ true → requested (calls_of (more ++ log)) ≡ requested (calls_of log) → KeepsRequestEnd side (more ++ log) end }
+    ensures delivered { (side : Side) (more : Log) (log : Log) (k : ℕ) (headers : Fields) (at : ℕ) → verdict_of k (stream_table side log).classified ≡ Some (verdicts.Request headers at) → requested_stream (calls_of (more ++ log)) ≡ k → KeepsRequestEnd side (more ++ log) at }
+    ensures later { (side : Side) (more : Log) (log : Log) (end : ℕ) → IsReachable side log → KeepsRequestEnd side log end → is_answering (handshake_state (calls_of log)) ≡ true → requested_stream (calls_of (more ++ log)) ≡ requested_stream (calls_of log) → KeepsRequestEnd side (more ++ log) end }
 {}
 
 /// A driver that keeps the state of a log answers what the log does, and a classified stream ends its request where it did.
@@ -66,7 +66,7 @@ pub fn given_streams_are_kept()
 /// The plan of each call that may come, by what is kept, is that by the log, and leads to what the call does; and the same
 /// calls may come.
 pub fn calls_are_planned_by_what_is_kept()
-    ensures plan { (side : Side) (log : Log) (t : TransportState) (d : DriverAnswers) → TellsFacts side log t d → (s : TableValue) → KeepsCalls s (calls_of log) → (call : Call) → may_call side log call ≡ true → plan_of (facts_now t d) (session_now s) call ≡ plan_of (facts_of side log) (session_state log) call }
-    ensures effect { (side : Side) (log : Log) (t : TransportState) (d : DriverAnswers) → TellsFacts side log t d → (s : TableValue) → KeepsCalls s (calls_of log) → (call : Call) → may_call side log call ≡ true → call_effect side log call ≡ perform side log (plan_of (facts_now t d) (session_now s) call) }
-    ensures may { (side : Side) (log : Log) (t : TransportState) (d : DriverAnswers) → TellsFacts side log t d → (s : TableValue) → KeepsCalls s (calls_of log) → (call : Call) → may_call_now (facts_now t d) (session_now s) call ≡ may_call side log call }
+    ensures plan { (side : Side) (log : Log) (t : TransportState) (d : DriverAnswers) → TellsFacts side log t d → (s : TableValue) → KeepsCalls s (calls_of log) → (call : Call) → may_call side log call ≡ true → plan_of (facts_now t d) (session_of_table s) call ≡ plan_of (facts_of side log) (session_state log) call }
+    ensures effect { (side : Side) (log : Log) (t : TransportState) (d : DriverAnswers) → TellsFacts side log t d → (s : TableValue) → KeepsCalls s (calls_of log) → (call : Call) → may_call side log call ≡ true → call_effect side log call ≡ perform side log (plan_of (facts_now t d) (session_of_table s) call) }
+    ensures may { (side : Side) (log : Log) (t : TransportState) (d : DriverAnswers) → TellsFacts side log t d → (s : TableValue) → KeepsCalls s (calls_of log) → (call : Call) → may_call_now (facts_now t d) (session_of_table s) call ≡ may_call side log call }
 {}

@@ -9,7 +9,7 @@ use Rattle.wt_reply.specs.declared.reply.Reply.TheVariants as replies
 use Rattle.wt_turn.specs.declared.action.Action.{Action}
 use Rattle.wt_turn.specs.declared.action.Action.TheVariants as actions
 use Rattle.wt_turn.specs.declared.answer.Answer.{Answer}
-use Rattle.wt_print.specs.PrintErrors.{hex_text, coded_text, numbers_text, code_text, address_text, connection_text, connecting_text, opening_text, write_text, read_error_text, exact_text, datagram_text}
+use Rattle.wt_print.specs.PrintErrors.{hex_text, coded_text, numbers_text, code_text, versioned_address_text, connection_text, connecting_text, opening_text, write_text, read_error_text, exact_text, datagram_text}
 
 -- a header field after a blank; an empty name or value is written as nothing
 abbrev pub field_text : List ℕ × List ℕ → List ℕ
@@ -61,7 +61,7 @@ reply_text (replies.DatagramFailed error) = codes "datagram_failed " ++ datagram
 
 -- an address, and the name of a server
 abbrev pub dial_text : Addr → List ℕ → List ℕ
-dial_text address name = address_text address ++ codes " " ++ hex_text name
+dial_text address name = versioned_address_text address ++ codes " " ++ hex_text name
 
 -- what goes out
 abbrev pub action_text : Action → List ℕ

@@ -41,9 +41,9 @@ abbrev pub socket_text : List ℕ → ℕ → List ℕ
 socket_text ip port = encode_lower ip ++ codes ":" ++ decimal port
 
 -- an address: its version, its bytes, the highest first, and its port
-abbrev pub address_text : Addr → List ℕ
-address_text (addresses.V4 ip port) = codes "v4:" ++ socket_text (to_be_bytes w32 ip) port
-address_text (addresses.V6 ip port) = codes "v6:" ++ socket_text (to_be_bytes w128 ip) port
+abbrev pub versioned_address_text : Addr → List ℕ
+versioned_address_text (addresses.V4 ip port) = codes "v4:" ++ socket_text (to_be_bytes w32 ip) port
+versioned_address_text (addresses.V6 ip port) = codes "v6:" ++ socket_text (to_be_bytes w128 ip) port
 
 -- a number, 'none' where there is none
 abbrev pub code_text : Option ℕ → List ℕ
@@ -80,7 +80,7 @@ connecting_text (connecting.ReservedHeader name) = codes "reserved_header " ++ h
 connecting_text connecting.EndpointStopping = codes "endpoint_stopping"
 connecting_text connecting.CidsExhausted = codes "cids_exhausted"
 connecting_text (connecting.InvalidServerName name) = codes "invalid_server_name " ++ hex_text name
-connecting_text (connecting.InvalidRemoteAddress address) = codes "invalid_remote_address " ++ address_text address
+connecting_text (connecting.InvalidRemoteAddress address) = codes "invalid_remote_address " ++ versioned_address_text address
 
 -- why a stream couldn't be opened
 abbrev pub opening_text : StreamOpeningError → List ℕ

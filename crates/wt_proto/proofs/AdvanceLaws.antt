@@ -6,8 +6,8 @@ use Rattle.std.proofs.Math.ListN.{drop_of_length-le}
 use Rattle.std.proofs.lemmas.Bool.{cases_lt}
 use Rattle.wt_proto.specs.declared.walk.Step.{Step}
 use Rattle.wt_proto.specs.declared.walk.Step.TheVariants.{Cut, Goes, Stops}
-use Rattle.wt_proto.specs.Progress.{Progress, progress_over, fed, reached, IsProper, Advances, passed, at_item}
-use Rattle.wt_proto.specs.Steady.{taken, IsSteady}
+use Rattle.wt_proto.specs.Progress.{Progress, progress_over, progress_after, reached_in, IsProper, Advances, progress_past, at_item}
+use Rattle.wt_proto.specs.Steady.{size_of_step, IsSteady}
 use Rattle.wt_proto.proofs.ProgressLaws.{progress-inside, progress-cut, progress-goes, progress-stops, fed-fed, fed-nothing, inside-open, item-open, kept-open}
 
 drop-take-none : (n : ℕ) (xs : List ℕ) → drop n (take n xs) ≡ []
@@ -16,35 +16,35 @@ drop-take-none n xs = drop_of_length-le (take n xs) (omega (arith, length-take n
 advance-same : {S O : Type 0} (decide : S → List ℕ → Step S O) (old new other : Progress S O) (piece : List ℕ) (n m : ℕ) → new ≡ other → n ≡ m → Advances decide old new piece n → Advances decide old other piece m
 advance-same decide old new other piece n m e f a = record {
   within = omega (arith, a.within);
-  taken = sym e ∙ (a.taken ∙ ap (λ (k : ℕ). fed decide old (take k piece)) f);
+  taken = sym e ∙ (a.taken ∙ ap (λ (k : ℕ). progress_after decide old (take k piece)) f);
   running = λ k lt. a.running k (omega arith);
 }
 
 from-same : {S O : Type 0} (decide : S → List ℕ → Step S O) (old other new : Progress S O) (piece : List ℕ) (n : ℕ) → old ≡ other → Advances decide old new piece n → Advances decide other new piece n
 from-same {S = S} {O = O} decide old other new piece n e a = record {
   within = a.within;
-  taken = a.taken ∙ ap (λ (p : Progress S O). fed decide p (take n piece)) e;
-  running = λ k lt. ap (λ (p : Progress S O). (reached (fed decide p (take k piece))).stop) (sym e) ∙ a.running k lt;
+  taken = a.taken ∙ ap (λ (p : Progress S O). progress_after decide p (take n piece)) e;
+  running = λ k lt. ap (λ (p : Progress S O). (reached_in (progress_after decide p (take k piece))).stop) (sym e) ∙ a.running k lt;
 }
 
 module _ {S O : Type 0} (decide : S → List ℕ → Step S O) (steady : IsSteady decide) where
   pub advance-none : (p : Progress S O) (piece : List ℕ) → IsProper decide p → Advances decide p p piece 0
   advance-none p piece proper = record { within = omega arith; taken = sym (fed-nothing decide steady p proper); running = λ k lt. absurd (omega arith) }
 
-  further : (old mid : Progress S O) (piece : List ℕ) (m : ℕ) → Advances decide old mid piece m → (k : ℕ) → fed decide mid (take k (drop m piece)) ≡ fed decide old (take (m + k) piece)
+  further : (old mid : Progress S O) (piece : List ℕ) (m : ℕ) → Advances decide old mid piece m → (k : ℕ) → progress_after decide mid (take k (drop m piece)) ≡ progress_after decide old (take (m + k) piece)
   further old mid piece m first k =
-      ap (λ (p : Progress S O). fed decide p (take k (drop m piece))) first.taken
-      ∙ (fed-fed decide steady old (take m piece) (take k (drop m piece)) ∙ ap (λ (xs : List ℕ). fed decide old xs) (sym (take-add m k piece)))
+      ap (λ (p : Progress S O). progress_after decide p (take k (drop m piece))) first.taken
+      ∙ (fed-fed decide steady old (take m piece) (take k (drop m piece)) ∙ ap (λ (xs : List ℕ). progress_after decide old xs) (sym (take-add m k piece)))
 
   still-open : (old mid new : Progress S O) (piece : List ℕ) (m n : ℕ) → Advances decide old mid piece m → Advances decide mid new (drop m piece) n →
-      (k : ℕ) → k < m + n → (reached (fed decide old (take k piece))).stop ≡ None
+      (k : ℕ) → k < m + n → (reached_in (progress_after decide old (take k piece))).stop ≡ None
   still-open old mid new piece m n first then k lt =
       elim (cases_lt k m) [
         | inl before ↦ first.running k before
         | inr behind ↦
             let same : m + (k - m) ≡ k = omega arith in
             let lt' : k - m < n = omega arith in
-            ap (λ (p : Progress S O). (reached p).stop) (sym (further old mid piece m first (k - m) ∙ ap (λ (j : ℕ). fed decide old (take j piece)) same)) ∙ then.running (k - m) lt'
+            ap (λ (p : Progress S O). (reached_in p).stop) (sym (further old mid piece m first (k - m) ∙ ap (λ (j : ℕ). progress_after decide old (take j piece)) same)) ∙ then.running (k - m) lt'
       ]
 
   pub advance-then : (old mid new : Progress S O) (piece : List ℕ) (m n : ℕ) → Advances decide old mid piece m → Advances decide mid new (drop m piece) n → Advances decide old new piece (m + n)
@@ -67,11 +67,11 @@ module _ {S O : Type 0} (decide : S → List ℕ → Step S O) (steady : IsStead
 
   cut-front : (s : S) (xs ys : List ℕ) → decide s (xs ++ ys) ≡ Cut → (d : Step S O) → decide s xs ≡ d → d ≡ Cut
   cut-front s xs ys e Cut f = refl
-  cut-front s xs ys e (Goes t n) f = let more = steady.more s xs ys n (ap (λ d. taken d) f) in absurd cc
-  cut-front s xs ys e (Stops o n) f = let more = steady.more s xs ys n (ap (λ d. taken d) f) in absurd cc
+  cut-front s xs ys e (Goes t n) f = let more = steady.more s xs ys n (ap (λ d. size_of_step d) f) in absurd cc
+  cut-front s xs ys e (Stops o n) f = let more = steady.more s xs ys n (ap (λ d. size_of_step d) f) in absurd cc
 
-  cut-open : (s : S) (xs : List ℕ) → decide s xs ≡ Cut → (reached (progress_over decide s None 0 xs)).stop ≡ None
-  cut-open s xs e = ap (λ (p : Progress S O). (reached p).stop) (progress-cut decide s xs e) ∙ kept-open decide steady s xs
+  cut-open : (s : S) (xs : List ℕ) → decide s xs ≡ Cut → (reached_in (progress_over decide s None 0 xs)).stop ≡ None
+  cut-open s xs e = ap (λ (p : Progress S O). (reached_in p).stop) (progress-cut decide s xs e) ∙ kept-open decide steady s xs
 
   -- bytes that decide nothing yet
   pub advance-keep : (s : S) (kept piece : List ℕ) (n : ℕ) → decide s (kept ++ take n piece) ≡ Cut → n ≤ length piece →
@@ -84,39 +84,39 @@ module _ {S O : Type 0} (decide : S → List ℕ → Step S O) (steady : IsStead
         cut-front s (kept ++ take k piece) (take (n - k) (drop k piece)) (ap (λ (xs : List ℕ). decide s xs) (append_assoc kept (take k piece) (take (n - k) (drop k piece)) ∙ ap (λ (xs : List ℕ). kept ++ xs) (sym split)) ∙ e) (decide s (kept ++ take k piece)) refl);
   }
 
-  passes : (s : S) (xs : List ℕ) (d : Step S O) (m : ℕ) → decide s xs ≡ d → taken d ≡ Some m → length xs ≤ m → progress_over decide s None 0 xs ≡ passed s d (length xs) []
+  passes : (s : S) (xs : List ℕ) (d : Step S O) (m : ℕ) → decide s xs ≡ d → size_of_step d ≡ Some m → length xs ≤ m → progress_over decide s None 0 xs ≡ progress_past s d (length xs) []
   passes s xs Cut m e f le = absurd cc
   passes s xs (Goes t n) m e f le = let same : n ≡ m = cc in progress-goes decide steady s t n xs e (omega arith)
   passes s xs (Stops o n) m e f le = let same : n ≡ m = cc in progress-stops decide steady s o n xs e (omega arith)
 
-  front-decides : (s : S) (xs : List ℕ) (d : Step S O) (m n : ℕ) → decide s xs ≡ d → taken d ≡ Some m → n ≤ length xs → (m ≤ n) ⊎ (length xs ≤ n) → decide s (take n xs) ≡ d
+  front-decides : (s : S) (xs : List ℕ) (d : Step S O) (m n : ℕ) → decide s xs ≡ d → size_of_step d ≡ Some m → n ≤ length xs → (m ≤ n) ⊎ (length xs ≤ n) → decide s (take n xs) ≡ d
   front-decides s xs d m n e f within (inl near) =
       let whole : decide s (take n xs ++ drop n xs) ≡ d = ap (λ (ys : List ℕ). decide s ys) (take-append-drop n xs) ∙ e in
-      steady.front s (take n xs) (drop n xs) m (ap (λ (x : Step S O). taken x) whole ∙ f) (omega (arith, length-take n xs)) ∙ whole
+      steady.front s (take n xs) (drop n xs) m (ap (λ (x : Step S O). size_of_step x) whole ∙ f) (omega (arith, length-take n xs)) ∙ whole
   front-decides s xs d m n e f within (inr far) = ap (λ (ys : List ℕ). decide s ys) (take_all n xs far) ∙ e
 
   -- an item, up to its end or that of the bytes
-  pub advance-item : (s : S) (xs : List ℕ) (d : Step S O) (m n : ℕ) → decide s xs ≡ d → taken d ≡ Some m → n ≤ length xs → n ≤ m → (m ≤ n) ⊎ (length xs ≤ n) →
-      Advances decide (record { state = s; stop = None; skip = 0; kept = [] }) (passed s d n []) xs n
+  pub advance-item : (s : S) (xs : List ℕ) (d : Step S O) (m n : ℕ) → decide s xs ≡ d → size_of_step d ≡ Some m → n ≤ length xs → n ≤ m → (m ≤ n) ⊎ (length xs ≤ n) →
+      Advances decide (record { state = s; stop = None; skip = 0; kept = [] }) (progress_past s d n []) xs n
   advance-item s xs d m n e f within le ends =
       let len : length (take n xs) ≡ n = omega (arith, length-take n xs) in
       record {
         within = within;
-        taken = sym (passes s (take n xs) d m (front-decides s xs d m n e f within ends) f (omega arith) ∙ ap (λ (k : ℕ). passed s d k []) len);
-        running = λ k lt. item-open decide steady s xs m (ap (λ (x : Step S O). taken x) e ∙ f) k (omega arith);
+        taken = sym (passes s (take n xs) d m (front-decides s xs d m n e f within ends) f (omega arith) ∙ ap (λ (k : ℕ). progress_past s d k []) len);
+        running = λ k lt. item-open decide steady s xs m (ap (λ (x : Step S O). size_of_step x) e ∙ f) k (omega arith);
       }
 
   -- with fewer bytes than were wanted nothing is decided
   module _ (s : S) (kept : List ℕ) (wanted : ℕ) (still : (ys : List ℕ) → length (kept ++ ys) < wanted → decide s (kept ++ ys) ≡ Cut) where
     -- what is kept and decides with the bytes that were wanted reaches no further than they do
-    item-long : (more : List ℕ) (m : ℕ) → decide s kept ≡ Cut → taken (decide s (kept ++ more)) ≡ Some m → length (kept ++ more) ≤ wanted → length (kept ++ more) ≤ m
+    item-long : (more : List ℕ) (m : ℕ) → decide s kept ≡ Cut → size_of_step (decide s (kept ++ more)) ≡ Some m → length (kept ++ more) ≤ wanted → length (kept ++ more) ≤ m
     item-long more m e f le =
         elim (cases_lt m (length (kept ++ more))) [
           | inl lt ↦ elim (cases_lt (length kept) m) [
             | inl behind ↦
                 let shorter : take m (kept ++ more) ≡ kept ++ take (m - length kept) more = let same : m ≡ length kept + (m - length kept) = omega arith in ap (λ (j : ℕ). take j (kept ++ more)) same ∙ take-append-add kept more (m - length kept) in
                 let whole : decide s (take m (kept ++ more) ++ drop m (kept ++ more)) ≡ decide s (kept ++ more) = ap (λ (ys : List ℕ). decide s ys) (take-append-drop m (kept ++ more)) in
-                let same = steady.front s (take m (kept ++ more)) (drop m (kept ++ more)) m (ap (λ (x : Step S O). taken x) whole ∙ f) (omega (arith, length-take m (kept ++ more))) in
+                let same = steady.front s (take m (kept ++ more)) (drop m (kept ++ more)) m (ap (λ (x : Step S O). size_of_step x) whole ∙ f) (omega (arith, length-take m (kept ++ more))) in
                 let cut : decide s (kept ++ take (m - length kept) more) ≡ Cut = still (take (m - length kept) more) (omega (arith, ap length (sym shorter), length-take m (kept ++ more))) in
                 let back : decide s (take m (kept ++ more)) ≡ Cut = ap (λ (ys : List ℕ). decide s ys) shorter ∙ cut in
                 absurd cc
@@ -127,17 +127,17 @@ module _ {S O : Type 0} (decide : S → List ℕ → Step S O) (steady : IsStead
 
     advance-kept : (piece : List ℕ) (n : ℕ) (d : Step S O) → decide s kept ≡ Cut → decide s (kept ++ take n piece) ≡ d →
         n ≤ length piece → length (kept ++ take n piece) ≤ wanted →
-        Advances decide (record { state = s; stop = None; skip = 0; kept = kept }) (passed s d (length (kept ++ take n piece)) (kept ++ take n piece)) piece n
+        Advances decide (record { state = s; stop = None; skip = 0; kept = kept }) (progress_past s d (length (kept ++ take n piece)) (kept ++ take n piece)) piece n
     advance-kept piece n Cut waits e within le = advance-keep s kept piece n e within
     advance-kept piece n (Goes t m) waits e within le = record {
       within = within;
-      taken = sym (passes s (kept ++ take n piece) (Goes t m) m e refl (item-long (take n piece) m waits (ap (λ (x : Step S O). taken x) e) le));
+      taken = sym (passes s (kept ++ take n piece) (Goes t m) m e refl (item-long (take n piece) m waits (ap (λ (x : Step S O). size_of_step x) e) le));
       running = λ k lt. cut-open s (kept ++ take k piece) (still (take k piece)
           (omega (arith, length-append kept (take k piece), length-append kept (take n piece), length-take k piece, length-take n piece)));
     }
     advance-kept piece n (Stops o m) waits e within le = record {
       within = within;
-      taken = sym (passes s (kept ++ take n piece) (Stops o m) m e refl (item-long (take n piece) m waits (ap (λ (x : Step S O). taken x) e) le));
+      taken = sym (passes s (kept ++ take n piece) (Stops o m) m e refl (item-long (take n piece) m waits (ap (λ (x : Step S O). size_of_step x) e) le));
       running = λ k lt. cut-open s (kept ++ take k piece) (still (take k piece)
           (omega (arith, length-append kept (take k piece), length-append kept (take n piece), length-take k piece, length-take n piece)));
     }
@@ -149,16 +149,16 @@ module _ {S O : Type 0} (decide : S → List ℕ → Step S O) (steady : IsStead
   bare : ◌≡◌ {A = Progress S O} (record { state = s; stop = stop; skip = skip; kept = kept }) (record { state = s; stop = None; skip = 0; kept = kept })
   bare = rw ((proper.idle some).0, (proper.idle some).1) refl
 
-  pub kept-long : (items more : List ℕ) (m : ℕ) → items ≡ kept ++ more → length items ≤ wanted → taken (decide s items) ≡ Some m → length items ≤ m
+  pub kept-long : (items more : List ℕ) (m : ℕ) → items ≡ kept ++ more → length items ≤ wanted → size_of_step (decide s items) ≡ Some m → length items ≤ m
   kept-long items more m e le f =
-      let long = item-long decide steady s kept wanted still more m proper.waits (ap (λ (xs : List ℕ). taken (decide s xs)) (sym e) ∙ f) (omega (arith, ap length e)) in
+      let long = item-long decide steady s kept wanted still more m proper.waits (ap (λ (xs : List ℕ). size_of_step (decide s xs)) (sym e) ∙ f) (omega (arith, ap length e)) in
       omega (arith, long, ap length e)
 
   pub kept-advances : (new : Progress S O) (items piece : List ℕ) (n : ℕ) → items ≡ kept ++ take n piece → n ≤ length piece → length items ≤ wanted →
-      new ≡ passed s (decide s items) (length items) items → Advances decide (record { state = s; stop = stop; skip = skip; kept = kept }) new piece n
+      new ≡ progress_past s (decide s items) (length items) items → Advances decide (record { state = s; stop = stop; skip = skip; kept = kept }) new piece n
   kept-advances new items piece n e within le f =
       let more = advance-kept decide steady s kept wanted still piece n (decide s (kept ++ take n piece)) proper.waits refl within (omega (arith, ap length e)) in
-      let is : passed s (decide s (kept ++ take n piece)) (length (kept ++ take n piece)) (kept ++ take n piece) ≡ new = ap (λ (xs : List ℕ). passed s (decide s xs) (length xs) xs) (sym e) ∙ sym f in
+      let is : progress_past s (decide s (kept ++ take n piece)) (length (kept ++ take n piece)) (kept ++ take n piece) ≡ new = ap (λ (xs : List ℕ). progress_past s (decide s xs) (length xs) xs) (sym e) ∙ sym f in
       from-same decide _ _ _ piece n (sym bare) (advance-same decide _ _ new piece n n is refl more)
 
   -- fewer bytes than were wanted
@@ -185,10 +185,10 @@ pub skipping-proper : {S O : Type 0} (decide : S → List ℕ → Step S O) (s :
 skipping-proper decide s stop skip kept n proper some = record { waits = proper.waits; idle = λ more. absurd (omega (arith, (proper.idle more).0)) }
 
 -- what is left of a piece, kept where nothing was
-pub rest-kept : (rest taken : ℕ) (xs kept items : List ℕ) → rest ≤ taken → kept ≡ [] → items ≡ kept ++ take (taken - rest) (drop rest xs) → drop rest (take taken xs) ≡ items
-rest-kept rest taken xs kept items le none e =
-    let same : taken ≡ rest + (taken - rest) = omega arith in
-    ap (λ (n : ℕ). drop rest (take n xs)) same ∙ (drop-take rest (taken - rest) xs ∙ sym (e ∙ ap (λ (ys : List ℕ). ys ++ take (taken - rest) (drop rest xs)) none))
+pub rest-kept : (rest size_of_step : ℕ) (xs kept items : List ℕ) → rest ≤ size_of_step → kept ≡ [] → items ≡ kept ++ take (size_of_step - rest) (drop rest xs) → drop rest (take size_of_step xs) ≡ items
+rest-kept rest size_of_step xs kept items le none e =
+    let same : size_of_step ≡ rest + (size_of_step - rest) = omega arith in
+    ap (λ (n : ℕ). drop rest (take n xs)) same ∙ (drop-take rest (size_of_step - rest) xs ∙ sym (e ∙ ap (λ (ys : List ℕ). ys ++ take (size_of_step - rest) (drop rest xs)) none))
 
 -- what code went over, seen from where the walk stood
 pub advances-bare : {S O : Type 0} (decide : S → List ℕ → Step S O) (old other new next : Progress S O) (piece : List ℕ) (n : ℕ) → old ≡ other → next ≡ new → Advances decide other next piece n → Advances decide old new piece n
@@ -208,13 +208,13 @@ module _ {S O : Type 0} (decide : S → List ℕ → Step S O) (steady : IsStead
       (advance-keep decide steady s [] (drop at bytes) (length bytes - at) e (omega (arith, left))) in
       advance-same decide (at_item start) _ _ bytes _ _ (ap (λ (xs : List ℕ). record { state = s; stop = None; skip = 0; kept = xs }) rest) (omega (arith, so_far.within)) more
 
-  some-left : (d : Step S O) (m : ℕ) → decide s (take (length bytes - at) (drop at bytes)) ≡ d → taken d ≡ Some m → decide s (drop at bytes) ≡ d
+  some-left : (d : Step S O) (m : ℕ) → decide s (take (length bytes - at) (drop at bytes)) ≡ d → size_of_step d ≡ Some m → decide s (drop at bytes) ≡ d
   some-left d m e f = ap (λ (xs : List ℕ). decide s xs) (sym (take_rest bytes at)) ∙ e
 
-  over-item : (d : Step S O) (m n : ℕ) → decide s (take (length bytes - at) (drop at bytes)) ≡ d → taken d ≡ Some m → n ≤ m → n ≤ length bytes - at → (m ≤ n) ⊎ (length bytes - at ≤ n) →
-      Advances decide (at_item start) (passed s d n []) bytes (at + n)
+  over-item : (d : Step S O) (m n : ℕ) → decide s (take (length bytes - at) (drop at bytes)) ≡ d → size_of_step d ≡ Some m → n ≤ m → n ≤ length bytes - at → (m ≤ n) ⊎ (length bytes - at ≤ n) →
+      Advances decide (at_item start) (progress_past s d n []) bytes (at + n)
   over-item d m n e f le within ends =
-      advance-then decide steady (at_item start) (at_item s) (passed s d n []) bytes at n so_far
+      advance-then decide steady (at_item start) (at_item s) (progress_past s d n []) bytes at n so_far
       (advance-item decide steady s (drop at bytes) d m n (some-left d m e f) f (omega (arith, left)) le (rw left ends))
 
   pub over-goes : (t : S) (m : ℕ) → decide s (take (length bytes - at) (drop at bytes)) ≡ Goes t m → m ≤ length bytes - at →
@@ -240,5 +240,5 @@ module _ {S O : Type 0} (decide : S → List ℕ → Step S O) (steady : IsStead
       (over-item (Stops o m) m n e refl (omega arith) (omega arith)
       (elim (cases_lt m (length bytes - at)) [ inl lt ↦ inl (omega arith) | inr le ↦ inr (omega arith) ]))
 
-  pub over-some : (d : Step S O) (m : ℕ) → decide s (take (length bytes - at) (drop at bytes)) ≡ d → taken d ≡ Some m → 1 ≤ m
-  over-some d m e f = steady.some s (take (length bytes - at) (drop at bytes)) m (ap (λ (x : Step S O). taken x) e ∙ f)
+  pub over-some : (d : Step S O) (m : ℕ) → decide s (take (length bytes - at) (drop at bytes)) ≡ d → size_of_step d ≡ Some m → 1 ≤ m
+  over-some d m e f = steady.some s (take (length bytes - at) (drop at bytes)) m (ap (λ (x : Step S O). size_of_step x) e ∙ f)

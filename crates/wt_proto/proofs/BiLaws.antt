@@ -6,8 +6,8 @@ use Rattle.wt_proto.specs.declared.walk.Step.TheVariants.{Stops}
 use Rattle.wt_proto.specs.Bi.{bi_decides, bi_effect, bi_unfinished, bi_verdict_of, headers_verdict}
 use Rattle.wt_wire.specs.FieldSection.{headers_of}
 use Rattle.wt_wire.specs.Frames as frames
-use Rattle.wt_proto.specs.FrameSteps.{decided}
-use Rattle.wt_proto.specs.Steady.{taken, IsSteady}
+use Rattle.wt_proto.specs.FrameSteps.{step_of_item}
+use Rattle.wt_proto.specs.Steady.{size_of_step, IsSteady}
 use Rattle.wt_proto.specs.Uni.{is_final}
 use Rattle.wt_wire.specs.Varint.{varint_at}
 use Rattle.wt_proto.proofs.FrameLaws.{IsEffect, frames-steady, varint-on}
@@ -16,13 +16,9 @@ use Rattle.wt_proto.proofs.WalkLaws.{outcome-stays}
 pub bi-effect : IsEffect bi_effect
 bi-effect = record { takes = takes }
   where
-    takes : (at n : ℕ) (f : frames.Frame) → taken (bi_effect at n f) ≡ Some n
+    takes : (at n : ℕ) (f : frames.Frame) → size_of_step (bi_effect at n f) ≡ Some n
     takes at n (frames.Skipped kind) = refl
-    takes at n (frames.Signal id) = refl
-    takes at n (frames.Headers payload) = refl
-    takes at n frames.TooLong = refl
-    takes at n (frames.Data payload) = refl
-    takes at n (frames.Settings payload) = refl
+    takes at n _ = refl
 
 pub bi-steady : IsSteady bi_decides
 unfolding bi_decides
@@ -34,7 +30,7 @@ pub bi-headers : (at : ℕ) (bytes : List ℕ) (header size : ℕ) → Some (fra
 unfolding bi_decides
 bi-headers at bytes header size e =
     let same : header + size - header ≡ size = omega arith in
-    rw same (ap (λ (f : Option (frames.Frame × ℕ)). decided (bi_effect at) f) e)
+    rw same (ap (λ (f : Option (frames.Frame × ℕ)). step_of_item (bi_effect at) f) e)
 
 pub bi_verdict_stays : (bytes more : List ℕ) (end : StreamEnd) → is_final (bi_verdict_of bytes Running) ≡ true → bi_verdict_of (bytes ++ more) end ≡ bi_verdict_of bytes Running
 unfolding bi_verdict_of

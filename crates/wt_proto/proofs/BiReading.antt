@@ -13,12 +13,12 @@ use Rattle.wt_wire.specs.Frames as frames
 use Rattle.wt_wire.specs.HeaderList.{Fields}
 use Rattle.wt_wire.specs.Varint.{varint_at}
 use Rattle.wt_proto.specs.Bi.{bi_decides, bi_effect, bi_unfinished, bi_verdict_of, headers_verdict, parsed_verdict}
-use Rattle.wt_proto.specs.FrameSteps.{decided}
+use Rattle.wt_proto.specs.FrameSteps.{step_of_item}
 use Rattle.wt_message.specs.Requests.{request_of}
 use Rattle.wt_proto.specs.Reading.{ReadsAlike}
 use Rattle.wt_proto.specs.Steady.{IsAwaited, IsLawful}
 use Rattle.wt_proto.specs.Uni.{is_final, session_verdict}
-use Rattle.wt_proto.specs.Walk.{outcome_at, walked}
+use Rattle.wt_proto.specs.Walk.{outcome_at, whole_walk}
 use Rattle.wt_proto.specs.Wanted.{frame_wants}
 use Rattle.wt_proto.proofs.ReadingLaws.{reads-alike}
 use Rattle.wt_proto.proofs.BiLaws.{bi-effect, bi-steady}
@@ -28,7 +28,7 @@ bi-awaited : IsAwaited bi_decides (frame_wants true)
 unfolding bi_decides
 bi-awaited = item-awaited (frames.frame_at varint_at) (frame_wants true) varint-awaited bi_effect bi-effect
 
-bi-reaches : (bytes : List ℕ) (end : StreamEnd) → bi_verdict_of bytes end ≡ outcome_at bi_unfinished end (walked bi_decides 0 bytes)
+bi-reaches : (bytes : List ℕ) (end : StreamEnd) → bi_verdict_of bytes end ≡ outcome_at bi_unfinished end (whole_walk bi_decides 0 bytes)
 unfolding bi_verdict_of
 bi-reaches bytes end = refl
 
@@ -48,14 +48,12 @@ headers-final : (at : ℕ) (r : Result Fields ErrorCode) → is_final (headers_v
 headers-final at (Ok fields) = parsed-final at (request_of fields)
 headers-final at (Err fault) = refl
 
-effect-final : (at : ℕ) (f : Option (frames.Frame × ℕ)) (w : Verdict) (m : ℕ) → decided (bi_effect at) f ≡ Stops w m → is_final w ≡ true
+effect-final : (at : ℕ) (f : Option (frames.Frame × ℕ)) (w : Verdict) (m : ℕ) → step_of_item (bi_effect at) f ≡ Stops w m → is_final w ≡ true
 effect-final at None w m e = absurd cc
 effect-final at (Some (frames.Skipped kind, n)) w m e = absurd cc
 effect-final at (Some (frames.Signal id, n)) w m e = let judged = session-final id (at + n) in cc
 effect-final at (Some (frames.Headers payload, n)) w m e = let judged = headers-final (at + n) (headers_of payload) in cc
-effect-final at (Some (frames.TooLong, n)) w m e = cc
-effect-final at (Some (frames.Data payload, n)) w m e = cc
-effect-final at (Some (frames.Settings payload, n)) w m e = cc
+effect-final at _ w m e = cc
 
 bi-final : (at : ℕ) (bytes : List ℕ) (w : Verdict) (n : ℕ) → bi_decides at bytes ≡ Stops w n → is_final w ≡ true
 unfolding bi_decides

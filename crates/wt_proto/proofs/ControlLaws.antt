@@ -9,34 +9,31 @@ use Rattle.wt_wire.specs.declared.side.StreamEnd.TheVariants.{Running, Fin, Rese
 use Rattle.wt_proto.specs.declared.walk.Step.{Step}
 use Rattle.wt_proto.specs.declared.walk.Step.TheVariants.{Cut, Goes, Stops}
 use Rattle.wt_wire.specs.Frames as frames
-use Rattle.wt_proto.specs.FrameSteps.{decided}
+use Rattle.wt_proto.specs.FrameSteps.{step_of_item}
 use Rattle.wt_message.specs.Settings.{settings_of}
-use Rattle.wt_proto.specs.Steady.{taken, IsSteady}
-use Rattle.wt_proto.specs.ControlWalk.{control_decides, control_effect, control_unfinished, control_walk_of, faulted, settings_step}
-use Rattle.wt_proto.specs.Walk.{led, outcome_at, walk, walked}
+use Rattle.wt_proto.specs.Steady.{size_of_step, IsSteady}
+use Rattle.wt_proto.specs.ControlWalk.{control_decides, control_effect, control_unfinished, control_walk_of, control_fault, settings_step}
+use Rattle.wt_proto.specs.Walk.{step_on, outcome_at, walk, whole_walk}
 use Rattle.wt_proto.proofs.FrameLaws.{IsEffect, frames-steady, session_id_ignored-on}
 use Rattle.wt_proto.proofs.WalkLaws.{outcome-stays}
 
-settings-taken : (n : ℕ) (r : Result Settings ErrorCode) → taken (settings_step n r) ≡ Some n
+settings-taken : (n : ℕ) (r : Result Settings ErrorCode) → size_of_step (settings_step n r) ≡ Some n
 settings-taken n (Ok s) = refl
 settings-taken n (Err e) = refl
 
-chosen-taken : {S O : Type 0} (b : Bool) (x y : Step S O) (n : ℕ) → taken x ≡ Some n → taken y ≡ Some n → taken (cond b x y) ≡ Some n
+chosen-taken : {S O : Type 0} (b : Bool) (x y : Step S O) (n : ℕ) → size_of_step x ≡ Some n → size_of_step y ≡ Some n → size_of_step (cond b x y) ≡ Some n
 chosen-taken true x y n e f = e
 chosen-taken false x y n e f = f
 
 pub control-effect : IsEffect control_effect
 control-effect = record { takes = takes }
   where
-    takes : (s : Option Settings) (n : ℕ) (f : frames.Frame) → taken (control_effect s n f) ≡ Some n
-    takes s n (frames.Data payload) = refl
-    takes s n (frames.Headers payload) = refl
+    takes : (s : Option Settings) (n : ℕ) (f : frames.Frame) → size_of_step (control_effect s n f) ≡ Some n
     takes None n (frames.Settings payload) = settings-taken n (settings_of payload)
     takes (Some s) n (frames.Settings payload) = refl
-    takes s n frames.TooLong = refl
-    takes s n (frames.Signal id) = refl
-    takes None n (frames.Skipped kind) = chosen-taken (frames.is_exercise kind) (faulted None MissingSettings n) (Goes None n) n refl refl
+    takes None n (frames.Skipped kind) = chosen-taken (frames.is_exercise kind) (control_fault None MissingSettings n) (Goes None n) n refl refl
     takes (Some s) n (frames.Skipped kind) = refl
+    takes s n _ = refl
 
 pub control-steady : IsSteady control_decides
 unfolding control_decides
@@ -45,7 +42,7 @@ control-steady = frames-steady frames.session_id_ignored session_id_ignored-on c
 pub control_fault_stays : (bytes more : List ℕ) (end : StreamEnd) → IsSome (control_walk_of bytes Running).fault → control_walk_of (bytes ++ more) end ≡ control_walk_of bytes Running
 unfolding control_walk_of
 control_fault_stays bytes more end some =
-    outcome-stays control_decides control-steady None control_unfinished (λ w. is_some w.fault) (λ s b. refl) bytes more end (faulty (outcome_at control_unfinished Running (walked control_decides None bytes)).fault some)
+    outcome-stays control_decides control-steady None control_unfinished (λ w. is_some w.fault) (λ s b. refl) bytes more end (faulty (outcome_at control_unfinished Running (whole_walk control_decides None bytes)).fault some)
   where
     faulty : (fault : Option ErrorCode) → IsSome fault → is_some fault ≡ true
     faulty None h = absurd cc
@@ -54,14 +51,9 @@ control_fault_stays bytes more end some =
 -- settings that came stay: the walk goes on in no other state
 
 module _ (s : Settings) where
-  continues_with : (f : Option (frames.Frame × ℕ)) (t : Option Settings) (n : ℕ) → decided (control_effect (Some s)) f ≡ Goes t n → t ≡ Some s
-  continues_with None t n e = absurd cc
-  continues_with (Some (frames.Data payload, m)) t n e = absurd cc
-  continues_with (Some (frames.Headers payload, m)) t n e = absurd cc
-  continues_with (Some (frames.Settings payload, m)) t n e = absurd cc
-  continues_with (Some (frames.TooLong, m)) t n e = absurd cc
-  continues_with (Some (frames.Signal id, m)) t n e = absurd cc
+  continues_with : (f : Option (frames.Frame × ℕ)) (t : Option Settings) (n : ℕ) → step_of_item (control_effect (Some s)) f ≡ Goes t n → t ≡ Some s
   continues_with (Some (frames.Skipped kind, m)) t n e = cc
+  continues_with _ t n e = absurd cc
 
   next_state : (bytes : List ℕ) (t : Option Settings) (n : ℕ) → control_decides (Some s) bytes ≡ Goes t n → t ≡ Some s
   unfolding control_decides
@@ -69,7 +61,7 @@ module _ (s : Settings) where
 
   led-kept : (b : ℕ) (xs : List ℕ) → ((stop : Option ControlWalk) (n : ℕ) → (walk control_decides (Some s) stop n xs).state ≡ Some s) →
       (step : Step (Option Settings) ControlWalk) → control_decides (Some s) (b ∷ xs) ≡ step →
-      (led (record { state = Some s; stop = None; between = false }) (λ t stop n. walk control_decides t stop (n - 1) xs) (Some s) step).state ≡ Some s
+      (step_on (record { state = Some s; stop = None; between = false }) (λ t stop n. walk control_decides t stop (n - 1) xs) (Some s) step).state ≡ Some s
   led-kept b xs again Cut e = refl
   led-kept b xs again (Goes t n) e = rw (next_state (b ∷ xs) t n e) (again None (n - 1))
   led-kept b xs again (Stops o n) e = again (Some o) (n - 1)
@@ -84,13 +76,13 @@ module _ (s : Settings) where
 led-came : (s : Settings) (b : ℕ) (xs ys : List ℕ) →
     ((state : Option Settings) (stop : Option ControlWalk) (n : ℕ) → (walk control_decides state stop n xs).state ≡ Some s → (walk control_decides state stop n (xs ++ ys)).state ≡ Some s) →
     (step : Step (Option Settings) ControlWalk) → control_decides None (b ∷ xs) ≡ step →
-    (led (record { state = None; stop = None; between = false }) (λ t stop n. walk control_decides t stop (n - 1) xs) None step).state ≡ Some s →
-    (led (record { state = None; stop = None; between = false }) (λ t stop n. walk control_decides t stop (n - 1) (xs ++ ys)) None (control_decides None (b ∷ xs ++ ys))).state ≡ Some s
+    (step_on (record { state = None; stop = None; between = false }) (λ t stop n. walk control_decides t stop (n - 1) xs) None step).state ≡ Some s →
+    (step_on (record { state = None; stop = None; between = false }) (λ t stop n. walk control_decides t stop (n - 1) (xs ++ ys)) None (control_decides None (b ∷ xs ++ ys))).state ≡ Some s
 led-came s b xs ys again Cut e f = absurd cc
 led-came s b xs ys again (Goes t n) e f =
-    rw (control-steady.more None (b ∷ xs) ys n (ap (λ d. taken d) e) ∙ e) (again t None (n - 1) f)
+    rw (control-steady.more None (b ∷ xs) ys n (ap (λ d. size_of_step d) e) ∙ e) (again t None (n - 1) f)
 led-came s b xs ys again (Stops o n) e f =
-    rw (control-steady.more None (b ∷ xs) ys n (ap (λ d. taken d) e) ∙ e) (again None (Some o) (n - 1) f)
+    rw (control-steady.more None (b ∷ xs) ys n (ap (λ d. size_of_step d) e) ∙ e) (again None (Some o) (n - 1) f)
 
 came : (s : Settings) (xs ys : List ℕ) (state : Option Settings) (stop : Option ControlWalk) (n : ℕ) →
     (walk control_decides state stop n xs).state ≡ Some s → (walk control_decides state stop n (xs ++ ys)).state ≡ Some s
@@ -110,20 +102,17 @@ settings-agree : (n : ℕ) (r : Result Settings ErrorCode) (w : ControlWalk) (m 
 settings-agree n (Ok s) w m e = absurd cc
 settings-agree n (Err fault) w m e = cc
 
-skipped-agree : (b : Bool) (n : ℕ) (w : ControlWalk) (m : ℕ) → cond b (faulted None MissingSettings n) (Goes None n) ≡ Stops w m → w.settings ≡ None
+skipped-agree : (b : Bool) (n : ℕ) (w : ControlWalk) (m : ℕ) → cond b (control_fault None MissingSettings n) (Goes None n) ≡ Stops w m → w.settings ≡ None
 skipped-agree true n w m e = cc
 skipped-agree false n w m e = absurd cc
 
-effect-agrees : (s : Option Settings) (f : Option (frames.Frame × ℕ)) (w : ControlWalk) (m : ℕ) → decided (control_effect s) f ≡ Stops w m → w.settings ≡ s
+effect-agrees : (s : Option Settings) (f : Option (frames.Frame × ℕ)) (w : ControlWalk) (m : ℕ) → step_of_item (control_effect s) f ≡ Stops w m → w.settings ≡ s
 effect-agrees s None w m e = absurd cc
-effect-agrees s (Some (frames.Data payload, n)) w m e = cc
-effect-agrees s (Some (frames.Headers payload, n)) w m e = cc
 effect-agrees None (Some (frames.Settings payload, n)) w m e = settings-agree n (settings_of payload) w m e
 effect-agrees (Some s) (Some (frames.Settings payload, n)) w m e = cc
-effect-agrees s (Some (frames.TooLong, n)) w m e = cc
-effect-agrees s (Some (frames.Signal id, n)) w m e = cc
 effect-agrees None (Some (frames.Skipped kind, n)) w m e = skipped-agree (frames.is_exercise kind) n w m e
 effect-agrees (Some s) (Some (frames.Skipped kind, n)) w m e = absurd cc
+effect-agrees s _ w m e = cc
 
 stop-agrees : (s : Option Settings) (bytes : List ℕ) (w : ControlWalk) (m : ℕ) → control_decides s bytes ≡ Stops w m → w.settings ≡ s
 unfolding control_decides
@@ -132,8 +121,8 @@ stop-agrees s bytes w m e = effect-agrees s (frames.frame_at frames.session_id_i
 led-agrees : (s : Option Settings) (b : ℕ) (xs : List ℕ) →
     ((t : Option Settings) (stop : Option ControlWalk) (n : ℕ) → agrees t stop → agrees (walk control_decides t stop n xs).state (walk control_decides t stop n xs).stop) →
     (step : Step (Option Settings) ControlWalk) → control_decides s (b ∷ xs) ≡ step →
-    agrees (led (record { state = s; stop = None; between = false }) (λ t stop n. walk control_decides t stop (n - 1) xs) s step).state
-    (led (record { state = s; stop = None; between = false }) (λ t stop n. walk control_decides t stop (n - 1) xs) s step).stop
+    agrees (step_on (record { state = s; stop = None; between = false }) (λ t stop n. walk control_decides t stop (n - 1) xs) s step).state
+    (step_on (record { state = s; stop = None; between = false }) (λ t stop n. walk control_decides t stop (n - 1) xs) s step).stop
 led-agrees s b xs again Cut e = tt
 led-agrees s b xs again (Goes t n) e = again t None (n - 1) tt
 led-agrees s b xs again (Stops w n) e = again s (Some w) (n - 1) (stop-agrees s (b ∷ xs) w n e)
@@ -152,10 +141,10 @@ settings-by Fin s between None h = refl
 settings-by (Reset code) s between None h = refl
 settings-by end s between (Some w) h = h
 
-settings-are : (bytes : List ℕ) (end : StreamEnd) → (control_walk_of bytes end).settings ≡ (walked control_decides None bytes).state
+settings-are : (bytes : List ℕ) (end : StreamEnd) → (control_walk_of bytes end).settings ≡ (whole_walk control_decides None bytes).state
 unfolding control_walk_of
 settings-are bytes end =
-    settings-by end (walked control_decides None bytes).state (walked control_decides None bytes).between (walked control_decides None bytes).stop (walk-agrees bytes None None 0 tt)
+    settings-by end (whole_walk control_decides None bytes).state (whole_walk control_decides None bytes).between (whole_walk control_decides None bytes).stop (walk-agrees bytes None None 0 tt)
 
 pub settings_stay : (bytes more : List ℕ) (end later : StreamEnd) (s : Settings) → (control_walk_of bytes end).settings ≡ Some s → (control_walk_of (bytes ++ more) later).settings ≡ Some s
 settings_stay bytes more end later s e = settings-are (bytes ++ more) later ∙ came s bytes more None None 0 (sym (settings-are bytes end) ∙ e)

@@ -6,8 +6,8 @@ use Rattle.wt_proto.specs.declared.walk.Step.{Step}
 use Rattle.wt_proto.specs.declared.walk.Step.TheVariants.{Cut}
 use Rattle.wt_wire.specs.Varint.{varint_at}
 use Rattle.wt_wire.specs.Frames.{Frame, frame_at, frame_with_type, frame_with_length, frame_with_header, signal_with_id, session_id_ignored}
-use Rattle.wt_proto.specs.FrameSteps.{decided}
-use Rattle.wt_proto.specs.Steady.{taken, IsSteady}
+use Rattle.wt_proto.specs.FrameSteps.{step_of_item}
+use Rattle.wt_proto.specs.Steady.{size_of_step, IsSteady}
 use Rattle.wt_wire.proofs.VarintLaws.{varint_at-more, varint_at-within, varint_at-front}
 
 -- what is read at the front, and its length
@@ -126,33 +126,33 @@ module _ (id_at : List ℕ → Option (ℕ × ℕ)) (on : ReadsOn id_at) where
 
 -- what an item does takes that item's bytes
 pub record IsEffect {A S O : Type 0} (effect : S → ℕ → A → Step S O) : Type 0 where
-  pub takes : (s : S) (n : ℕ) (item : A) → taken (effect s n item) ≡ Some n
+  pub takes : (s : S) (n : ℕ) (item : A) → size_of_step (effect s n item) ≡ Some n
 
 module _ {A S O : Type 0} (read : List ℕ → Option (A × ℕ)) (reader : IsReader read) (effect : S → ℕ → A → Step S O) (whole : IsEffect effect) where
-  same-more : (s : S) (xs ys : List ℕ) (n : ℕ) (f : Option (A × ℕ)) → read xs ≡ f → taken (decided (effect s) f) ≡ Some n →
-      decided (effect s) (read (xs ++ ys)) ≡ decided (effect s) f
+  same-more : (s : S) (xs ys : List ℕ) (n : ℕ) (f : Option (A × ℕ)) → read xs ≡ f → size_of_step (step_of_item (effect s) f) ≡ Some n →
+      step_of_item (effect s) (read (xs ++ ys)) ≡ step_of_item (effect s) f
   same-more s xs ys n None is e = absurd cc
   same-more s xs ys n (Some f) is e = rw (reader.more xs ys f is) refl
 
-  same-front : (s : S) (xs ys : List ℕ) (n : ℕ) (f : Option (A × ℕ)) → read (xs ++ ys) ≡ f → taken (decided (effect s) f) ≡ Some n → n ≤ length xs →
-      decided (effect s) (read xs) ≡ decided (effect s) f
+  same-front : (s : S) (xs ys : List ℕ) (n : ℕ) (f : Option (A × ℕ)) → read (xs ++ ys) ≡ f → size_of_step (step_of_item (effect s) f) ≡ Some n → n ≤ length xs →
+      step_of_item (effect s) (read xs) ≡ step_of_item (effect s) f
   same-front s xs ys n None is e le = absurd cc
   same-front s xs ys n (Some f) is e le =
       let size : f.1 ≡ n = grind (arith, whole.takes s f.1 f.0) in
       let within : f.1 ≤ length xs = omega arith in
       rw (reader.front xs ys f is within) refl
 
-  some-taken : (s : S) (xs : List ℕ) (n : ℕ) (f : Option (A × ℕ)) → read xs ≡ f → taken (decided (effect s) f) ≡ Some n → 1 ≤ n
+  some-taken : (s : S) (xs : List ℕ) (n : ℕ) (f : Option (A × ℕ)) → read xs ≡ f → size_of_step (step_of_item (effect s) f) ≡ Some n → 1 ≤ n
   some-taken s xs n None is e = absurd cc
   some-taken s xs n (Some f) is e =
       let size : f.1 ≡ n = grind (arith, whole.takes s f.1 f.0) in
       omega (arith, reader.some xs f is)
 
-  nothing-decided : (s : S) → decided (effect s) (read []) ≡ Cut
+  nothing-decided : (s : S) → step_of_item (effect s) (read []) ≡ Cut
   nothing-decided s = rw reader.nothing refl
 
 -- a walk over what is read is steady
-pub items-steady : {A S O : Type 0} (read : List ℕ → Option (A × ℕ)) → IsReader read → (effect : S → ℕ → A → Step S O) → IsEffect effect → IsSteady (λ s xs. decided (effect s) (read xs))
+pub items-steady : {A S O : Type 0} (read : List ℕ → Option (A × ℕ)) → IsReader read → (effect : S → ℕ → A → Step S O) → IsEffect effect → IsSteady (λ s xs. step_of_item (effect s) (read xs))
 items-steady read reader effect whole = record {
   nothing = nothing-decided read reader effect whole;
   more = λ s xs ys n e. same-more read reader effect whole s xs ys n (read xs) refl e;
@@ -161,10 +161,10 @@ items-steady read reader effect whole = record {
 }
 
 pub frames-steady : {S O : Type 0} (id_at : List ℕ → Option (ℕ × ℕ)) → ReadsOn id_at → (effect : S → ℕ → Frame → Step S O) → IsEffect effect →
-    IsSteady (λ s xs. decided (effect s) (frame_at id_at xs))
+    IsSteady (λ s xs. step_of_item (effect s) (frame_at id_at xs))
 frames-steady id_at on effect whole = items-steady (frame_at id_at) (frame-reader id_at on) effect whole
 
 -- where nothing is read nothing is decided, and the other way round
-pub decided-cut : {A S O : Type 0} (effect : S → ℕ → A → Step S O) → IsEffect effect → (s : S) (item : Option (A × ℕ)) → decided (effect s) item ≡ Cut → item ≡ None
+pub decided-cut : {A S O : Type 0} (effect : S → ℕ → A → Step S O) → IsEffect effect → (s : S) (item : Option (A × ℕ)) → step_of_item (effect s) item ≡ Cut → item ≡ None
 decided-cut effect whole s None e = refl
-decided-cut effect whole s (Some item) e = let some : taken (decided (effect s) (Some item)) ≡ Some item.1 = whole.takes s item.1 item.0 in absurd (let none = ap (λ d. taken d) e in cc)
+decided-cut effect whole s (Some item) e = let some : size_of_step (step_of_item (effect s) (Some item)) ≡ Some item.1 = whole.takes s item.1 item.0 in absurd (let none = ap (λ d. size_of_step d) e in cc)

@@ -11,16 +11,16 @@ use Rattle.wt_proto.specs.declared.walk.Step.{Step}
 use Rattle.wt_proto.specs.declared.walk.Step.TheVariants.{Cut, Goes, Stops}
 use Rattle.wt_proto.specs.declared.cursor.Passed.{Passed}
 use Rattle.wt_proto.specs.Cursor.{passed_outcome, progress_passed}
-use Rattle.wt_proto.specs.Progress.{Progress, Reading, HasRead, Advances, AdvancesSome, progress_over, fed, fed_reading, reached, reached_at, at_item, IsProper}
+use Rattle.wt_proto.specs.Progress.{Progress, Reading, HasRead, Advances, AdvancesSome, progress_over, progress_after, fed_reading, reached_in, reached_at, at_item, IsProper}
 use Rattle.wt_proto.specs.Reading.{ReadsAlike, outcome_in}
 use Rattle.wt_proto.specs.Steady.{IsSteady}
-use Rattle.wt_proto.specs.Walk.{Reached, led, outcome_at, walked}
+use Rattle.wt_proto.specs.Walk.{Reached, step_on, outcome_at, whole_walk}
 use Rattle.wt_proto.proofs.ProgressLaws.{walk-progress, fed-append, fed-nothing}
 
 -- what stops a walk is what an item stopped it with
 module _ {S O : Type 0} (decide : S → List ℕ → Step S O) (P : O → Type 0) (all : (s : S) (bytes : List ℕ) (o : O) (n : ℕ) → decide s bytes ≡ Stops o n → P o) where
   led-stop : (s : S) (b : ℕ) (xs : List ℕ) → ((t : S) (stop : Option O) (n : ℕ) → IfSome stop P → IfSome (progress_over decide t stop n xs).stop P) → (d : Step S O) → decide s (b ∷ xs) ≡ d →
-      IfSome (led (record { state = s; stop = None; skip = 0; kept = b ∷ xs }) (λ t stop n. progress_over decide t stop (n - 1) xs) s d).stop P
+      IfSome (step_on (record { state = s; stop = None; skip = 0; kept = b ∷ xs }) (λ t stop n. progress_over decide t stop (n - 1) xs) s d).stop P
   led-stop s b xs again Cut e = tt
   led-stop s b xs again (Goes t n) e = again t None (n - 1) tt
   led-stop s b xs again (Stops o n) e = again s (Some o) (n - 1) (all s (b ∷ xs) o n e)
@@ -43,7 +43,7 @@ fed-read {S = S} {O = O} decide start steady r bytes more end has =
     ∙ ap (λ (p : Progress S O). record { progress = p; end = end }) (fed-append decide steady bytes more start None 0)
 
 module _ {S O : Type 0} (decide : S → List ℕ → Step S O) (start : S) (unfinished : StreamEnd → S → Bool → O) (outcome_of : List ℕ → StreamEnd → O)
-    (reaches : (bytes : List ℕ) (end : StreamEnd) → outcome_of bytes end ≡ outcome_at unfinished end (walked decide start bytes)) where
+    (reaches : (bytes : List ℕ) (end : StreamEnd) → outcome_of bytes end ≡ outcome_at unfinished end (whole_walk decide start bytes)) where
   -- the outcome is that of all bytes and the end
   pub read-outcome : (r : Reading S O) (bytes : List ℕ) (end : StreamEnd) → HasRead decide start r bytes end → outcome_in unfinished r ≡ outcome_of bytes end
   read-outcome r bytes end has =
@@ -57,10 +57,10 @@ module _ {S O : Type 0} (decide : S → List ℕ → Step S O) (start : S) (unfi
         let is : new ≡ fed_reading decide old (take n piece) = rw (a.taken, same) refl in
         is ∙ fed-read decide start steady old bytes (take n piece) end has
 
-    open-outcome : (k : ℕ) → k < n → outcome_of (bytes ++ take k piece) end ≡ unfinished end (reached (fed decide old.progress (take k piece))).state (reached (fed decide old.progress (take k piece))).between
+    open-outcome : (k : ℕ) → k < n → outcome_of (bytes ++ take k piece) end ≡ unfinished end (reached_in (progress_after decide old.progress (take k piece))).state (reached_in (progress_after decide old.progress (take k piece))).between
     open-outcome k lt =
         sym (read-outcome (fed_reading decide old (take k piece)) (bytes ++ take k piece) end (fed-read decide start steady old bytes (take k piece) end has))
-        ∙ (rw (a.running k lt) (ap (λ (r : Reading S O). unfinished r.end (reached (fed decide old.progress (take k piece))).state (reached (fed decide old.progress (take k piece))).between) has))
+        ∙ (rw (a.running k lt) (ap (λ (r : Reading S O). unfinished r.end (reached_in (progress_after decide old.progress (take k piece))).state (reached_in (progress_after decide old.progress (take k piece))).between) has))
 
     pub feed-running : (0 < n → final (outcome_in unfinished old) ≡ false) → (k : ℕ) → k < n → final (outcome_of (bytes ++ take k piece) end) ≡ false
     feed-running goes k lt =
@@ -83,13 +83,13 @@ between-at s stop (suc skip) kept = rw suc-false refl
 between-at s stop zero [] = refl
 between-at s stop zero (b ∷ kept) = sym (suc-false (length kept))
 
-pub between-is : {S O : Type 0} (p : Progress S O) → (reached p).between ≡ (p.skip == 0 && length p.kept == 0)
+pub between-is : {S O : Type 0} (p : Progress S O) → (reached_in p).between ≡ (p.skip == 0 && length p.kept == 0)
 between-is p = between-at p.state p.stop p.skip p.kept
 
 -- a reader that stopped has a final outcome
 module _ {S O : Type 0} (decide : S → List ℕ → Step S O) (unfinished : StreamEnd → S → Bool → O) (final : O → Bool) where
   stopped-at : (s : S) (stop : Option O) (skip : ℕ) (kept : List ℕ) (end : StreamEnd) → (0 < length kept → (skip ≡ 0) × (stop ≡ None)) → IfSome stop (λ o. final o ≡ true) →
-      (is_some stop && skip == 0) ≡ true → final (outcome_at unfinished end (reached (record { state = s; stop = stop; skip = skip; kept = kept }))) ≡ true
+      (is_some stop && skip == 0) ≡ true → final (outcome_at unfinished end (reached_in (record { state = s; stop = stop; skip = skip; kept = kept }))) ≡ true
   stopped-at s None skip kept end idle all e = absurd cc
   stopped-at s (Some o) (suc skip) kept end idle all e = absurd (suc-not skip e)
   stopped-at s (Some o) zero [] end idle all e = all
@@ -116,7 +116,7 @@ stopped-over decide s o [] = refl
 stopped-over decide s o (b ∷ more) = refl
 
 fed-over : {S O : Type 0} (decide : S → List ℕ → Step S O) (s : S) (stop : Option O) (skip : ℕ) (kept more : List ℕ) → (0 < length kept → (skip ≡ 0) × (stop ≡ None)) → skip ≡ 0 → IsSome stop →
-    fed decide (record { state = s; stop = stop; skip = skip; kept = kept }) more ≡ record { state = s; stop = stop; skip = skip; kept = kept }
+    progress_after decide (record { state = s; stop = stop; skip = skip; kept = kept }) more ≡ record { state = s; stop = stop; skip = skip; kept = kept }
 fed-over decide s None skip kept more idle none some = absurd cc
 fed-over decide s (Some o) (suc skip) kept more idle none some = absurd (omega arith)
 fed-over decide s (Some o) zero (b ∷ kept) more idle none some = let bare = (idle (omega arith)).1 in absurd cc
@@ -125,14 +125,14 @@ fed-over decide s (Some o) zero [] more idle none some = stopped-over decide s o
 -- what is final while the stream runs was stopped: more bytes change nothing
 module _ {S O : Type 0} (decide : S → List ℕ → Step S O) (final : O → Bool) (unfinished : StreamEnd → S → Bool → O) (goes_on : (s : S) (b : Bool) → final (unfinished Running s b) ≡ false) where
   stays-at : (s : S) (stop : Option O) (skip : ℕ) (kept more : List ℕ) → final (outcome_at unfinished Running (reached_at s stop skip kept)) ≡ true
-      → fed decide (record { state = s; stop = stop; skip = skip; kept = kept }) more ≡ record { state = s; stop = stop; skip = skip; kept = kept }
+      → progress_after decide (record { state = s; stop = stop; skip = skip; kept = kept }) more ≡ record { state = s; stop = stop; skip = skip; kept = kept }
   stays-at s stop (suc skip) kept more e = let no_ = goes_on s false in absurd cc
   stays-at s stop zero (b ∷ kept) more e = let no_ = goes_on s false in absurd cc
   stays-at s None zero [] more e = let no_ = goes_on s true in absurd cc
   stays-at s (Some o) zero [] more e = stopped-over decide s o more
 
-  pub stays : (r : Reading S O) (more : List ℕ) → r.end ≡ Running → final (outcome_in unfinished r) ≡ true → fed decide r.progress more ≡ r.progress
-  stays r more e f = stays-at r.progress.state r.progress.stop r.progress.skip r.progress.kept more (ap (λ (end : StreamEnd). final (outcome_at unfinished end (reached r.progress))) (sym e) ∙ f)
+  pub stays : (r : Reading S O) (more : List ℕ) → r.end ≡ Running → final (outcome_in unfinished r) ≡ true → progress_after decide r.progress more ≡ r.progress
+  stays r more e f = stays-at r.progress.state r.progress.stop r.progress.skip r.progress.kept more (ap (λ (end : StreamEnd). final (outcome_at unfinished end (reached_in r.progress))) (sym e) ∙ f)
 
 module _ {S O : Type 0} (unfinished : StreamEnd → S → Bool → O) (end : StreamEnd) (s : S) where
   kept-between : (rest taken : ℕ) (kept : List ℕ) → rest ≤ taken → length kept ≡ taken - rest → outcome_at unfinished end (reached_at {O = O} s None 0 kept) ≡ unfinished end s (rest == taken)
@@ -150,19 +150,19 @@ module _ {S O : Type 0} (unfinished : StreamEnd → S → Bool → O) (end : Str
 
 pub passed-outcome : {S O : Type 0} (decide : S → List ℕ → Step S O) (steady : IsSteady decide) (unfinished : StreamEnd → S → Bool → O) (end : StreamEnd) (start s : S) (p : Passed O) (bytes : List ℕ) →
     Advances decide (at_item start) (progress_passed s p bytes) bytes p.taken → IsProper decide (progress_passed s p bytes) → p.rest ≤ p.taken → (p.taken < length bytes → (p.skip ≡ 0) × IsSome p.stop) →
-    passed_outcome unfinished end s p ≡ outcome_at unfinished end (walked decide start bytes)
+    passed_outcome unfinished end s p ≡ outcome_at unfinished end (whole_walk decide start bytes)
 passed-outcome {S = S} {O = O} decide steady unfinished end start s p bytes a proper le all =
-    let stays : fed decide (progress_passed s p bytes) (drop p.taken bytes) ≡ progress_passed s p bytes =
+    let stays : progress_after decide (progress_passed s p bytes) (drop p.taken bytes) ≡ progress_passed s p bytes =
     elim (cases_lt p.taken (length bytes)) [
       | inl lt ↦ fed-over decide s p.stop p.skip (drop p.rest (take p.taken bytes)) (drop p.taken bytes) proper.idle (all lt).0 (all lt).1
-      | inr whole ↦ ap (λ (xs : List ℕ). fed decide (progress_passed s p bytes) xs) (drop_of_length-le bytes whole) ∙ fed-nothing decide steady (progress_passed s p bytes) proper
+      | inr whole ↦ ap (λ (xs : List ℕ). progress_after decide (progress_passed s p bytes) xs) (drop_of_length-le bytes whole) ∙ fed-nothing decide steady (progress_passed s p bytes) proper
     ] in
     let is : progress_over decide start None 0 bytes ≡ progress_passed s p bytes =
     ap (λ (xs : List ℕ). progress_over decide start None 0 xs) (sym (take-append-drop p.taken bytes))
     ∙ (sym (fed-append decide steady (take p.taken bytes) (drop p.taken bytes) start None 0)
-    ∙ (ap (λ (x : Progress S O). fed decide x (drop p.taken bytes)) (sym a.taken) ∙ stays)) in
+    ∙ (ap (λ (x : Progress S O). progress_after decide x (drop p.taken bytes)) (sym a.taken) ∙ stays)) in
     passed-by unfinished end s p.stop p.skip p.rest p.taken (drop p.rest (take p.taken bytes)) proper.idle le (omega (arith, a.within, length-drop p.rest (take p.taken bytes), length-take p.taken bytes))
-    ∙ (ap (λ (x : Progress S O). outcome_at unfinished end (reached x)) (sym is) ∙ ap (λ (r : Reached S O). outcome_at unfinished end r) (sym (walk-progress decide bytes start None 0)))
+    ∙ (ap (λ (x : Progress S O). outcome_at unfinished end (reached_in x)) (sym is) ∙ ap (λ (r : Reached S O). outcome_at unfinished end r) (sym (walk-progress decide bytes start None 0)))
 
 -- pieces one behind the other
 module _ {S O : Type 0} (start : S) (decide : S → List ℕ → Step S O) (steady : IsSteady decide) where
@@ -174,7 +174,7 @@ module _ {S O : Type 0} (start : S) (decide : S → List ℕ → Step S O) (stea
       fold-read pieces (fed_reading decide r piece) (bytes ++ piece) end more
       ∙ ap (λ (xs : List ℕ). record { progress = progress_over decide start None 0 xs; end = end }) (append_assoc bytes piece (concat pieces))
 
-  pub reads-alike : (unfinished : StreamEnd → S → Bool → O) (outcome_of : List ℕ → StreamEnd → O) → ((bytes : List ℕ) (end : StreamEnd) → outcome_of bytes end ≡ outcome_at unfinished end (walked decide start bytes)) →
+  pub reads-alike : (unfinished : StreamEnd → S → Bool → O) (outcome_of : List ℕ → StreamEnd → O) → ((bytes : List ℕ) (end : StreamEnd) → outcome_of bytes end ≡ outcome_at unfinished end (whole_walk decide start bytes)) →
       ReadsAlike start decide unfinished outcome_of
   reads-alike unfinished outcome_of reaches = record {
     same = λ r bytes end pieces others has same.

@@ -9,12 +9,12 @@ use Rattle.wt_proto.specs.declared.walk.Step.TheVariants.{Stops}
 use Rattle.wt_wire.specs.FieldSection.{headers_of}
 use Rattle.wt_wire.specs.Frames as frames
 use Rattle.wt_wire.specs.HeaderList.{Fields}
-use Rattle.wt_proto.specs.FrameSteps.{decided}
+use Rattle.wt_proto.specs.FrameSteps.{step_of_item}
 use Rattle.wt_proto.specs.ResponseWalk.{headers_response, is_response_final, parsed_response, response_decides, response_effect, response_unfinished, response_walk_of}
 use Rattle.wt_message.specs.Responses.{response_of}
 use Rattle.wt_proto.specs.Reading.{ReadsAlike}
 use Rattle.wt_proto.specs.Steady.{IsAwaited, IsLawful}
-use Rattle.wt_proto.specs.Walk.{outcome_at, walked}
+use Rattle.wt_proto.specs.Walk.{outcome_at, whole_walk}
 use Rattle.wt_proto.specs.Wanted.{frame_wants}
 use Rattle.wt_proto.proofs.ReadingLaws.{reads-alike}
 use Rattle.wt_proto.proofs.ResponseWalkLaws.{response-effect, response-steady}
@@ -24,7 +24,7 @@ response-awaited : IsAwaited response_decides (frame_wants false)
 unfolding response_decides
 response-awaited = item-awaited (frames.frame_at frames.session_id_ignored) (frame_wants false) ignored-awaited response_effect response-effect
 
-response-reaches : (bytes : List ℕ) (end : StreamEnd) → response_walk_of bytes end ≡ outcome_at response_unfinished end (walked response_decides 0 bytes)
+response-reaches : (bytes : List ℕ) (end : StreamEnd) → response_walk_of bytes end ≡ outcome_at response_unfinished end (whole_walk response_decides 0 bytes)
 unfolding response_walk_of
 response-reaches bytes end = refl
 
@@ -36,14 +36,11 @@ headers-final : (at : ℕ) (r : Result Fields ErrorCode) → is_response_final (
 headers-final at (Ok fields) = parsed-final at (response_of fields)
 headers-final at (Err fault) = refl
 
-effect-final : (at : ℕ) (f : Option (frames.Frame × ℕ)) (w : ResponseWalk) (m : ℕ) → decided (response_effect at) f ≡ Stops w m → is_response_final w ≡ true
+effect-final : (at : ℕ) (f : Option (frames.Frame × ℕ)) (w : ResponseWalk) (m : ℕ) → step_of_item (response_effect at) f ≡ Stops w m → is_response_final w ≡ true
 effect-final at None w m e = absurd cc
 effect-final at (Some (frames.Skipped kind, n)) w m e = absurd cc
 effect-final at (Some (frames.Headers payload, n)) w m e = let judged = headers-final (at + n) (headers_of payload) in cc
-effect-final at (Some (frames.TooLong, n)) w m e = cc
-effect-final at (Some (frames.Data payload, n)) w m e = cc
-effect-final at (Some (frames.Settings payload, n)) w m e = cc
-effect-final at (Some (frames.Signal id, n)) w m e = cc
+effect-final at _ w m e = cc
 
 response-final : (at : ℕ) (bytes : List ℕ) (w : ResponseWalk) (n : ℕ) → response_decides at bytes ≡ Stops w n → is_response_final w ≡ true
 unfolding response_decides

@@ -6,21 +6,17 @@ use Rattle.wt_proto.specs.declared.walk.Step.TheVariants.{Stops}
 use Rattle.wt_proto.specs.ResponseWalk.{headers_response, is_answered, response_decides, response_effect, response_unfinished, response_walk_of}
 use Rattle.wt_wire.specs.FieldSection.{headers_of}
 use Rattle.wt_wire.specs.Frames as frames
-use Rattle.wt_proto.specs.FrameSteps.{decided}
-use Rattle.wt_proto.specs.Steady.{taken, IsSteady}
+use Rattle.wt_proto.specs.FrameSteps.{step_of_item}
+use Rattle.wt_proto.specs.Steady.{size_of_step, IsSteady}
 use Rattle.wt_proto.proofs.FrameLaws.{IsEffect, frames-steady, session_id_ignored-on}
 use Rattle.wt_proto.proofs.WalkLaws.{outcome-stays}
 
 pub response-effect : IsEffect response_effect
 response-effect = record { takes = takes }
   where
-    takes : (at n : ℕ) (f : frames.Frame) → taken (response_effect at n f) ≡ Some n
+    takes : (at n : ℕ) (f : frames.Frame) → size_of_step (response_effect at n f) ≡ Some n
     takes at n (frames.Skipped kind) = refl
-    takes at n (frames.Headers payload) = refl
-    takes at n frames.TooLong = refl
-    takes at n (frames.Data payload) = refl
-    takes at n (frames.Settings payload) = refl
-    takes at n (frames.Signal id) = refl
+    takes at n _ = refl
 
 pub response-steady : IsSteady response_decides
 unfolding response_decides
@@ -32,7 +28,7 @@ pub response-headers : (at : ℕ) (bytes : List ℕ) (header size : ℕ) → Som
 unfolding response_decides
 response-headers at bytes header size e =
     let same : header + size - header ≡ size = omega arith in
-    rw same (ap (λ (f : Option (frames.Frame × ℕ)). decided (response_effect at) f) e)
+    rw same (ap (λ (f : Option (frames.Frame × ℕ)). step_of_item (response_effect at) f) e)
 
 pub response_walk_stays : (bytes more : List ℕ) (end : StreamEnd) → is_answered (response_walk_of bytes Running) ≡ true → response_walk_of (bytes ++ more) end ≡ response_walk_of bytes Running
 unfolding response_walk_of

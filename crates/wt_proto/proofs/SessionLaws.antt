@@ -4,25 +4,21 @@ use Rattle.wt_wire.specs.declared.side.StreamEnd.{StreamEnd}
 use Rattle.wt_wire.specs.declared.side.StreamEnd.TheVariants.{Running}
 use Rattle.wt_message.specs.Capsule.{close_value_at}
 use Rattle.wt_wire.specs.Frames as frames
-use Rattle.wt_proto.specs.Steady.{taken, IsSteady}
+use Rattle.wt_proto.specs.Steady.{size_of_step, IsSteady}
 use Rattle.wt_proto.specs.SessionWalk.{is_over, on_capsule, session_decides, session_effect, session_unfinished, session_walk_of}
 use Rattle.wt_proto.proofs.FrameLaws.{IsEffect, frames-steady, session_id_ignored-on}
 use Rattle.wt_proto.proofs.WalkLaws.{outcome-stays}
 
-capsule-taken : (n : ℕ) (value : Option (List ℕ)) → taken (on_capsule n value) ≡ Some n
+capsule-taken : (n : ℕ) (value : Option (List ℕ)) → size_of_step (on_capsule n value) ≡ Some n
 capsule-taken n None = refl
 capsule-taken n (Some value) = refl
 
 pub session-effect : IsEffect session_effect
 session-effect = record { takes = takes }
   where
-    takes : (s : Unit {0}) (n : ℕ) (f : frames.Frame) → taken (session_effect s n f) ≡ Some n
+    takes : (s : Unit {0}) (n : ℕ) (f : frames.Frame) → size_of_step (session_effect s n f) ≡ Some n
     takes s n (frames.Data payload) = capsule-taken n (close_value_at payload)
-    takes s n (frames.Headers payload) = refl
-    takes s n (frames.Settings payload) = refl
-    takes s n frames.TooLong = refl
-    takes s n (frames.Signal id) = refl
-    takes s n (frames.Skipped kind) = refl
+    takes s n _ = refl
 
 pub session-steady : IsSteady session_decides
 unfolding session_decides

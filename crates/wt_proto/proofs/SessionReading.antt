@@ -8,11 +8,11 @@ use Rattle.wt_proto.specs.declared.session_walk.SessionWalk.{SessionWalk}
 use Rattle.wt_proto.specs.declared.walk.Step.TheVariants.{Stops}
 use Rattle.wt_wire.specs.Frames as frames
 use Rattle.wt_message.specs.Capsule.{close_value_at, close_of}
-use Rattle.wt_proto.specs.FrameSteps.{decided}
+use Rattle.wt_proto.specs.FrameSteps.{step_of_item}
 use Rattle.wt_proto.specs.SessionWalk.{closed_by, is_over, on_capsule, session_decides, session_effect, session_unfinished, session_walk_of}
 use Rattle.wt_proto.specs.Reading.{ReadsAlike}
 use Rattle.wt_proto.specs.Steady.{IsAwaited, IsLawful}
-use Rattle.wt_proto.specs.Walk.{outcome_at, walked}
+use Rattle.wt_proto.specs.Walk.{outcome_at, whole_walk}
 use Rattle.wt_proto.specs.Wanted.{frame_wants}
 use Rattle.wt_proto.proofs.ReadingLaws.{reads-alike}
 use Rattle.wt_proto.proofs.SessionLaws.{session-effect, session-steady}
@@ -22,7 +22,7 @@ session-awaited : IsAwaited session_decides (frame_wants false)
 unfolding session_decides
 session-awaited = item-awaited (frames.frame_at frames.session_id_ignored) (frame_wants false) ignored-awaited session_effect session-effect
 
-session-reaches : (bytes : List ℕ) (end : StreamEnd) → session_walk_of bytes end ≡ outcome_at session_unfinished end (walked session_decides tt bytes)
+session-reaches : (bytes : List ℕ) (end : StreamEnd) → session_walk_of bytes end ≡ outcome_at session_unfinished end (whole_walk session_decides tt bytes)
 unfolding session_walk_of
 session-reaches bytes end = refl
 
@@ -34,14 +34,12 @@ capsule-final : (n : ℕ) (value : Option (List ℕ)) (w : SessionWalk) (m : ℕ
 capsule-final n None w m e = absurd cc
 capsule-final n (Some value) w m e = let closed = closed-final (close_of value) in cc
 
-effect-final : (s : Unit {0}) (f : Option (frames.Frame × ℕ)) (w : SessionWalk) (m : ℕ) → decided (session_effect s) f ≡ Stops w m → is_over w ≡ true
-effect-final s None w m e = absurd cc
+effect-final : (s : Unit {0}) (f : Option (frames.Frame × ℕ)) (w : SessionWalk) (m : ℕ) → step_of_item (session_effect s) f ≡ Stops w m → is_over w ≡ true
 effect-final s (Some (frames.Data payload, n)) w m e = capsule-final n (close_value_at payload) w m e
-effect-final s (Some (frames.Headers payload, n)) w m e = absurd cc
 effect-final s (Some (frames.Settings payload, n)) w m e = cc
 effect-final s (Some (frames.TooLong, n)) w m e = cc
 effect-final s (Some (frames.Signal id, n)) w m e = cc
-effect-final s (Some (frames.Skipped kind, n)) w m e = absurd cc
+effect-final s _ w m e = absurd cc
 
 session-final : (s : Unit {0}) (bytes : List ℕ) (w : SessionWalk) (n : ℕ) → session_decides s bytes ≡ Stops w n → is_over w ≡ true
 unfolding session_decides

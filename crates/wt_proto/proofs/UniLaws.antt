@@ -4,11 +4,11 @@ use Rattle.wt_wire.specs.declared.side.StreamEnd.{StreamEnd}
 use Rattle.wt_wire.specs.declared.side.StreamEnd.TheVariants.{Running}
 use Rattle.wt_proto.specs.declared.verdict.Verdict.{Verdict}
 use Rattle.wt_proto.specs.declared.walk.Step.TheVariants.{Cut, Stops}
-use Rattle.wt_proto.specs.FrameSteps.{decided}
-use Rattle.wt_proto.specs.Progress.{Progress, reached}
+use Rattle.wt_proto.specs.FrameSteps.{step_of_item}
+use Rattle.wt_proto.specs.Progress.{Progress, reached_in}
 use Rattle.wt_proto.specs.Steady.{IsSteady}
 use Rattle.wt_proto.specs.Uni.{header_by_type, is_final, or_at_stream_end, session_header_at, session_verdict, typed_header_at, uni_decides, uni_effect, uni_header_at, uni_unfinished, uni_verdict_of}
-use Rattle.wt_proto.specs.Walk.{Reached, outcome_at, walked}
+use Rattle.wt_proto.specs.Walk.{Reached, outcome_at, whole_walk}
 use Rattle.wt_proto.proofs.FrameLaws.{IsEffect, IsReader, items-steady}
 use Rattle.wt_proto.proofs.ProgressLaws.{progress-cut, progress-stopped, walk-progress}
 use Rattle.wt_proto.proofs.TypedHeaders.{Chooses, IsTyped, alone, by, goes-on, header-reader, header-within}
@@ -39,23 +39,23 @@ unfolding uni_decides
 uni-steady = items-steady uni_header_at uni-reader uni_effect uni-effect
 
 -- the verdict is that of the walk of one item
-verdict-by : (bytes : List ℕ) (end : StreamEnd) (h : Option (Verdict × ℕ)) → uni_header_at bytes ≡ h → or_at_stream_end end h ≡ outcome_at uni_unfinished end (walked uni_decides tt bytes)
+verdict-by : (bytes : List ℕ) (end : StreamEnd) (h : Option (Verdict × ℕ)) → uni_header_at bytes ≡ h → or_at_stream_end end h ≡ outcome_at uni_unfinished end (whole_walk uni_decides tt bytes)
 unfolding uni_decides
 verdict-by bytes end None e =
-    let cut : uni_decides tt bytes ≡ Cut = ap (λ (x : Option (Verdict × ℕ)). decided (uni_effect tt) x) e in
+    let cut : uni_decides tt bytes ≡ Cut = ap (λ (x : Option (Verdict × ℕ)). step_of_item (uni_effect tt) x) e in
     sym (ap (λ (r : Reached (Unit {0}) Verdict). outcome_at uni_unfinished end r) (walk-progress uni_decides bytes tt None 0)
-    ∙ ap (λ (p : Progress (Unit {0}) Verdict). outcome_at uni_unfinished end (reached p)) (progress-cut uni_decides tt bytes cut) ∙ open-cut bytes)
+    ∙ ap (λ (p : Progress (Unit {0}) Verdict). outcome_at uni_unfinished end (reached_in p)) (progress-cut uni_decides tt bytes cut) ∙ open-cut bytes)
   where
-    open-cut : (kept : List ℕ) → outcome_at uni_unfinished end (reached (record { state = tt; stop = None; skip = 0; kept = kept })) ≡ or_at_stream_end end None
+    open-cut : (kept : List ℕ) → outcome_at uni_unfinished end (reached_in (record { state = tt; stop = None; skip = 0; kept = kept })) ≡ or_at_stream_end end None
     open-cut [] = refl
     open-cut (b ∷ kept) = refl
 verdict-by bytes end (Some h) e =
-    let stops : uni_decides tt bytes ≡ Stops h.0 h.1 = ap (λ (x : Option (Verdict × ℕ)). decided (uni_effect tt) x) e in
+    let stops : uni_decides tt bytes ≡ Stops h.0 h.1 = ap (λ (x : Option (Verdict × ℕ)). step_of_item (uni_effect tt) x) e in
     sym (ap (λ (r : Reached (Unit {0}) Verdict). outcome_at uni_unfinished end r) (walk-progress uni_decides bytes tt None 0)
-    ∙ ap (λ (p : Progress (Unit {0}) Verdict). outcome_at uni_unfinished end (reached p))
+    ∙ ap (λ (p : Progress (Unit {0}) Verdict). outcome_at uni_unfinished end (reached_in p))
     (progress-stopped uni_decides uni-steady tt h.0 h.1 bytes stops (header-within session_header_at header_by_type typed_header_at header-typed bytes h e)))
 
-pub uni-reaches : (bytes : List ℕ) (end : StreamEnd) → uni_verdict_of bytes end ≡ outcome_at uni_unfinished end (walked uni_decides tt bytes)
+pub uni-reaches : (bytes : List ℕ) (end : StreamEnd) → uni_verdict_of bytes end ≡ outcome_at uni_unfinished end (whole_walk uni_decides tt bytes)
 unfolding uni_verdict_of
 uni-reaches bytes end = verdict-by bytes end (uni_header_at bytes) refl
 

@@ -5,7 +5,7 @@ use Rattle.std.proofs.lemmas.List.{length-append}
 use Rattle.wt_proto.specs.declared.verdict.Verdict.{Verdict}
 use Rattle.wt_proto.specs.declared.walk.Step.TheVariants.{Stops}
 use Rattle.wt_wire.specs.Varint.{varint_at}
-use Rattle.wt_proto.specs.FrameSteps.{decided}
+use Rattle.wt_proto.specs.FrameSteps.{step_of_item}
 use Rattle.wt_proto.specs.Reading.{ReadsAlike}
 use Rattle.wt_proto.specs.Steady.{IsAwaited, IsLawful}
 use Rattle.wt_proto.specs.Uni.{header_by_type, is_final, session_header_at, typed_header_at, uni_decides, uni_effect, uni_header_at, uni_unfinished, uni_verdict_of}
@@ -78,7 +78,7 @@ typed-final : (bytes : List ℕ) (t : Option (ℕ × ℕ)) (p : Verdict × ℕ) 
 typed-final bytes None p e = absurd cc
 typed-final bytes (Some t) p e = by_type-final t.0 t.1 (session_header_at t.1 (varint_at (drop t.1 bytes))) p e (session-header-final t.1 (varint_at (drop t.1 bytes)) p)
 
-effect-final : (h : Option (Verdict × ℕ)) (w : Verdict) (m : ℕ) → ((p : Verdict × ℕ) → h ≡ Some p → is_final p.0 ≡ true) → decided (uni_effect tt) h ≡ Stops w m → is_final w ≡ true
+effect-final : (h : Option (Verdict × ℕ)) (w : Verdict) (m : ℕ) → ((p : Verdict × ℕ) → h ≡ Some p → is_final p.0 ≡ true) → step_of_item (uni_effect tt) h ≡ Stops w m → is_final w ≡ true
 effect-final None w m final e = absurd cc
 effect-final (Some h) w m final e = let is = final h refl in cc
 

@@ -6,7 +6,7 @@ use Rattle.std.proofs.lemmas.List.{length-append, length-drop, drop-append-le}
 use Rattle.wt_proto.specs.declared.walk.Step.{Step}
 use Rattle.wt_wire.specs.Varint.{varint_at}
 use Rattle.wt_wire.specs.Frames.{Frame, frame_at, is_known_type, session_id_ignored, signal_with_id, frame_with_length, frame_with_type}
-use Rattle.wt_proto.specs.FrameSteps.{decided}
+use Rattle.wt_proto.specs.FrameSteps.{step_of_item}
 use Rattle.wt_proto.specs.Steady.{IsAwaited}
 use Rattle.wt_proto.specs.Wanted.{frame_wants, id_wants, length_wants, payload_wants, type_wants, varint_wants}
 use Rattle.wt_wire.proofs.VarintLaws.{varint_at-more, varint_at-within}
@@ -33,7 +33,7 @@ pub record AwaitsItem {A : Type 0} (read : List ℕ → Option (A × ℕ)) (want
   pub onward : (xs : List ℕ) → read xs ≡ None → length xs < wants xs
   pub few : (xs : List ℕ) → wants xs ≤ 4112
 
-pub item-awaited : {A S O : Type 0} (read : List ℕ → Option (A × ℕ)) (wants : List ℕ → ℕ) → AwaitsItem read wants → (effect : S → ℕ → A → Step S O) → IsEffect effect → IsAwaited (λ s xs. decided (effect s) (read xs)) wants
+pub item-awaited : {A S O : Type 0} (read : List ℕ → Option (A × ℕ)) (wants : List ℕ → ℕ) → AwaitsItem read wants → (effect : S → ℕ → A → Step S O) → IsEffect effect → IsAwaited (λ s xs. step_of_item (effect s) (read xs)) wants
 item-awaited read wants awaits effect whole = record {
   still = λ s xs ys lt. rw (awaits.still xs ys lt) refl;
   onward = λ s xs e. awaits.onward xs (decided-cut effect whole s (read xs) e);

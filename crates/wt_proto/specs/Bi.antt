@@ -11,12 +11,12 @@ use Rattle.wt_proto.specs.declared.walk.Step.{Step}
 use Rattle.wt_proto.specs.declared.walk.Step.TheVariants.{Goes, Stops}
 use Rattle.wt_wire.specs.FieldSection.{headers_of}
 use Rattle.wt_wire.specs.Frames as frames
-use Rattle.wt_proto.specs.FrameSteps.{decided}
+use Rattle.wt_proto.specs.FrameSteps.{step_of_item}
 use Rattle.wt_wire.specs.HeaderList.{Fields}
 use Rattle.wt_message.specs.Requests.{request_of}
 use Rattle.wt_proto.specs.Uni.{at_stream_end, session_verdict}
 use Rattle.wt_wire.specs.Varint.{varint_at}
-use Rattle.wt_proto.specs.Walk.{outcome_at, walked}
+use Rattle.wt_proto.specs.Walk.{outcome_at, whole_walk}
 
 -- a request in front of this offset, or what it is refused with
 abbrev pub parsed_verdict : ℕ → Result Fields HeadersParseError → Verdict
@@ -41,7 +41,7 @@ bi_effect at size (frames.Settings payload) = Stops (Fault FrameUnexpected) size
 
 -- what the frame at the front of a peer's bidirectional stream does
 unfoldable pub bi_decides : ℕ → List ℕ → Step ℕ Verdict
-bi_decides at bytes = decided (bi_effect at) (frames.frame_at varint_at bytes)
+bi_decides at bytes = step_of_item (bi_effect at) (frames.frame_at varint_at bytes)
 
 -- the verdict while no frame has decided it
 abbrev pub bi_unfinished : StreamEnd → ℕ → Bool → Verdict
@@ -49,4 +49,4 @@ bi_unfinished end at between = at_stream_end end
 
 -- the verdict of a peer's bidirectional stream over all its bytes and its end
 unfoldable pub bi_verdict_of : List ℕ → StreamEnd → Verdict
-bi_verdict_of bytes end = outcome_at bi_unfinished end (walked bi_decides 0 bytes)
+bi_verdict_of bytes end = outcome_at bi_unfinished end (whole_walk bi_decides 0 bytes)

@@ -5,13 +5,13 @@ use Rattle.wt_proto.specs.declared.cursor.Cursor.{Cursor}
 use Rattle.wt_wire.specs.declared.side.StreamEnd.{StreamEnd}
 use Rattle.wt_proto.specs.declared.walk.Step.{Step}
 use Rattle.wt_proto.specs.Cursor.{IsPlaced, progress_of}
-use Rattle.wt_proto.specs.Progress.{HasRead, Reading, fed_reading, reached}
+use Rattle.wt_proto.specs.Progress.{HasRead, Reading, fed_reading, reached_in}
 use Rattle.wt_proto.specs.Steady.{IsLawful}
 use Rattle.wt_proto.specs.Walk.{outcome_at}
 
 -- the outcome
 abbrev pub outcome_in : {S O : Type 0} → (StreamEnd → S → Bool → O) → Reading S O → O
-outcome_in unfinished r = outcome_at unfinished r.end (reached r.progress)
+outcome_in unfinished r = outcome_at unfinished r.end (reached_in r.progress)
 
 -- whatever the pieces are in which the same bytes come, a reader stands alike behind them, and its outcome is that of all bytes and the end
 pub record ReadsAlike {S O : Type 0} (start : S) (decide : S → List ℕ → Step S O) (unfinished : StreamEnd → S → Bool → O) (outcome_of : List ℕ → StreamEnd → O) : Type 0 where
@@ -26,4 +26,4 @@ pub record IsReading {S O : Type 0} (start : S) (decide : S → List ℕ → Ste
   pub lawful : IsLawful start decide wants unfinished final outcome_of
   pub placed : IsPlaced decide c
   pub stops : IfSome c.stop (λ o. final o ≡ true)
-  pub waiting : outcome ≡ unfinished end c.state (reached (progress_of c)).between
+  pub waiting : outcome ≡ unfinished end c.state (reached_in (progress_of c)).between

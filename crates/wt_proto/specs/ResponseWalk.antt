@@ -11,10 +11,10 @@ use Rattle.wt_proto.specs.declared.walk.Step.{Step}
 use Rattle.wt_proto.specs.declared.walk.Step.TheVariants.{Goes, Stops}
 use Rattle.wt_wire.specs.FieldSection.{headers_of}
 use Rattle.wt_wire.specs.Frames as frames
-use Rattle.wt_proto.specs.FrameSteps.{decided}
+use Rattle.wt_proto.specs.FrameSteps.{step_of_item}
 use Rattle.wt_wire.specs.HeaderList.{Fields}
 use Rattle.wt_message.specs.Responses.{response_of}
-use Rattle.wt_proto.specs.Walk.{outcome_at, walked}
+use Rattle.wt_proto.specs.Walk.{outcome_at, whole_walk}
 
 -- a response in front of this offset; fields with no status code are a malformed message
 abbrev pub parsed_response : ℕ → Result Fields BadStatus → ResponseWalk
@@ -37,7 +37,7 @@ response_effect at size (frames.Signal id) = Stops (Fault FrameUnexpected) size
 
 -- what the frame at the front of a client's session stream does before the response
 unfoldable pub response_decides : ℕ → List ℕ → Step ℕ ResponseWalk
-response_decides at bytes = decided (response_effect at) (frames.frame_at frames.session_id_ignored bytes)
+response_decides at bytes = step_of_item (response_effect at) (frames.frame_at frames.session_id_ignored bytes)
 
 -- where no response and no fault came before
 abbrev pub response_unfinished : StreamEnd → ℕ → Bool → ResponseWalk
@@ -47,7 +47,7 @@ response_unfinished (Reset code) at between = Ended
 
 -- the response on a client's session stream, or its fault, over all bytes and the end
 unfoldable pub response_walk_of : List ℕ → StreamEnd → ResponseWalk
-response_walk_of bytes end = outcome_at response_unfinished end (walked response_decides 0 bytes)
+response_walk_of bytes end = outcome_at response_unfinished end (whole_walk response_decides 0 bytes)
 
 -- an outcome that more bytes and an end don't change
 abbrev pub is_answered : ResponseWalk → Bool

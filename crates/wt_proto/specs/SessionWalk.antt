@@ -11,8 +11,8 @@ use Rattle.wt_proto.specs.declared.walk.Step.{Step}
 use Rattle.wt_proto.specs.declared.walk.Step.TheVariants.{Goes, Stops}
 use Rattle.wt_message.specs.Capsule.{close_value_at, close_of}
 use Rattle.wt_wire.specs.Frames as frames
-use Rattle.wt_proto.specs.FrameSteps.{decided}
-use Rattle.wt_proto.specs.Walk.{outcome_at, walked}
+use Rattle.wt_proto.specs.FrameSteps.{step_of_item}
+use Rattle.wt_proto.specs.Walk.{outcome_at, whole_walk}
 
 -- a capsule that closes the session, or is a fault
 abbrev pub closed_by : Result CloseWebTransportSession ErrorCode → SessionWalk
@@ -38,7 +38,7 @@ session_effect state size (frames.Skipped kind) = Goes tt size
 
 -- what the frame at the front of a session's stream does
 unfoldable pub session_decides : Unit {0} → List ℕ → Step (Unit {0}) SessionWalk
-session_decides state bytes = decided (session_effect state) (frames.frame_at frames.session_id_ignored bytes)
+session_decides state bytes = step_of_item (session_effect state) (frames.frame_at frames.session_id_ignored bytes)
 
 -- a clean end between frames closes the session with code 0 and an empty reason; every other end is a fault
 abbrev pub session_unfinished : StreamEnd → Unit {0} → Bool → SessionWalk
@@ -49,7 +49,7 @@ session_unfinished (Reset code) state between = walks.Fault ClosedCriticalStream
 
 -- how the peer ended the session, over all bytes after the request or the response and the end
 unfoldable pub session_walk_of : List ℕ → StreamEnd → SessionWalk
-session_walk_of bytes end = outcome_at session_unfinished end (walked session_decides tt bytes)
+session_walk_of bytes end = outcome_at session_unfinished end (whole_walk session_decides tt bytes)
 
 -- an outcome that more bytes and an end don't change
 abbrev pub is_over : SessionWalk → Bool

@@ -8,7 +8,7 @@ use Rattle.wt_proto.specs.declared.verdict.Verdict.TheVariants.{Incomplete, WebT
 use Rattle.wt_proto.specs.declared.walk.Step.{Step}
 use Rattle.wt_proto.specs.declared.walk.Step.TheVariants.{Stops}
 use Rattle.wt_wire.specs.Varint.{varint_at}
-use Rattle.wt_proto.specs.FrameSteps.{decided}
+use Rattle.wt_proto.specs.FrameSteps.{step_of_item}
 use Rattle.wt_message.specs.StreamTypes.{control_type, encoder_type, decoder_type, webtransport_type}
 
 -- the bytes end inside the header: more may come, or never
@@ -49,7 +49,7 @@ uni_effect state size verdict = Stops verdict size
 
 -- the walk over a unidirectional stream decides once, at its header
 unfoldable pub uni_decides : Unit {0} → List ℕ → Step (Unit {0}) Verdict
-uni_decides state bytes = decided (uni_effect state) (uni_header_at bytes)
+uni_decides state bytes = step_of_item (uni_effect state) (uni_header_at bytes)
 
 -- what the header says, or the end inside it
 abbrev pub or_at_stream_end : StreamEnd → Option (Verdict × ℕ) → Verdict

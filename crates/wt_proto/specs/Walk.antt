@@ -12,10 +12,10 @@ pub record Reached (S O : Type 0) : Type 0 where
   pub between : Bool
 
 -- a step leads on: in a state, with what the walk stops with, after so many bytes
-abbrev pub led : {S O R : Type 0} → R → (S → Option O → ℕ → R) → S → Step S O → R
-led cut go s Cut = cut
-led cut go s (Goes t n) = go t None n
-led cut go s (Stops o n) = go s (Some o) n
+abbrev pub step_on : {S O R : Type 0} → R → (S → Option O → ℕ → R) → S → Step S O → R
+step_on cut go s Cut = cut
+step_on cut go s (Goes t n) = go t None n
+step_on cut go s (Stops o n) = go s (Some o) n
 
 -- the walk over bytes of which the first so many are the rest of an item; with a stop it ends behind that item
 abbrev pub walk : {S O : Type 0} → (S → List ℕ → Step S O) → S → Option O → ℕ → List ℕ → Reached S O
@@ -24,13 +24,13 @@ walk decide s stop (suc rest) (b ∷ bytes) = walk decide s stop rest bytes
 walk decide s stop zero [] = record { state = s; stop = stop; between = true }
 walk decide s (Some o) zero (b ∷ bytes) = record { state = s; stop = Some o; between = true }
 walk decide s None zero (b ∷ bytes) =
-    led (record { state = s; stop = None; between = false })
+    step_on (record { state = s; stop = None; between = false })
     (λ t stop n. walk decide t stop (n - 1) bytes)
     s (decide s (b ∷ bytes))
 
 -- the walk over all bytes
-abbrev pub walked : {S O : Type 0} → (S → List ℕ → Step S O) → S → List ℕ → Reached S O
-walked decide s bytes = walk decide s None 0 bytes
+abbrev pub whole_walk : {S O : Type 0} → (S → List ℕ → Step S O) → S → List ℕ → Reached S O
+whole_walk decide s bytes = walk decide s None 0 bytes
 
 -- the outcome: what the walk stopped with, else what the end makes of where it stands
 abbrev pub outcome_at : {S O : Type 0} → (StreamEnd → S → Bool → O) → StreamEnd → Reached S O → O

@@ -1,6 +1,6 @@
 //! The walk over the peer's control stream.
 ghost use Rattle.std.specs.Prelude.{◌≡◌, ◌≤◌, ◌<◌, ◌^◌, ℕ, length, Ok};
-ghost use Rattle.wt_proto.specs.ControlWalk.{control_decides, control_unfinished, control_walk_of, faulted, on_settings, on_skipped};
+ghost use Rattle.wt_proto.specs.ControlWalk.{control_decides, control_unfinished, control_walk_of, control_fault, on_settings, on_skipped};
 
 use crate::cursor::walk_over;
 use crate::walk::{Step, Walk};
@@ -26,7 +26,7 @@ fn faulty(
     fault: ErrorCode,
     size: u64,
 ) -> Step<Option<Settings>, ControlWalk>
-    ensures { result ≡ faulted settings fault size }
+    ensures { result ≡ control_fault settings fault size }
 {
     let walk = ControlWalk {
         settings,

@@ -1,8 +1,8 @@
 //! How far a walk is, and how code goes over bytes.
 ghost use Rattle.std.specs.Prelude.{◌≡◌, ◌≤◌, ◌<◌, ◌==◌, ◌&&◌, ◌-◌, ℕ, [], None, length, IfOk, OnErr, OnOk, IsOk, IsSome, Some, is_some, take, true, false};
 ghost use Rattle.wt_proto.specs.Cursor.{IsPlaced, passed_outcome, progress_of, progress_passed};
-ghost use Rattle.wt_proto.specs.Progress.{Advances, AdvancesSome, IsProper, at_item, passed};
-ghost use Rattle.wt_proto.specs.Steady.{IsAwaited, IsLawful, IsSteady, taken};
+ghost use Rattle.wt_proto.specs.Progress.{Advances, AdvancesSome, IsProper, at_item, progress_past};
+ghost use Rattle.wt_proto.specs.Steady.{IsAwaited, IsLawful, IsSteady, size_of_step};
 
 use crate::walk::{Step, Walk};
 use std::alloc::Global;
@@ -182,8 +182,8 @@ fn decide_kept<W: Walk>(
     requires awaited { IsAwaited W.decides W.wants }
     requires bare { (cursor.old.stop ≡ None) × (cursor.old.skip ≡ 0) }
     requires few { cursor.old.wanted ≤ 4112 }
-    requires whole { (m : ℕ) → taken (W.decides cursor.old.state cursor.old.kept.items) ≡ Some m → length cursor.old.kept.items ≤ m }
-    ensures passed { OnOk result (progress_of cursor.new ≡ passed cursor.old.state (W.decides cursor.old.state cursor.old.kept.items) (length cursor.old.kept.items) cursor.old.kept.items) }
+    requires whole { (m : ℕ) → size_of_step (W.decides cursor.old.state cursor.old.kept.items) ≡ Some m → length cursor.old.kept.items ≤ m }
+    ensures passed { OnOk result (progress_of cursor.new ≡ progress_past cursor.old.state (W.decides cursor.old.state cursor.old.kept.items) (length cursor.old.kept.items) cursor.old.kept.items) }
     ensures placed { OnOk result (IsPlaced W.decides cursor.new) }
     ensures lost { OnErr result (cursor.new ≡ record cursor.old { kept = cursor.new.kept }) }
     ensures back { OnErr result (cursor.new.kept.items ≡ take had cursor.old.kept.items) }

@@ -18,7 +18,7 @@ use Rattle.wt_reached.proofs.Ends.{IsSession, Mild, mild-pending}
 use Rattle.wt_reached.proofs.Handshaking.{control-unfinished, control-unreset, established-sends, reached-holds}
 use Rattle.wt_reached.proofs.There.{session-receives}
 use Rattle.wt_reached.specs.Driving.{KeepsOwnStreams}
-use Rattle.wt_spec.specs.Driver.{ControlSent, apply_if, close_actions, control_actions, control_sent, established, flush, is_moment, opened_if, pending_actions, session_id, stop_actions, stream_table}
+use Rattle.wt_spec.specs.Driver.{ControlSent, apply_if, close_actions, control_actions, control_sent, established_session, flush, is_moment, opened_if, pending_actions, session_id, stop_actions, stream_table}
 use Rattle.wt_spec.specs.StreamTable.{ByFault, BySession, Ending, Stopped}
 
 pub driver-facts : (side : Side) (log : Log) → IsReachable side log → KeepsOwnStreams side log
@@ -115,9 +115,9 @@ opens-pending : (side : Side) (log : Log) → OpensControl side (pending_actions
 opens-pending side log =
     let a = control_actions (nat_lt 0 (unis_allowed (events_of log))) (local_uni side) (credit (events_of log) (local_uni side)) (control_sent side log) in
     let b = stop_actions (stream_table side log).progress.stops in
-    opens-both side (a ++ b) (close_actions (session_id (established (calls_of log))) (stream_table side log).progress.ending)
+    opens-both side (a ++ b) (close_actions (session_id (established_session (calls_of log))) (stream_table side log).progress.ending)
     (opens-both side a b (opens-control side (nat_lt 0 (unis_allowed (events_of log))) (credit (events_of log) (local_uni side)) (control_sent side log)) (opens-stops side (stream_table side log).progress.stops))
-    (opens-close side (session_id (established (calls_of log))) (stream_table side log).progress.ending)
+    (opens-close side (session_id (established_session (calls_of log))) (stream_table side log).progress.ending)
 
 half-before : (side : Side) (a : Action) (log : Log) (k kind : ℕ) → opens (k % 4) a ≡ false → (exists side (Sent a ∷ log) k && not (kind == k % 4)) ≡ true → (exists side log k && not (kind == k % 4)) ≡ true
 half-before side a log k kind o c =
@@ -136,7 +136,7 @@ facts-before side (a ∷ as_) log o h =
       session_receives = λ s e. half-before side a log s.0 (local_uni side) (unopened g s e) (g.session_receives s e);
     }
   where
-    unopened : KeepsOwnStreams side (Sent a ∷ log) → (s : ℕ × ℕ) → established (calls_of log) ≡ Some s → opens (s.0 % 4) a ≡ false
+    unopened : KeepsOwnStreams side (Sent a ∷ log) → (s : ℕ × ℕ) → established_session (calls_of log) ≡ Some s → opens (s.0 % 4) a ≡ false
     unopened g s e = o.0 (s.0 % 4) (not-true _ (and_parts (exists side (Sent a ∷ log) s.0) (not (local_uni side == s.0 % 4)) (g.session_receives s e)).1)
 
 pub facts-unflushed : (side : Side) (log : Log) → KeepsOwnStreams side (flush side log) → KeepsOwnStreams side log

@@ -22,8 +22,8 @@ use Rattle.wt_laws.proofs.Steps.{Keeps, of-record}
 use Rattle.wt_laws.specs.Causes.{ActionCause, FinishCause, OfCall, OfRejection, OwnCauses}
 use Rattle.wt_laws.specs.Reachable.{IsReachable}
 use Rattle.wt_laws.specs.RecordCauses.{RecordCause}
-use Rattle.wt_reached.proofs.Fair.{EndsFairly, ends-fairly}
-use Rattle.wt_spec.specs.Driver.{ControlSent, apply_if, close_actions, control_actions, control_sent, delivers, established, flush, is_moment, log_and_flush, opened_if, pending_actions, session_id, stop_actions, stream_table}
+use Rattle.wt_driver_spec.proofs.Fair.{EndsFairly, ends-fairly}
+use Rattle.wt_spec.specs.Driver.{ControlSent, apply_if, close_actions, control_actions, control_sent, delivers, established_session, flush, is_moment, log_and_flush, opened_if, pending_actions, session_id, stop_actions, stream_table}
 use Rattle.wt_spec.specs.Halves.{is_accepted}
 use Rattle.wt_spec.specs.StreamTable.{ByFault, BySession, Ending, Stopped}
 use Rattle.wt_turn.specs.declared.action.Action.TheVariants as actions
@@ -31,7 +31,7 @@ use Rattle.wt_spec.specs.Connection.{accepts_stream}
 
 -- the established session is of this stream
 abbrev pub IsSession : List CallRecord → ℕ → Type 0
-IsSession cs k = (s : ℕ × ℕ) × (established cs ≡ Some s) × (s.0 ≡ k)
+IsSession cs k = (s : ℕ × ℕ) × (established_session cs ≡ Some s) × (s.0 ≡ k)
 
 pub record Ends (side : Side) (log : Log) : Type 0 where
   pub given : Given side log
@@ -65,7 +65,7 @@ mild-stops : (cs : List CallRecord) (xs : List Stopped) → Mild cs (stop_action
 mild-stops cs [] = tt
 mild-stops cs (x ∷ xs) = (((λ k. refl), (λ k e. absurd (cc))), mild-stops cs xs)
 
-mild-close : (cs : List CallRecord) (o : Option (ℕ × ℕ)) (e : Option Ending) → established cs ≡ o → EndsFairly o e → Mild cs (close_actions (session_id o) e)
+mild-close : (cs : List CallRecord) (o : Option (ℕ × ℕ)) (e : Option Ending) → established_session cs ≡ o → EndsFairly o e → Mild cs (close_actions (session_id o) e)
 mild-close cs o None i f = tt
 mild-close cs o (Some (ByFault code)) i f = (((λ k. refl), (λ k e. absurd (cc))), tt)
 mild-close cs o (Some (BySession code reason false)) i f = (((λ k. refl), (λ k e. absurd (cc))), tt)
@@ -77,9 +77,9 @@ mild-pending side log =
     let cs = calls_of log in
     let a = control_actions (nat_lt 0 (unis_allowed (events_of log))) (local_uni side) (credit (events_of log) (local_uni side)) (control_sent side log) in
     let b = stop_actions (stream_table side log).progress.stops in
-    mild-both cs (a ++ b) (close_actions (session_id (established cs)) (stream_table side log).progress.ending)
+    mild-both cs (a ++ b) (close_actions (session_id (established_session cs)) (stream_table side log).progress.ending)
     (mild-both cs a b (mild-control cs (nat_lt 0 (unis_allowed (events_of log))) (local_uni side) (credit (events_of log) (local_uni side)) (control_sent side log)) (mild-stops cs (stream_table side log).progress.stops))
-    (mild-close cs (established cs) (stream_table side log).progress.ending refl (ends-fairly side log))
+    (mild-close cs (established_session cs) (stream_table side log).progress.ending refl (ends-fairly side log))
 
 module _ (side : Side) (turn : Turn) where
   ends-driver : (as_ : List Action) (log : Log) → Mild (calls_of log) as_ → Ends side log → Ends side (with_actions as_ log)

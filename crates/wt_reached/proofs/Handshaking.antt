@@ -18,10 +18,10 @@ use Rattle.wt_reached.proofs.Ends.{Ends, IsSession, ends-hold}
 use Rattle.wt_reached.proofs.There.{control-not-given, is-local-bi, is-local-uni, not-request, opening-sends, request-not-accepted, request-sends, session-not-control, session-not-opening, session-sends}
 use Rattle.wt_spec.specs.Answers.{is_client}
 use Rattle.wt_spec.specs.Connection.{ends_opening, is_opening, starts_opening}
-use Rattle.wt_spec.specs.Driver.{delivers, established}
+use Rattle.wt_spec.specs.Driver.{delivers, established_session}
 use Rattle.wt_spec.specs.Effect.{head_left}
 use Rattle.wt_spec.specs.Halves.{is_accepted}
-use Rattle.wt_spec.specs.Handshake.{Connecting, HandshakeState, Requested, Responding, awaits_answer, handshake_state, requested}
+use Rattle.wt_spec.specs.Handshake.{Connecting, HandshakeState, Requested, Responding, awaits_answer, handshake_state, requested_stream}
 
 -- what holds of a log that lawful turns lead to
 pub record Reached (side : Side) (log : Log) : Type 0 where
@@ -72,7 +72,7 @@ module _ (side : Side) (log : Log) (h : Reached side log) where
       at (inl a) = control-not-given side log h.out.heads a
       at (inr s) = session-not-control side h.frame log h.out s
 
-  pub established-sends : (s : ℕ × ℕ) → established (calls_of log) ≡ Some s → can_send side log s.0 ≡ true
+  pub established-sends : (s : ℕ × ℕ) → established_session (calls_of log) ≡ Some s → can_send side log s.0 ≡ true
   established-sends s e = session-sends side h.frame log h.out s.0 (s, e, refl)
 
   -- ---- the handshake
@@ -87,15 +87,15 @@ module _ (side : Side) (log : Log) (h : Reached side log) where
 
   module _ (q : has_request (handshake_state (calls_of log)) ≡ true) where
     abbrev id : ℕ
-    id = requested (calls_of log)
+    id = requested_stream (calls_of log)
 
     was-delivered : list_any (delivers id) (calls_of log) ≡ true
     was-delivered = h.out.heads.given.handshakes.has_one q
 
-    pub request-there : can_send side log (requested (calls_of log)) ≡ true
+    pub request-there : can_send side log (requested_stream (calls_of log)) ≡ true
     request-there = request-sends side log h.out.heads id was-delivered
 
-    pub request-unreset : is_reset log (requested (calls_of log)) ≡ false
+    pub request-unreset : is_reset log (requested_stream (calls_of log)) ≡ false
     request-unreset = not-true-so (is_reset log id) (λ f. at (h.ends.reset id f))
       where
         at : (is_accepted log id ≡ true) ⊎ IsSession (calls_of log) id → ⊥
@@ -128,23 +128,23 @@ module _ (side : Side) (log : Log) (h : Reached side log) where
     no-frame : h.frame ≡ None
     no-frame = h.unanswered (h.out.asked asks) (ap is_unanswered i ∙ unanswered-so.1)
 
-    pub asked-unfinished : is_finished (actions_of log) (requested (calls_of log)) ≡ false
-    asked-unfinished = not-true-so (is_finished (actions_of log) (requested (calls_of log))) (λ f. absurd (let x = request-frame asks f in let y = no-frame in cc))
+    pub asked-unfinished : is_finished (actions_of log) (requested_stream (calls_of log)) ≡ false
+    asked-unfinished = not-true-so (is_finished (actions_of log) (requested_stream (calls_of log))) (λ f. absurd (let x = request-frame asks f in let y = no-frame in cc))
 
-    pub asked-left : (head : List ℕ) → head_left log (requested (calls_of log)) head ≡ head
+    pub asked-left : (head : List ℕ) → head_left log (requested_stream (calls_of log)) head ≡ head
     asked-left head =
         let b = request-begun asks in
         ap (λ (xs : List ℕ). drop (length xs) head) (b.1 ∙ ap (λ (o : Option (List ℕ)). take b.0 (unwrap_or o [])) no-frame ∙ none-of b.0)
 
   -- once finished, all of the response is out
-  pub responding-unfinished : (accepts : Bool) (head : List ℕ) → handshake_state (calls_of log) ≡ Responding accepts head → (head_left log (requested (calls_of log)) head ≡ [] → ⊥) → is_finished (actions_of log) (requested (calls_of log)) ≡ false
-  responding-unfinished accepts head e n = not-true-so (is_finished (actions_of log) (requested (calls_of log))) (λ f. n (left (request-frame (ap has_request e) f)))
+  pub responding-unfinished : (accepts : Bool) (head : List ℕ) → handshake_state (calls_of log) ≡ Responding accepts head → (head_left log (requested_stream (calls_of log)) head ≡ [] → ⊥) → is_finished (actions_of log) (requested_stream (calls_of log)) ≡ false
+  responding-unfinished accepts head e n = not-true-so (is_finished (actions_of log) (requested_stream (calls_of log))) (λ f. n (left (request-frame (ap has_request e) f)))
     where
-      left : h.frame ≡ Some (sent_on (actions_of log) (requested (calls_of log))) → head_left log (requested (calls_of log)) head ≡ []
+      left : h.frame ≡ Some (sent_on (actions_of log) (requested_stream (calls_of log))) → head_left log (requested_stream (calls_of log)) head ≡ []
       left x =
           let y = h.out.responding accepts head e in
-          let same : head ≡ sent_on (actions_of log) (requested (calls_of log)) = cc in
-          ap (λ (xs : List ℕ). drop (length (sent_on (actions_of log) (requested (calls_of log)))) xs) same ∙ drop_all (length (sent_on (actions_of log) (requested (calls_of log)))) (sent_on (actions_of log) (requested (calls_of log))) (omega arith)
+          let same : head ≡ sent_on (actions_of log) (requested_stream (calls_of log)) = cc in
+          ap (λ (xs : List ℕ). drop (length (sent_on (actions_of log) (requested_stream (calls_of log)))) xs) same ∙ drop_all (length (sent_on (actions_of log) (requested_stream (calls_of log)))) (sent_on (actions_of log) (requested_stream (calls_of log))) (omega arith)
 
   -- ---- a connect
 

@@ -1,4 +1,3 @@
-pub mod Fair
 pub mod Ends
 pub mod There
 pub mod Handshaking

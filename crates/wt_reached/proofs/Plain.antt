@@ -20,7 +20,7 @@ use Rattle.wt_session_spec.specs.Plan.{Establish, Plan, Step, perform}
 use Rattle.wt_session_spec.specs.Plans.{plan_of}
 use Rattle.wt_session_spec.specs.SessionState.{session_state}
 use Rattle.wt_spec.specs.Answers.{is_lawful, log_after}
-use Rattle.wt_spec.specs.Driver.{established}
+use Rattle.wt_spec.specs.Driver.{established_session}
 use Rattle.wt_spec.specs.Effect.{Effect, log_call}
 
 -- ---- one entry more
@@ -40,7 +40,7 @@ record-leaves side (ResetUnsent id code) p = not-true _ p
 record-leaves side (SessionEstablished id at) p = refl
 record-leaves side _ p = refl
 
-same-established : (side : Side) (r : CallRecord) (cs : List CallRecord) → leaves_driver side (Called r) ≡ true → established (r ∷ cs) ≡ established cs
+same-established : (side : Side) (r : CallRecord) (cs : List CallRecord) → leaves_driver side (Called r) ≡ true → established_session (r ∷ cs) ≡ established_session cs
 same-established side (SessionEstablished id at) cs p = absurd (cc)
 same-established side (ResetUnsent id code) cs p = refl
 same-established side _ cs p = refl

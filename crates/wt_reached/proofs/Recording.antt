@@ -44,8 +44,8 @@ use Rattle.wt_spec.specs.Answers.{is_client}
 use Rattle.wt_spec.specs.Connection.{ends_opening, starts_opening}
 use Rattle.wt_spec.specs.Driver.{ControlSent, call_view, control_actions, control_sent, delivers, opened_if, settings_came, stream_table}
 use Rattle.wt_spec.specs.Halves.{is_accepted}
-use Rattle.wt_spec.specs.Handshake.{Connecting, HandshakeState, Requested, Responding, handshake_state, request_end, requested}
-use Rattle.wt_spec.specs.StreamTable.{Classified, StreamTable, awaits_delivery, dispatched, is_request, is_webtransport, only, verdict_of}
+use Rattle.wt_spec.specs.Handshake.{Connecting, HandshakeState, Requested, Responding, handshake_state, request_end, requested_stream}
+use Rattle.wt_spec.specs.StreamTable.{Classified, StreamTable, awaits_delivery, dispatched_streams, is_request, is_webtransport, only, verdict_of}
 use Rattle.wt_proto.specs.declared.verdict.Verdict.TheVariants as verdicts
 
 -- ---- a stream is classified once
@@ -113,7 +113,7 @@ delivers-queued side log k c = at (settings_came side log) c.first
           queued = (and_parts (not (list_any (delivers c.queued.id) (calls_of log))) _ p.1).1;
         }
 
-    at : (b : Bool) → (if b then (dispatched (call_view log) (stream_table side log).classified).requests else []) ≡ c.queued ∷ c.later → IsQueued side log k
+    at : (b : Bool) → (if b then (dispatched_streams (call_view log) (stream_table side log).classified).requests else []) ≡ c.queued ∷ c.later → IsQueued side log k
     at true e = picks e
     at false e = absurd (cc)
 
@@ -298,7 +298,7 @@ module _ (side : Side) (log : Log) (r : IsReachable side log) where
       let q = answering-request (handshake_state (calls_of log)) a in
       record {
         server = is-server side (holds.out.asked q);
-        queued = queued-end side log (requested (calls_of log)) (so-far.queued (requested (calls_of log)) (holds.out.heads.given.handshakes.has_one q));
+        queued = queued-end side log (requested_stream (calls_of log)) (so-far.queued (requested_stream (calls_of log)) (holds.out.heads.given.handshakes.has_one q));
       }
 
   connects : (reserved : Option (List ℕ)) (head : List ℕ) → handshake_state (calls_of log) ≡ Connecting reserved head → Connects side log

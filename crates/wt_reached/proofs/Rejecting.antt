@@ -6,7 +6,7 @@ use Rattle.std.proofs.lemmas.List.{append-nil}
 use Rattle.std.specs.List.{list_any}
 use Rattle.wt_message.specs.FixedBytes.{response_bytes}
 use Rattle.wt_seam_spec.specs.Joined.{send_of}
-use Rattle.wt_seam_spec.specs.Outgoing.{covered}
+use Rattle.wt_seam_spec.specs.Outgoing.{bytes_within_credit}
 use Rattle.wt_seam_spec.specs.Reports.{is_acknowledged, stop_of}
 use Rattle.wt_seam_spec.specs.Sent.{finishes, is_finished, sent_on}
 use Rattle.wt_seam_spec.specs.Streams.{local_uni}
@@ -24,7 +24,7 @@ use Rattle.wt_laws.proofs.SessionLaws.{has_request}
 use Rattle.wt_laws.proofs.Sends.{piece_on, sends_of, with-piece}
 use Rattle.wt_laws.proofs.SessionStream.{not-true-so}
 use Rattle.wt_laws.proofs.Steps.{Keeps, KeepsEntries, by-entries, calls-logged, of-record}
-use Rattle.wt_laws.specs.Causes.{ActionCause, ByAcceptance, ByRejection, FromBefore, OfHeader, OfRequest, OfResponse, OfWrite, OwnCauses, ResponseFrom, SendCause, frame_of}
+use Rattle.wt_laws.specs.Causes.{ActionCause, ByAcceptance, ByRejection, FromBefore, OfHeader, OfRequest, OfResponse, OfWrite, OwnCauses, ResponseFrom, SendCause, head_frame_of}
 use Rattle.wt_laws.specs.Reachable.{AfterTurn, AtStart, IsReachable}
 use Rattle.wt_laws.specs.RecordCauses.{RecordCause}
 use Rattle.wt_reached.proofs.Ends.{Ends, ends-action, ends-hold, ends-own, ends-record, keeps-ends}
@@ -33,9 +33,9 @@ use Rattle.wt_reached.proofs.There.{is-local-uni}
 use Rattle.wt_spec.specs.Answers.{call_effect, is_client, is_lawful, log_after, may_respond}
 use Rattle.wt_spec.specs.Connection.{starts_opening}
 use Rattle.wt_spec.specs.Driver.{apply_if, delivers, flush, is_moment, log_and_flush, pending_actions, stream_table}
-use Rattle.wt_spec.specs.Effect.{Effect, closing, head_left, is_covered, is_empty, log_call}
+use Rattle.wt_spec.specs.Effect.{Effect, close_when_open, head_left, is_covered, is_empty, log_call}
 use Rattle.wt_spec.specs.Halves.{is_accepted}
-use Rattle.wt_spec.specs.Handshake.{HandshakeState, Requested, Responding, accept_response, awaits_answer, continue_by, finish_rejection, handshake_state, is_refused, reject_response, request_end, requested, respond, response_head, start_response}
+use Rattle.wt_spec.specs.Handshake.{HandshakeState, Requested, Responding, accept_response, awaits_answer, continue_by, finish_rejection, handshake_state, is_refused, reject_response, request_end, requested_stream, respond, response_head, start_response}
 use Rattle.wt_spec.specs.StreamTable.{verdict_of}
 use Rattle.wt_turn.specs.declared.action.Action.TheVariants as actions
 use Rattle.wt_turn.specs.declared.call.Call.TheVariants as calls
@@ -44,7 +44,7 @@ use Rattle.wt_wire.specs.declared.error.ErrorCode.TheVariants as h3
 
 -- a rejection whose response is out is finished
 abbrev pub RejectsWhole : Log → Type 0
-RejectsWhole log = (head : List ℕ) → handshake_state (calls_of log) ≡ Responding false head → head_left log (requested (calls_of log)) head ≡ [] → is_finished (actions_of log) (requested (calls_of log)) ≡ true
+RejectsWhole log = (head : List ℕ) → handshake_state (calls_of log) ≡ Responding false head → head_left log (requested_stream (calls_of log)) head ≡ [] → is_finished (actions_of log) (requested_stream (calls_of log)) ≡ true
 
 abbrev is_responding : HandshakeState → Bool
 is_responding (Responding accepts head) = true
@@ -66,22 +66,22 @@ none-both (x ∷ xs) ys e = absurd (cc)
 same-sent : (log : Log) (k : ℕ) (a : Action) → piece_on k a ≡ [] → sent_on (actions_of (Sent a ∷ log)) k ≡ sent_on (actions_of log) k
 same-sent log k a e = with-piece k a (sent_on (actions_of log) k) ∙ ap (λ ys. sent_on (actions_of log) k ++ ys) e ∙ append-nil (sent_on (actions_of log) k)
 
-whole-action : (log : Log) (a : Action) → (has_request (handshake_state (calls_of log)) ≡ true → piece_on (requested (calls_of log)) a ≡ []) → RejectsWhole log → RejectsWhole (Sent a ∷ log)
-whole-action log a q w = λ head e l. or_right (finishes (requested (calls_of log)) a) (is_finished (actions_of log) (requested (calls_of log)))
-    (w head e (ap (λ (xs : List ℕ). drop (length xs) head) (sym (same-sent log (requested (calls_of log)) a (q (ap has_request e)))) ∙ l))
+whole-action : (log : Log) (a : Action) → (has_request (handshake_state (calls_of log)) ≡ true → piece_on (requested_stream (calls_of log)) a ≡ []) → RejectsWhole log → RejectsWhole (Sent a ∷ log)
+whole-action log a q w = λ head e l. or_right (finishes (requested_stream (calls_of log)) a) (is_finished (actions_of log) (requested_stream (calls_of log)))
+    (w head e (ap (λ (xs : List ℕ). drop (length xs) head) (sym (same-sent log (requested_stream (calls_of log)) a (q (ap has_request e)))) ∙ l))
 
-whole-actions : (as_ : List Action) (log : Log) → (has_request (handshake_state (calls_of log)) ≡ true → sends_of (requested (calls_of log)) as_ ≡ []) → RejectsWhole log → RejectsWhole (with_actions as_ log)
+whole-actions : (as_ : List Action) (log : Log) → (has_request (handshake_state (calls_of log)) ≡ true → sends_of (requested_stream (calls_of log)) as_ ≡ []) → RejectsWhole log → RejectsWhole (with_actions as_ log)
 whole-actions [] log q w = w
 whole-actions (a ∷ as_) log q w =
-    whole-actions as_ (Sent a ∷ log) (λ x. (none-both (piece_on (requested (calls_of log)) a) (sends_of (requested (calls_of log)) as_) (q x)).1)
-    (whole-action log a (λ x. (none-both (piece_on (requested (calls_of log)) a) (sends_of (requested (calls_of log)) as_) (q x)).0) w)
+    whole-actions as_ (Sent a ∷ log) (λ x. (none-both (piece_on (requested_stream (calls_of log)) a) (sends_of (requested_stream (calls_of log)) as_) (q x)).1)
+    (whole-action log a (λ x. (none-both (piece_on (requested_stream (calls_of log)) a) (sends_of (requested_stream (calls_of log)) as_) (q x)).0) w)
 
-whole-flush : (side : Side) (e : Entry) (log : Log) → (has_request (handshake_state (calls_of (e ∷ log))) ≡ true → (local_uni side == requested (calls_of (e ∷ log))) ≡ false) → RejectsWhole (e ∷ log) → RejectsWhole (log_and_flush side log e)
+whole-flush : (side : Side) (e : Entry) (log : Log) → (has_request (handshake_state (calls_of (e ∷ log))) ≡ true → (local_uni side == requested_stream (calls_of (e ∷ log))) ≡ false) → RejectsWhole (e ∷ log) → RejectsWhole (log_and_flush side log e)
 unfolding flush
 whole-flush side e log n w = at (is_moment e && is_open (e ∷ log))
   where
     at : (b : Bool) → RejectsWhole (apply_if b (with_actions (pending_actions side (e ∷ log))) (e ∷ log))
-    at true = whole-actions (pending_actions side (e ∷ log)) (e ∷ log) (λ x. pending-other side (e ∷ log) (requested (calls_of (e ∷ log))) (n x)) w
+    at true = whole-actions (pending_actions side (e ∷ log)) (e ∷ log) (λ x. pending-other side (e ∷ log) (requested_stream (calls_of (e ∷ log))) (n x)) w
     at false = w
 
 -- ---- a request's stream
@@ -97,19 +97,19 @@ module _ (side : Side) (log : Log) (g : Given side log) where
       at (inl l) = request-not-local k l d
       at (inr s) = absurd (let w = (g.handshakes.delivered k d).verdict in let v = s.verdict in cc)
 
-  not-control : has_request (handshake_state (calls_of log)) ≡ true → (local_uni side == requested (calls_of log)) ≡ false
-  not-control q = not-true-so (local_uni side == requested (calls_of log)) (λ e. request-not-local (requested (calls_of log)) (subst (λ (j : ℕ). is_local side j ≡ true) (eqb-true (local_uni side) (requested (calls_of log)) e) (is-local-uni side)) (g.handshakes.has_one q))
+  not-control : has_request (handshake_state (calls_of log)) ≡ true → (local_uni side == requested_stream (calls_of log)) ≡ false
+  not-control q = not-true-so (local_uni side == requested_stream (calls_of log)) (λ e. request-not-local (requested_stream (calls_of log)) (subst (λ (j : ℕ). is_local side j ≡ true) (eqb-true (local_uni side) (requested_stream (calls_of log)) e) (is-local-uni side)) (g.handshakes.has_one q))
 
 -- ---- turns that answer no request
 
 module _ (side : Side) (turn : Turn) (never : (cs : List CallRecord) (accepts : Bool) (head : List ℕ) → ResponseFrom turn cs accepts head → ⊥) where
-  quiet-action : (log : Log) (a : Action) → Given side log → ActionCause side turn log a → has_request (handshake_state (calls_of log)) ≡ true → piece_on (requested (calls_of log)) a ≡ []
-  quiet-action log (actions.Send id piece) g c q = at (id == requested (calls_of log)) refl c.1
+  quiet-action : (log : Log) (a : Action) → Given side log → ActionCause side turn log a → has_request (handshake_state (calls_of log)) ≡ true → piece_on (requested_stream (calls_of log)) a ≡ []
+  quiet-action log (actions.Send id piece) g c q = at (id == requested_stream (calls_of log)) refl c.1
     where
-      at : (b : Bool) → (id == requested (calls_of log)) ≡ b → SendCause side turn log id piece → (if b then piece else []) ≡ []
+      at : (b : Bool) → (id == requested_stream (calls_of log)) ≡ b → SendCause side turn log id piece → (if b then piece else []) ≡ []
       at false e x = refl
-      at true e (OfWrite bytes b w m p) = absurd (request-not-given side log g (requested (calls_of log)) (g.handshakes.has_one q) (subst (λ (j : ℕ). is_accepted log j ≡ true) (eqb-true id (requested (calls_of log)) e) (and_parts (is_accepted log id) _ w).0))
-      at true e (OfHeader session t z d o p) = absurd (request-not-local side log g (requested (calls_of log)) (subst (λ (j : ℕ). is_local side j ≡ true) (eqb-true id (requested (calls_of log)) e) (g.facts_hold.openings id (and_parts (list_any (starts_opening id) (calls_of log)) _ o).0)) (g.handshakes.has_one q))
+      at true e (OfWrite bytes b w m p) = absurd (request-not-given side log g (requested_stream (calls_of log)) (g.handshakes.has_one q) (subst (λ (j : ℕ). is_accepted log j ≡ true) (eqb-true id (requested_stream (calls_of log)) e) (and_parts (is_accepted log id) _ w).0))
+      at true e (OfHeader session t z d o p) = absurd (request-not-local side log g (requested_stream (calls_of log)) (subst (λ (j : ℕ). is_local side j ≡ true) (eqb-true id (requested_stream (calls_of log)) e) (g.facts_hold.openings id (and_parts (list_any (starts_opening id) (calls_of log)) _ o).0)) (g.handshakes.has_one q))
       at true e (OfResponse accepts head f r p) = absurd (never (calls_of log) accepts head f)
       at true e (OfRequest head t s r z p) = absurd (let x = ap has_request s in cc)
   quiet-action log _ g c q = refl
@@ -215,40 +215,40 @@ module _ (side : Side) (log : Log) where
   whole-accept id left waiting n =
       let s = SessionEstablished id (request_end (verdict_of id (stream_table side log).classified)) in
       whole-if (not (is_open log)) _ _ (λ x. whole-leaf [] HandshakeOver refl) (λ x.
-      whole-if (is_refused log id left) _ _ (λ y. whole-leaf (closing log (code_of h3.ClosedCriticalStream)) HandshakeOver refl) (λ y.
+      whole-if (is_refused log id left) _ _ (λ y. whole-leaf (close_when_open log (code_of h3.ClosedCriticalStream)) HandshakeOver refl) (λ y.
       whole-if (is_covered log id left) _ _
       (λ z. not-rejecting (log_call side (log_call side log (send_of id left) s) [] Polled) (plain-leaf (log_call side log (send_of id left) s) [] Polled (plain-leaf log (send_of id left) s refl)))
-      (λ z. whole-leaf (send_of id (covered log id left)) waiting n)))
+      (λ z. whole-leaf (send_of id (bytes_within_credit log id left)) waiting n)))
 
-  module _ (head : List ℕ) (waiting : CallRecord) (same : requested (waiting ∷ calls_of log) ≡ requested (calls_of log)) (state : handshake_state (waiting ∷ calls_of log) ≡ Responding false head) (other : (local_uni side == requested (calls_of log)) ≡ false) where
+  module _ (head : List ℕ) (waiting : CallRecord) (same : requested_stream (waiting ∷ calls_of log) ≡ requested_stream (calls_of log)) (state : handshake_state (waiting ∷ calls_of log) ≡ Responding false head) (other : (local_uni side == requested_stream (calls_of log)) ≡ false) where
     abbrev id : ℕ
-    id = requested (calls_of log)
+    id = requested_stream (calls_of log)
 
     abbrev left : List ℕ
     left = head_left log id head
 
-    then-requested : (own : List Action) → requested (calls_of (log_call side log own waiting)) ≡ id
-    then-requested own = ap requested (calls-logged side log own waiting) ∙ same
+    then-requested : (own : List Action) → requested_stream (calls_of (log_call side log own waiting)) ≡ id
+    then-requested own = ap requested_stream (calls-logged side log own waiting) ∙ same
 
     -- the half is finished then
     finished-leaf : (own : List Action) → is_finished (actions_of (with_actions own log)) id ≡ true → RejectsWhole (log_call side log own waiting)
     finished-leaf own f = λ h e l. subst (λ (j : ℕ). is_finished (actions_of (log_call side log own waiting)) j ≡ true) (sym (then-requested own)) (finished-flush side id (Called waiting) (with_actions own log) f)
 
     -- some of the response is left
-    unfinished-leaf : is_covered log id left ≡ false → RejectsWhole (log_call side log (send_of id (covered log id left)) waiting)
+    unfinished-leaf : is_covered log id left ≡ false → RejectsWhole (log_call side log (send_of id (bytes_within_credit log id left)) waiting)
     unfinished-leaf n = λ h e l.
-        let own = send_of id (covered log id left) in
+        let own = send_of id (bytes_within_credit log id left) in
         let r : Responding false h ≡ Responding false head = sym e ∙ ap handshake_state (calls-logged side log own waiting) ∙ state in
         let i : h ≡ head = cc in
-        let sent : sent_on (actions_of (log_call side log own waiting)) id ≡ sent_on (actions_of log) id ++ covered log id left = flush-other side (Called waiting) (with_actions own log) id other ∙ sent-send log id (covered log id left) in
+        let sent : sent_on (actions_of (log_call side log own waiting)) id ≡ sent_on (actions_of log) id ++ bytes_within_credit log id left = flush-other side (Called waiting) (with_actions own log) id other ∙ sent-send log id (bytes_within_credit log id left) in
         let x : drop (length (sent_on (actions_of (log_call side log own waiting)) id)) head ≡ [] = subst (λ (hd : List ℕ). drop (length (sent_on (actions_of (log_call side log own waiting)) id)) hd ≡ []) i (subst (λ (j : ℕ). head_left (log_call side log own waiting) j h ≡ []) (then-requested own) l) in
-        let y : drop (length (covered log id left)) left ≡ [] = sym (drop-both (sent_on (actions_of log) id) (covered log id left) head) ∙ ap (λ (xs : List ℕ). drop (length xs) head) (sym sent) ∙ x in
+        let y : drop (length (bytes_within_credit log id left)) left ≡ [] = sym (drop-both (sent_on (actions_of log) id) (bytes_within_credit log id left) head) ∙ ap (λ (xs : List ℕ). drop (length xs) head) (sym sent) ∙ x in
         absurd (let z = ap is_empty y in cc)
 
     whole-finish : (b : Bool) → is_finished (actions_of log) id ≡ b → IsWhole (finish_rejection side log id left waiting)
     whole-finish b f =
         whole-if (not (is_finished (actions_of log) id)) _ _ (λ x. finished-leaf (send_of id left ++ actions.Finish id ∷ []) (finished-last id (send_of id left) log)) (λ x.
-        whole-if (is_some (stop_of (events_of log) id) || is_acknowledged (events_of log) id) _ _ (λ y. whole-leaf (closing log 0) HandshakeOver refl) (λ y. finished-leaf [] (was-so (is_finished (actions_of log) id) x)))
+        whole-if (is_some (stop_of (events_of log) id) || is_acknowledged (events_of log) id) _ _ (λ y. whole-leaf (close_when_open log 0) HandshakeOver refl) (λ y. finished-leaf [] (was-so (is_finished (actions_of log) id) x)))
       where
         was-so : (c : Bool) → not c ≡ false → c ≡ true
         was-so true e = refl
@@ -257,12 +257,12 @@ module _ (side : Side) (log : Log) where
     whole-reject : IsWhole (reject_response side log id left waiting)
     whole-reject =
         whole-if (not (is_open log)) _ _ (λ x. whole-leaf [] HandshakeOver refl) (λ x.
-        whole-if (is_refused log id left) _ _ (λ y. whole-leaf (closing log (code_of h3.ClosedCriticalStream)) HandshakeOver refl) (λ y.
+        whole-if (is_refused log id left) _ _ (λ y. whole-leaf (close_when_open log (code_of h3.ClosedCriticalStream)) HandshakeOver refl) (λ y.
         whole-if (is_covered log id left) _ _ (λ z. whole-finish (is_finished (actions_of log) id) refl) (λ z. unfinished-leaf z)))
 
   -- a response that goes on, with a record that leads to its state
-  whole-respond : (accepts : Bool) (head : List ℕ) (waiting : CallRecord) → requested (waiting ∷ calls_of log) ≡ requested (calls_of log) → handshake_state (waiting ∷ calls_of log) ≡ Responding accepts head → (local_uni side == requested (calls_of log)) ≡ false → IsWhole (respond side log accepts head waiting)
-  whole-respond true head waiting same state other = whole-accept (requested (calls_of log)) (head_left log (requested (calls_of log)) head) waiting (ap is_rejecting state)
+  whole-respond : (accepts : Bool) (head : List ℕ) (waiting : CallRecord) → requested_stream (waiting ∷ calls_of log) ≡ requested_stream (calls_of log) → handshake_state (waiting ∷ calls_of log) ≡ Responding accepts head → (local_uni side == requested_stream (calls_of log)) ≡ false → IsWhole (respond side log accepts head waiting)
+  whole-respond true head waiting same state other = whole-accept (requested_stream (calls_of log)) (head_left log (requested_stream (calls_of log)) head) waiting (ap is_rejecting state)
   whole-respond false head waiting same state other = whole-reject head waiting same state other
 
 -- ---- a turn
@@ -277,7 +277,7 @@ is_answering (turns.Call calls.TooManyRequests) = true
 is_answering (turns.Call calls.Handshake) = true
 is_answering _ = false
 
-frame-answers : (turn : Turn) (head : List ℕ) → frame_of turn ≡ Some head → is_answering turn ≡ true
+frame-answers : (turn : Turn) (head : List ℕ) → head_frame_of turn ≡ Some head → is_answering turn ≡ true
 frame-answers (turns.Call (calls.Connect options lookup outcome)) head f = refl
 frame-answers (turns.Call (calls.Accept headers)) head f = refl
 frame-answers (turns.Call calls.Forbidden) head f = refl

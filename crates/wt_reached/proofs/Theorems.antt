@@ -29,10 +29,10 @@ use Rattle.wt_session_spec.specs.Plan.{Establish, Step}
 use Rattle.wt_session_spec.specs.Plans.{plan_of}
 use Rattle.wt_session_spec.specs.SessionState.{session_state}
 use Rattle.wt_spec.specs.Answers.{is_lawful}
-use Rattle.wt_spec.specs.Driver.{established, flush}
+use Rattle.wt_spec.specs.Driver.{established_session, flush}
 use Rattle.wt_spec.specs.Effect.{head_left}
 use Rattle.wt_spec.specs.Halves.{has_receiving_half, has_sending_half, is_accepted}
-use Rattle.wt_spec.specs.Handshake.{Responding, handshake_state, requested}
+use Rattle.wt_spec.specs.Handshake.{Responding, handshake_state, requested_stream}
 use Rattle.wt_turn.specs.Log.{CallRecord, Called, Entry, Log, SessionEstablished, actions_of, calls_of, with_actions}
 use Rattle.wt_turn.specs.declared.action.Action.{Action}
 use Rattle.wt_turn.specs.declared.call.Call.{Call}
@@ -69,7 +69,7 @@ receives_theorem side log k r g = given-receives side log (reached-holds side lo
 pub origin_theorem : (side : Side) (log : Log) (k : ℕ) → IsReachable side log → is_accepted log k ≡ true → Origin side log k
 origin_theorem side log k r a = read-origin side log r k a
 
-pub rejected_theorem : (side : Side) (log : Log) (head : List ℕ) → IsReachable side log → handshake_state (calls_of log) ≡ Responding false head → head_left log (requested (calls_of log)) head ≡ [] → is_finished (actions_of log) (requested (calls_of log)) ≡ true
+pub rejected_theorem : (side : Side) (log : Log) (head : List ℕ) → IsReachable side log → handshake_state (calls_of log) ≡ Responding false head → head_left log (requested_stream (calls_of log)) head ≡ [] → is_finished (actions_of log) (requested_stream (calls_of log)) ≡ true
 rejected_theorem side log head r e l = rejects-whole side log r head e l
 
 pub unfinished_theorem : (side : Side) (log : Log) → IsReachable side log → is_finished (actions_of log) (local_uni side) ≡ false
@@ -78,10 +78,10 @@ unfinished_theorem side log r = (driver-facts side log r).sends.unfinished
 pub unreset_theorem : (side : Side) (log : Log) → IsReachable side log → is_reset log (local_uni side) ≡ false
 unreset_theorem side log r = (driver-facts side log r).sends.unreset
 
-pub session_sends_theorem : (side : Side) (log : Log) (s : ℕ × ℕ) → IsReachable side log → established (calls_of log) ≡ Some s → can_send side log s.0 ≡ true
+pub session_sends_theorem : (side : Side) (log : Log) (s : ℕ × ℕ) → IsReachable side log → established_session (calls_of log) ≡ Some s → can_send side log s.0 ≡ true
 session_sends_theorem side log s r e = (driver-facts side log r).sends.session s e
 
-pub session_receives_theorem : (side : Side) (log : Log) (s : ℕ × ℕ) → IsReachable side log → established (calls_of log) ≡ Some s → can_receive side log s.0 ≡ true
+pub session_receives_theorem : (side : Side) (log : Log) (s : ℕ × ℕ) → IsReachable side log → established_session (calls_of log) ≡ Some s → can_receive side log s.0 ≡ true
 session_receives_theorem side log s r e = (driver-facts side log r).session_receives s e
 
 pub driver_facts_theorem : (side : Side) (log : Log) → IsReachable side log → KeepsOwnStreams side log

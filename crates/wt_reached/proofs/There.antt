@@ -1,12 +1,12 @@
 -- The streams of calls are there, and have their halves.
-use Rattle.std.specs.Prelude.{[], ◌%◌, ◌&&◌, ◌+◌, ◌/◌, ◌<◌, ◌==◌, ◌∷◌, ◌≡◌, ◌≢◌, ◌≤◌, ◌⊎◌, Bool, List, Option, false, if◌then◌else◌, is_some, nat_lt, not, suc, true, zero, ℕ}
+use Rattle.std.specs.Prelude.{[], ◌%◌, ◌&&◌, ◌+◌, ◌/◌, ◌<◌, ◌==◌, ◌∷◌, ◌≡◌, ◌≢◌, ◌≤◌, ◌⊎◌, Bool, List, Option, false, if◌then◌else◌, is_some, not, suc, true, zero, ℕ}
 use Rattle.std.proofs.Common.{◌∙◌, ap, arith, inl, inr, refl, subst, sym}
-use Rattle.std.proofs.lemmas.Bool.{and_from, and_parts, eqb-true, lt-ltb, ltb-true, not-true}
+use Rattle.std.proofs.lemmas.Bool.{and_from, and_parts, eqb-true, lt-ltb, not-true}
 use Rattle.std.specs.List.{list_any}
 use Rattle.wt_proto.specs.declared.verdict.Verdict.TheVariants as verdicts
 use Rattle.wt_seam_spec.specs.Reports.{end_of}
-use Rattle.wt_seam_spec.specs.Streams.{can_receive, can_send, contents, exists, local_bi, local_count, local_uni, one_more_if, peer_bi, peer_count, peer_opens, peer_uni}
-use Rattle.wt_turn.specs.Log.{Called, Log, Received, Reported, ReportedLate, Sent, actions_of, all_events_of, calls_of, events_of}
+use Rattle.wt_seam_spec.specs.Streams.{can_receive, can_send, contents, exists, local_bi, local_count, local_uni, peer_bi, peer_count, peer_uni}
+use Rattle.wt_turn.specs.Log.{Log, actions_of, all_events_of, calls_of, events_of}
 use Rattle.wt_wire.specs.declared.side.Side.{Side}
 use Rattle.wt_wire.specs.declared.side.Side.TheVariants.{Client, Server}
 use Rattle.wt_laws.proofs.Classified.{are-peers, eq-turned}
@@ -17,6 +17,7 @@ use Rattle.wt_laws.proofs.ReadLaws.{local-unclassified}
 use Rattle.wt_laws.proofs.RequestLaws.{uni-no-request}
 use Rattle.wt_laws.proofs.SessionLaws.{HadRequest}
 use Rattle.wt_laws.proofs.SessionStream.{Out}
+use Rattle.wt_laws.proofs.PeersExist.{among-exist}
 use Rattle.wt_laws.specs.Laws.{is_session_stream}
 use Rattle.wt_laws.specs.Reachable.{is_among}
 use Rattle.wt_reached.specs.Reading.{ByCall, ByPeer, Origin}
@@ -26,32 +27,6 @@ use Rattle.wt_spec.specs.Connection.{starts_opening}
 use Rattle.wt_spec.specs.Driver.{delivers}
 use Rattle.wt_spec.specs.Halves.{has_receiving_half, has_sending_half, is_accepted}
 use Rattle.wt_spec.specs.StreamTable.{is_request}
-
--- ---- streams that the peer opened
-
-more-than : (b : Bool) (n m : ℕ) → n ≤ m → n ≤ one_more_if b m
-more-than true n m le = omega arith
-more-than false n m le = le
-
-both-more : (b : Bool) (n m : ℕ) → n ≤ m → one_more_if b n ≤ one_more_if b m
-both-more true n m le = omega arith
-both-more false n m le = le
-
--- what came while the connection was open is among all that came
-events-among : (side : Side) (kind : ℕ) (log : Log) → peer_count side (events_of log) kind ≤ peer_count side (all_events_of log) kind
-events-among side kind [] = omega arith
-events-among side kind (Reported e ∷ log) = both-more (peer_opens side kind e) (peer_count side (events_of log) kind) (peer_count side (all_events_of log) kind) (events-among side kind log)
-events-among side kind (ReportedLate e ∷ log) = more-than (peer_opens side kind e) (peer_count side (events_of log) kind) (peer_count side (all_events_of log) kind) (events-among side kind log)
-events-among side kind (Received id byte ∷ log) = events-among side kind log
-events-among side kind (Sent a ∷ log) = events-among side kind log
-events-among side kind (Called r ∷ log) = events-among side kind log
-
-peers-exist : (side : Side) (log : Log) (kind k : ℕ) → is_among kind (peer_count side (events_of log) kind) k ≡ true → exists side log k ≡ true
-peers-exist side log kind k a =
-    let p = and_parts (k % 4 == kind) _ a in
-    let e = eqb-true (k % 4) kind p.0 in
-    subst (λ (n : ℕ). nat_lt (k / 4) (peer_count side (all_events_of log) n + local_count (actions_of log) n) ≡ true) (sym e)
-    (lt-ltb (k / 4) (peer_count side (all_events_of log) kind + local_count (actions_of log) kind) (let l = ltb-true (k / 4) (peer_count side (events_of log) kind) p.1 in let m = events-among side kind log in omega arith))
 
 -- ---- streams that this end opened
 
@@ -86,7 +61,7 @@ module _ (side : Side) (log : Log) (h : Heads side log) where
       at : (is_local side k ≡ true) ⊎ IsSessions side log k → exists side log k ≡ true
       at (inl l) = local-exist side log k (h.counted k (h.local_accepted k l a))
       at (inr s) = from-or (is_among (peer_uni side) (peer_count side (events_of log) (peer_uni side)) k) (is_among (peer_bi side) (peer_count side (events_of log) (peer_bi side)) k)
-          (peers-exist side log (peer_uni side) k) (peers-exist side log (peer_bi side) k) (are-peers side log k _ s.verdict)
+          (among-exist side log (peer_uni side) k) (among-exist side log (peer_bi side) k) (are-peers side log k _ s.verdict)
 
   pub given-sends : (k : ℕ) → has_sending_half side log k ≡ true → can_send side log k ≡ true
   given-sends k g =
@@ -117,7 +92,7 @@ module _ (side : Side) (log : Log) (h : Heads side log) where
 
       at : (w : HadRequest side log k) → HasVerdict side log k (verdicts.Request w.headers w.at) → can_send side log k ≡ true
       at w (HasUni a v f) = absurd (let x = uni-no-request (contents log k) (end_of (events_of log) k) in let y = ap is_request v in cc)
-      at w (HasBi a v f) = and_from (exists side log k) (not (peer_uni side == k % 4)) (peers-exist side log (peer_bi side) k a) (ap not (of-bi (and_parts (k % 4 == peer_bi side) _ a).0 (peer_uni side == k % 4) refl))
+      at w (HasBi a v f) = and_from (exists side log k) (not (peer_uni side == k % 4)) (among-exist side log (peer_bi side) k a) (ap not (of-bi (and_parts (k % 4 == peer_bi side) _ a).0 (peer_uni side == k % 4) refl))
 
   -- its kind is that of the peer's bidirectional streams
   pub request-bi : (k : ℕ) → list_any (delivers k) (calls_of log) ≡ true → (k % 4 == peer_bi side) ≡ true

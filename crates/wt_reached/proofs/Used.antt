@@ -2,7 +2,7 @@
 use Rattle.std.specs.Prelude.{[], ◌*◌, ◌==◌, ◌∷◌, ◌≡◌, Bool, List, None, Option, Some, false, if◌then◌else◌, length, suc, true, zero, ℕ}
 use Rattle.std.proofs.Common.{◌∙◌, ap, refl, subst, sym}
 use Rattle.std.specs.List.{list_any}
-use Rattle.wt_driver_spec.specs.Uses.{MayUse, OfLocalBi, OfLocalUni, OfPeerBi, OfPeerUni, ForRequest, StreamRole, Uses, classified_of, is_sessions, may_give, passes, role_of}
+use Rattle.wt_driver_spec.specs.Uses.{MayUse, OfPeerUni, StreamRole, Uses, classified_of, is_sessions, may_give, passes, role_of}
 use Rattle.wt_laws.proofs.Classified.{Due, either-true, next-is-due}
 use Rattle.wt_laws.proofs.Looks.{next-within}
 use Rattle.wt_laws.proofs.SessionStream.{not-true-so}
@@ -24,7 +24,7 @@ use Rattle.wt_spec.specs.Connection.{accept_due, accept_first, accepts_stream, g
 use Rattle.wt_spec.specs.Driver.{flush, log_and_flush, releases, stream_table}
 use Rattle.wt_spec.specs.Effect.{Effect, log_call}
 use Rattle.wt_spec.specs.StreamTable.{Classified, is_webtransport}
-use Rattle.wt_turn.specs.Log.{Acked, CallRecord, Called, Connected, Datagram, DatagramLimit, DatagramPassed, DatagramReceived, End, Entry, Event, Log, Loss, MaxBi, MaxData, MaxUni, PeerBi, PeerUni, Polled, Received, Reported, ReportedLate, Reset, Sent, SessionEstablished, Stop, StreamAccepted, StreamPassed, calls_of, events_of, is_open, with_actions}
+use Rattle.wt_turn.specs.Log.{CallRecord, Called, DatagramPassed, DatagramReceived, Entry, Event, Log, Polled, Received, Reported, ReportedLate, Sent, SessionEstablished, StreamAccepted, StreamPassed, calls_of, events_of, is_open, with_actions}
 use Rattle.wt_turn.specs.declared.action.Action.{Action}
 use Rattle.wt_turn.specs.declared.call.Call.{Call}
 use Rattle.wt_reply.specs.declared.reply.Reply.{Reply}
@@ -57,10 +57,7 @@ unreleased-so k test f cs n = not-true-so (list_any test cs) (λ e. absurd (let 
 
 gives-found : (role : StreamRole) (c : Classified) → may_give role (Some c) ≡ is_webtransport c.verdict
 gives-found OfPeerUni c = refl
-gives-found OfPeerBi c = refl
-gives-found ForRequest c = refl
-gives-found OfLocalBi c = refl
-gives-found OfLocalUni c = refl
+gives-found _ c = refl
 
 gives-classified : (role : StreamRole) (o : Option Classified) (v : Verdict) → verdict_in o ≡ Some v → is_webtransport v ≡ true → may_give role o ≡ true
 gives-classified role None v e w = absurd (cc)
@@ -160,19 +157,7 @@ module _ (side : Side) where
     uses-turn : (log : Log) (turn : Turn) → IsReachable side log → is_lawful side log turn ≡ true → Uses side log → Uses side (log_after side log turn)
     uses-turn log (turns.Call call) r l u = subst (Uses side) (ap (λ (x : Effect). x.log) (sym (planned_theorem side log call))) (uses-performed log (plan_of (facts_of side log) (session_state log) call) (made log call r l) u)
     uses-turn log (turns.Bytes id piece) r l u = uses-bytes piece log id u
-    uses-turn log (turns.Connected uni bi credit fact) r l u = uses-event log (Connected uni bi credit fact) u
-    uses-turn log turns.PeerUni r l u = uses-event log PeerUni u
-    uses-turn log turns.PeerBi r l u = uses-event log PeerBi u
-    uses-turn log (turns.End id) r l u = uses-event log (End id) u
-    uses-turn log (turns.Reset id code) r l u = uses-event log (Reset id code) u
-    uses-turn log (turns.Stop id code) r l u = uses-event log (Stop id code) u
-    uses-turn log (turns.Acked id) r l u = uses-event log (Acked id) u
-    uses-turn log (turns.Datagram piece) r l u = uses-event log (Datagram piece) u
-    uses-turn log (turns.MaxUni total) r l u = uses-event log (MaxUni total) u
-    uses-turn log (turns.MaxBi total) r l u = uses-event log (MaxBi total) u
-    uses-turn log (turns.MaxData id total) r l u = uses-event log (MaxData id total) u
-    uses-turn log (turns.DatagramLimit fact) r l u = uses-event log (DatagramLimit fact) u
-    uses-turn log (turns.Loss reason) r l u = uses-event log (Loss reason) u
+    uses-turn log _ r l u = uses-event log _ u
 
     pub uses-hold : (log : Log) → IsReachable side log → Uses side log
     uses-hold [] AtStart = tt

@@ -2,7 +2,7 @@
 use Rattle.std.specs.Prelude.{◌==◌, ◌≡◌, Bool, Some, false, not, true, ℕ}
 use Rattle.wt_driver_spec.specs.Asking.{SendFacts}
 use Rattle.wt_seam_spec.specs.Streams.{can_receive, local_uni}
-use Rattle.wt_spec.specs.Driver.{established}
+use Rattle.wt_spec.specs.Driver.{established_session}
 use Rattle.wt_turn.specs.Log.{Called, Entry, Log, ResetUnsent, Sent, SessionEstablished, calls_of}
 use Rattle.wt_turn.specs.declared.action.Action.TheVariants as actions
 use Rattle.wt_wire.specs.declared.side.Side.{Side}
@@ -11,7 +11,7 @@ use Rattle.wt_wire.specs.declared.side.Side.{Side}
 -- session has both halves.
 pub record KeepsOwnStreams (side : Side) (log : Log) : Type 0 where
   pub sends : SendFacts side log
-  pub session_receives : (s : ℕ × ℕ) → established (calls_of log) ≡ Some s → can_receive side log s.0 ≡ true
+  pub session_receives : (s : ℕ × ℕ) → established_session (calls_of log) ≡ Some s → can_receive side log s.0 ≡ true
 
 -- the entry doesn't end this end's control stream, and establishes no session
 abbrev pub leaves_driver : Side → Entry → Bool

@@ -15,10 +15,10 @@ ghost use Rattle.wt_session_spec.specs.Plan.{Establish, Step};
 ghost use Rattle.wt_session_spec.specs.Plans.{plan_of};
 ghost use Rattle.wt_session_spec.specs.SessionState.{session_state};
 ghost use Rattle.wt_spec.specs.Answers.{is_lawful};
-ghost use Rattle.wt_spec.specs.Driver.{established, flush};
+ghost use Rattle.wt_spec.specs.Driver.{established_session, flush};
 ghost use Rattle.wt_spec.specs.Effect.{head_left};
 ghost use Rattle.wt_spec.specs.Halves.{has_receiving_half, has_sending_half, is_accepted};
-ghost use Rattle.wt_spec.specs.Handshake.{Responding, handshake_state, requested};
+ghost use Rattle.wt_spec.specs.Handshake.{Responding, handshake_state, requested_stream};
 ghost use Rattle.wt_turn.specs.Log.{CallRecord, Called, Entry, Log, SessionEstablished, actions_of, calls_of, with_actions};
 ghost use Rattle.wt_turn.specs.declared.action.Action.{Action};
 ghost use Rattle.wt_turn.specs.declared.call.Call.{Call};
@@ -75,7 +75,7 @@ pub fn given_streams_are_there()
 /// A rejection whose response is out is finished.
 #[tactic(auto, using(crate::proofs::Theorems::rejected_theorem))]
 pub fn rejections_are_finished()
-    ensures { (side : Side) (log : Log) (head : List ℕ) → IsReachable side log → handshake_state (calls_of log) ≡ Responding false head → head_left log (requested (calls_of log)) head ≡ [] → is_finished (actions_of log) (requested (calls_of log)) ≡ true }
+    ensures { (side : Side) (log : Log) (head : List ℕ) → IsReachable side log → handshake_state (calls_of log) ≡ Responding false head → head_left log (requested_stream (calls_of log)) head ≡ [] → is_finished (actions_of log) (requested_stream (calls_of log)) ≡ true }
 {}
 
 /// This end's control stream is never finished or reset, and the stream of the established session
@@ -84,8 +84,8 @@ pub fn rejections_are_finished()
 pub fn the_driver_may_send()
     ensures unfinished { (side : Side) (log : Log) → IsReachable side log → is_finished (actions_of log) (local_uni side) ≡ false }
     ensures unreset { (side : Side) (log : Log) → IsReachable side log → is_reset log (local_uni side) ≡ false }
-    ensures session_sends { (side : Side) (log : Log) (s : ℕ × ℕ) → IsReachable side log → established (calls_of log) ≡ Some s → can_send side log s.0 ≡ true }
-    ensures session_receives { (side : Side) (log : Log) (s : ℕ × ℕ) → IsReachable side log → established (calls_of log) ≡ Some s → can_receive side log s.0 ≡ true }
+    ensures session_sends { (side : Side) (log : Log) (s : ℕ × ℕ) → IsReachable side log → established_session (calls_of log) ≡ Some s → can_send side log s.0 ≡ true }
+    ensures session_receives { (side : Side) (log : Log) (s : ℕ × ℕ) → IsReachable side log → established_session (calls_of log) ≡ Some s → can_receive side log s.0 ≡ true }
 {}
 
 /// What lets the driver send holds of each log that lawful turns lead to, after each entry that

@@ -24,12 +24,12 @@ use Rattle.wt_laws.specs.LeavesRecord.{LeavesRecord}
 use Rattle.wt_laws.specs.Left.{PendingExactly, is_pending}
 use Rattle.wt_laws.specs.OpenedInOrder.{OpenedInOrder}
 use Rattle.wt_laws.specs.Reachable.{Exchange, exchanges}
-use Rattle.wt_spec.specs.Turns.{is_call}
+use Rattle.wt_turn.specs.Turns.{is_call}
 use Rattle.wt_laws.specs.Runs.{DoneAtOnce, DoneLate, InOrderOfOpening, LateChangesNothing, StaysSo}
 use Rattle.wt_laws.specs.Telling.{TellingArrives}
 use Rattle.wt_laws.specs.TurnCauses.{ActionsWentOut, EntriesHaveCauses, ReplyIsRecorded}
 use Rattle.wt_spec.specs.Answers.{answer_to, run}
-use Rattle.wt_spec.specs.Driver.{established, stream_table}
+use Rattle.wt_spec.specs.Driver.{established_session, stream_table}
 use Rattle.wt_spec.specs.Halves.{has_receiving_half, has_sending_half}
 use Rattle.wt_spec.specs.Handshake.{Connecting, handshake_state}
 use Rattle.wt_run.specs.Trace.{log_at}
@@ -104,7 +104,7 @@ pub record DriverIsRead (side : Side) (log : Log) : Type 0 where
 -- each call that asks for a session or a stream answers exactly as it stands with these
 pub record CallsAnswer (side : Side) (log : Log) : Type 0 where
   pub first : (call : Call) → AsksFirst side log call
-  pub session : (s at : ℕ) → established (calls_of log) ≡ Some (s, at) → SessionCallsAnswer side log s
+  pub session : (s at : ℕ) → established_session (calls_of log) ≡ Some (s, at) → SessionCallsAnswer side log s
   pub sending : (k : ℕ) → has_sending_half side log k ≡ true → SendingCallsAnswer side log k
   pub receiving : (k : ℕ) → has_receiving_half side log k ≡ true → ReceivingCallsAnswer side log k
 

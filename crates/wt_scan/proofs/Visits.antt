@@ -5,7 +5,7 @@ use Rattle.std.proofs.lemmas.Bool.{eq-eqb}
 use Rattle.wt_scan.proofs.Restaged.{stage-again, twice}
 use Rattle.wt_dispatch.specs.Rules.{consequence_of}
 use Rattle.wt_scan.specs.Scanning.{Leaves, awaits, classified_stage, header_stage, known_by, rule_of, unless_given_up, visit_stage}
-use Rattle.wt_dispatch.specs.Rules.{is_given_up}
+use Rattle.wt_dispatch.specs.Rules.{reads_no_more}
 use Rattle.wt_dispatch.specs.declared.slot.Half.{Half}
 use Rattle.wt_dispatch.specs.declared.slot.Half.TheVariants.{Bi, Uni}
 use Rattle.wt_driver_spec.specs.DriverState.{Arrived, Held, Slot}
@@ -14,7 +14,7 @@ use Rattle.wt_inbox.specs.Stage.{Refines, Stage, stage_from, verdict_offset, wit
 use Rattle.wt_inbox.specs.State.{InboxState}
 use Rattle.wt_proto.specs.declared.verdict.Verdict.{Verdict}
 use Rattle.wt_spec.specs.Scan.{SlotRule, is_released, occupied, with_consequence}
-use Rattle.wt_spec.specs.StreamTable.{Consequence, Dispatched, Progress, TransportView}
+use Rattle.wt_spec.specs.StreamTable.{Consequence, Dispatched, DriverProgress, TransportView}
 use Rattle.wt_turn.specs.Log.{Log}
 use Rattle.wt_turn.specs.declared.action.Action.{Action}
 use Rattle.wt_wire.specs.declared.side.Side.{Side}
@@ -32,15 +32,15 @@ if_ok (Ok x) f p = f x p
 if_ok (Err e) f p = p
 
 module _ (side : Side) (log : Log) (stage : ℕ → Stage) (untaken : List Action) (id n : ℕ) where
-  pub classify-done : (rule : SlotRule) (d d_then : Dispatched) (p p_then : Progress) (v : Verdict) (e : Consequence) (gives released : Bool) (x : InboxState) (left : Option Slot)
-      → v ≡ rule.verdict id → e ≡ rule.consequence d id v → gives ≡ (e.surplus || is_given_up v) → released ≡ is_released false v
+  pub classify-done : (rule : SlotRule) (d d_then : Dispatched) (p p_then : DriverProgress) (v : Verdict) (e : Consequence) (gives released : Bool) (x : InboxState) (left : Option Slot)
+      → v ≡ rule.verdict id → e ≡ rule.consequence d id v → gives ≡ (e.surplus || reads_no_more v) → released ≡ is_released false v
       → p_then ≡ with_consequence e p → d_then ≡ dispatch d (record { id = id; verdict = v; surplus = e.surplus })
       → Refines side x log (with_stage stage id (unless_given_up gives (stage_from (verdict_offset (rule.verdict id))))) untaken
       → ((m : ℕ) (known : Known) → record { slots = if released then [] else record { id = id; place = Held } ∷ []; occupied = occupied released m; known = known } ≡ visited_as left m known)
       → Leaves side log stage untaken id (classified_stage (rule.consequence d id (rule.verdict id)).surplus (rule.verdict id)) (classify_as rule.consequence id (rule.verdict id) n (known_by d p)) n left x (known_by d_then p_then)
   classify-done rule d d_then p p_then v e gives released x left vw ev gv rv pv dv r h =
       let same : e ≡ rule.consequence d id (rule.verdict id) = ev ∙ ap (rule.consequence d id) vw in
-      let given : gives ≡ ((rule.consequence d id (rule.verdict id)).surplus || is_given_up (rule.verdict id)) = gv ∙ (λ i. (same i).surplus || is_given_up (vw i)) in
+      let given : gives ≡ ((rule.consequence d id (rule.verdict id)).surplus || reads_no_more (rule.verdict id)) = gv ∙ (λ i. (same i).surplus || reads_no_more (vw i)) in
       let freed : is_released false (rule.verdict id) ≡ released = ap (is_released false) (sym vw) ∙ sym rv in
       let noted : with_consequence (rule.consequence d id (rule.verdict id)) p ≡ p_then = ap (λ (u : Consequence). with_consequence u p) (sym same) ∙ sym pv in
       let added : dispatch d (record { id = id; verdict = rule.verdict id; surplus = (rule.consequence d id (rule.verdict id)).surplus }) ≡ d_then =

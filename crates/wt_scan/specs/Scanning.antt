@@ -1,6 +1,6 @@
 -- What a visit of a slot leaves of a stream: at which stage of its reading it is then.
 use Rattle.std.specs.Prelude.{[], ◌&&◌, ◌||◌, ◌∷◌, ◌≡◌, Bool, List, None, Option, Some, false, nat_lt, true, ℕ}
-use Rattle.wt_dispatch.specs.Rules.{is_given_up}
+use Rattle.wt_dispatch.specs.Rules.{reads_no_more}
 use Rattle.wt_dispatch.specs.declared.slot.Half.{Half}
 use Rattle.wt_dispatch.specs.declared.slot.Half.TheVariants.{Bi, Uni}
 use Rattle.wt_driver_spec.specs.DriverState.{Arrived, Dequeued, Held, Slot, SlotPlace}
@@ -11,11 +11,10 @@ use Rattle.wt_proto.specs.Uni.{is_final}
 use Rattle.wt_proto.specs.declared.verdict.Verdict.{Verdict}
 use Rattle.wt_seam_spec.specs.Streams.{can_receive}
 use Rattle.wt_spec.specs.Scan.{SlotRule, bi_rule, uni_rule}
-use Rattle.wt_spec.specs.StreamTable.{Dispatched, Ending, Progress, TransportView}
+use Rattle.wt_spec.specs.StreamTable.{Dispatched, Ending, DriverProgress, TransportView}
 use Rattle.wt_turn.specs.Log.{Log}
 use Rattle.wt_turn.specs.declared.action.Action.{Action}
 use Rattle.wt_wire.specs.declared.side.Side.{Side}
-use Rattle.wt_proto.specs.declared.verdict.Verdict.TheVariants as verdicts
 
 -- how streams of a kind get a slot
 abbrev pub rule_of : Half → TransportView → SlotRule
@@ -39,7 +38,7 @@ unless_given_up false stage = stage
 
 -- a classified stream is read behind its header
 abbrev pub classified_stage : Bool → Verdict → Stage
-classified_stage surplus v = unless_given_up (surplus || is_given_up v) (stage_from (verdict_offset v))
+classified_stage surplus v = unless_given_up (surplus || reads_no_more v) (stage_from (verdict_offset v))
 
 -- a dequeued stream, by whether its verdict is final
 abbrev pub look_stage : Bool → Half → Bool → Verdict → Stage
@@ -59,7 +58,7 @@ visit_stage ready half rule Dequeued k n known stage = dequeue_stage true half r
 visit_stage ready half rule Arrived k n known stage = dequeue_stage (ready && nat_lt n rule.slots) half rule k known stage
 
 -- what is known beside the slots
-abbrev pub known_by : Dispatched → Progress → Known
+abbrev pub known_by : Dispatched → DriverProgress → Known
 known_by d p = record { dispatched = d; progress = p }
 
 -- A visit of stream `id` leaves it at this stage, and this of its slot.

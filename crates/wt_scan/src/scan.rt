@@ -3,7 +3,7 @@ ghost use Rattle.std.specs.Prelude.{◌≡◌, ◌<◌, ◌&&◌, ◌||◌, [], 
 ghost use Rattle.std.specs.List.{remove};
 ghost use Rattle.wt_dispatch.specs.Rules.{slots_of};
 ghost use Rattle.wt_scan.specs.Scanning.{AllAwait, AwaitsAt, Leaves, Scans, SlotsReceive, awaits, dequeue_stage, header_stage, known_by, look_stage, rule_of, unless_given_up, visit_stage};
-ghost use Rattle.wt_dispatch.specs.Rules.{is_given_up};
+ghost use Rattle.wt_dispatch.specs.Rules.{reads_no_more};
 ghost use Rattle.wt_driver_spec.specs.Bounds.{AreDistinct, IsBounded};
 ghost use Rattle.wt_driver_spec.specs.DriverState.{Held};
 ghost use Rattle.wt_driver_spec.specs.Step.{Known, classify_slot, visit_slot, visited_as};
@@ -12,7 +12,7 @@ ghost use Rattle.wt_inbox.specs.Stage.{Refines, Stage, stage_from, verdict_offse
 ghost use Rattle.wt_proto.specs.Uni.{is_final};
 ghost use Rattle.wt_seam_spec.specs.Streams.{can_receive};
 ghost use Rattle.wt_spec.specs.Scan.{occupied};
-ghost use Rattle.wt_spec.specs.Driver.{is_ready, transport_view};
+ghost use Rattle.wt_spec.specs.Driver.{settings_ready, transport_view};
 ghost use Rattle.wt_turn.specs.Log.{Log, is_open};
 ghost use Rattle.wt_turn.specs.declared.action.Action.{Action};
 ghost use Rattle.wt_wire.specs.declared.side.Side.{Side};
@@ -72,7 +72,7 @@ fn give_up_if(inbox: &mut Inbox, id: StreamId, test: bool)
 
 /// Whether nothing of a stream with this verdict is read any more, or not of a surplus one.
 fn gives_up(surplus: bool, verdict: &Verdict) -> bool
-    ensures { result ≡ (surplus || is_given_up verdict.now) }
+    ensures { result ≡ (surplus || reads_no_more verdict.now) }
 {
     surplus || is_given_up(verdict)
 }
@@ -141,7 +141,7 @@ fn look(
 
 /// Whether a stream may be dequeued behind so many occupied slots.
 fn may_dequeue(inbox: &Inbox, half: Half, occupied: usize) -> bool
-    ensures { Tells inbox.now (λ side log. is_open log ≡ true → result ≡ (is_ready side log && nat_lt occupied (rule_of half (transport_view side log)).slots)) }
+    ensures { Tells inbox.now (λ side log. is_open log ≡ true → result ≡ (settings_ready side log && nat_lt occupied (rule_of half (transport_view side log)).slots)) }
 {
     let is_ready = inbox.is_ready();
     let is_free = occupied < slots_of(half);
@@ -159,8 +159,8 @@ fn visit(
 ) -> Result<Option<Slot>, OutOfMemory>
     ensures log { OfEachLog inbox.old (λ side log stage untaken. is_open log ≡ true → AwaitsAt half slot.now.place (stage slot.now.id) → can_receive side log slot.now.id ≡ true
         → IfOk result (λ left. Leaves side log stage untaken slot.now.id
-        (visit_stage (is_ready side log) half (rule_of half (transport_view side log)) slot.now.place slot.now.id occupied (known_by dispatched.old progress.old) (stage slot.now.id))
-        (visit_slot (is_ready side log) (rule_of half (transport_view side log)) slot.now.place slot.now occupied (known_by dispatched.old progress.old))
+        (visit_stage (settings_ready side log) half (rule_of half (transport_view side log)) slot.now.place slot.now.id occupied (known_by dispatched.old progress.old) (stage slot.now.id))
+        (visit_slot (settings_ready side log) (rule_of half (transport_view side log)) slot.now.place slot.now occupied (known_by dispatched.old progress.old))
         occupied left inbox.new (known_by dispatched.new progress.new))) }
 {
     let id = slot.id();
@@ -199,7 +199,7 @@ pub fn scan(
 ) -> Result<(), OutOfMemory>
     ensures log { OfEachLog inbox.old (λ side log stage untaken. is_open log ≡ true → AllAwait half stage slots.old.items → SlotsReceive side log slots.old.items → AreDistinct slots.old.items
         → IsBounded (slots_of half) 0 slots.old.items
-        → OnOk result (Scans side log untaken (is_ready side log) half (rule_of half (transport_view side log)) stage slots.old.items slots.new.items (known_by dispatched.old progress.old) (known_by dispatched.new progress.new) inbox.new)) }
+        → OnOk result (Scans side log untaken (settings_ready side log) half (rule_of half (transport_view side log)) stage slots.old.items slots.new.items (known_by dispatched.old progress.old) (known_by dispatched.new progress.new) inbox.new)) }
 {
     let most = slots_of(half);
     let mut at = 0;

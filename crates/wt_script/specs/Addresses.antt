@@ -12,7 +12,7 @@ use Rattle.wt_wire.specs.declared.lookup.Lookup.{Lookup}
 use Rattle.wt_wire.specs.declared.lookup.Lookup.TheVariants as lookups
 use Rattle.wt_wire.specs.declared.lookup.ConnectOutcome.{ConnectOutcome}
 use Rattle.wt_wire.specs.declared.lookup.ConnectOutcome.TheVariants as outcomes
-use Rattle.wt_script.specs.Numbers.{port_of, text_of}
+use Rattle.wt_script.specs.Numbers.{port_of_word, text_of_word}
 use Rattle.wt_script.specs.Words.{is_word, parts, alone, one}
 
 -- eight hexadecimal digits: the four bytes of an address, the highest first
@@ -26,19 +26,19 @@ ipv6_of digits = option_map (from_be_bytes w128) (result_ok (decode_sized digits
 -- an address of this version, with these bytes and this port
 abbrev pub address_with : List ℕ → List ℕ → List ℕ → Option Addr
 address_with version ip port =
-    if is_word version (codes "v4") then option_map (λ p. addresses.V4 p.0 p.1) (option_zip (ipv4_of ip) (port_of port)) else
-    (if is_word version (codes "v6") then option_map (λ p. addresses.V6 p.0 p.1) (option_zip (ipv6_of ip) (port_of port)) else None)
+    if is_word version (codes "v4") then option_map (λ p. addresses.V4 p.0 p.1) (option_zip (ipv4_of ip) (port_of_word port)) else
+    (if is_word version (codes "v6") then option_map (λ p. addresses.V6 p.0 p.1) (option_zip (ipv6_of ip) (port_of_word port)) else None)
 
 -- an address by its version, its bytes and its port
-abbrev pub address_of : List (List ℕ) → Option Addr
-address_of (version ∷ ip ∷ port ∷ []) = address_with version ip port
-address_of ps = None
+abbrev pub address_of_words : List (List ℕ) → Option Addr
+address_of_words (version ∷ ip ∷ port ∷ []) = address_with version ip port
+address_of_words ps = None
 
 -- what a resolver answers, by the first part and the others
 abbrev pub lookup_with : List ℕ → List (List ℕ) → Option Lookup
 lookup_with kind fields =
     if is_word kind (codes "none") then alone lookups.NotFound fields else
-    (if is_word kind (codes "fault") then option_map lookups.Fault (one text_of fields) else option_map lookups.Found (address_of (kind ∷ fields)))
+    (if is_word kind (codes "fault") then option_map lookups.Fault (one text_of_word fields) else option_map lookups.Found (address_of_words (kind ∷ fields)))
 
 -- what a resolver answers, by its parts
 abbrev pub lookup_of_parts : List (List ℕ) → Option Lookup
@@ -55,8 +55,8 @@ outcome_with kind fields =
     if is_word kind (codes "proceed") then alone outcomes.Proceed fields else
     (if is_word kind (codes "stopping") then alone outcomes.EndpointStopping fields else
     (if is_word kind (codes "cids") then alone outcomes.CidsExhausted fields else
-    (if is_word kind (codes "name") then option_map outcomes.InvalidServerName (one text_of fields) else
-    (if is_word kind (codes "address") then option_map outcomes.InvalidRemoteAddress (address_of fields) else None))))
+    (if is_word kind (codes "name") then option_map outcomes.InvalidServerName (one text_of_word fields) else
+    (if is_word kind (codes "address") then option_map outcomes.InvalidRemoteAddress (address_of_words fields) else None))))
 
 -- what QUIC answers, by its parts
 abbrev pub outcome_of_parts : List (List ℕ) → Option ConnectOutcome

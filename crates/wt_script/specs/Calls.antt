@@ -4,8 +4,8 @@ use Rattle.std.specs.Option.{option_map, option_or, option_zip}
 use Rattle.wt_turn.specs.declared.call.Call.{Call}
 use Rattle.wt_turn.specs.declared.call.Call.TheVariants as calls
 use Rattle.wt_script.specs.Addresses.{url_of, lookup_of, outcome_of}
-use Rattle.wt_script.specs.Headers.{headers_of}
-use Rattle.wt_script.specs.Numbers.{count_of, id_of, bytes_of, priority_of}
+use Rattle.wt_script.specs.Headers.{headers_of_words}
+use Rattle.wt_script.specs.Numbers.{count_of, id_of, bytes_of, priority_of_word}
 use Rattle.wt_script.specs.Words.{is_word, one, two}
 
 -- the handshake's calls that have no fields
@@ -38,7 +38,7 @@ stream_call_of name fields =
     (if is_word name (codes "finish") then option_map calls.Finish (one id_of fields) else
     (if is_word name (codes "stopped") then option_map calls.Stopped (one id_of fields) else
     (if is_word name (codes "priority") then option_map calls.Priority (one id_of fields) else
-    (if is_word name (codes "set_priority") then option_map (λ p. calls.SetPriority p.0 p.1) (two id_of priority_of fields) else
+    (if is_word name (codes "set_priority") then option_map (λ p. calls.SetPriority p.0 p.1) (two id_of priority_of_word fields) else
     (if is_word name (codes "reset_send") then option_map (λ p. calls.ResetSend p.0 p.1) (two id_of id_of fields) else
     (if is_word name (codes "poll_opening") then option_map calls.PollOpening (one id_of fields) else None))))))))
 
@@ -54,13 +54,13 @@ data_call_of name fields =
 -- a connect: the URL, what a resolver and QUIC answer, and the additional header fields
 abbrev pub connect_of : List (List ℕ) → Option Call
 connect_of (url ∷ lookup ∷ outcome ∷ headers) =
-    option_map (λ p. calls.Connect (p.0, p.1.1.1) p.1.0 p.1.1.0) (option_zip (url_of url) (option_zip (lookup_of lookup) (option_zip (outcome_of outcome) (headers_of headers))))
+    option_map (λ p. calls.Connect (p.0, p.1.1.1) p.1.0 p.1.1.0) (option_zip (url_of url) (option_zip (lookup_of lookup) (option_zip (outcome_of outcome) (headers_of_words headers))))
 connect_of ws = None
 
 -- the calls that carry header fields
 abbrev pub request_call_of : List ℕ → List (List ℕ) → Option Call
 request_call_of name fields =
-    if is_word name (codes "accept") then option_map calls.Accept (headers_of fields) else
+    if is_word name (codes "accept") then option_map calls.Accept (headers_of_words fields) else
     (if is_word name (codes "connect") then connect_of fields else None)
 
 -- a call that has no fields

@@ -8,7 +8,7 @@ use Rattle.wt_error.specs.declared.loss.LossReason.TheVariants as losses
 use Rattle.wt_turn.specs.declared.turn.Turn.{Turn}
 use Rattle.wt_turn.specs.declared.turn.Turn.TheVariants as turns
 use Rattle.wt_error.specs.Close.{Close}
-use Rattle.wt_script.specs.Numbers.{count_of, id_of, bytes_of, text_of}
+use Rattle.wt_script.specs.Numbers.{count_of, id_of, bytes_of, text_of_word}
 use Rattle.wt_script.specs.Words.{is_word, alone, one, two}
 
 -- what the transport tells about datagrams
@@ -22,15 +22,15 @@ abbrev pub close_with : ℕ × List ℕ → Close
 close_with p = record { code = p.0; reason = p.1 }
 
 -- a close by its code and the bytes of its reason
-abbrev pub close_of : List (List ℕ) → Option Close
-close_of fields = option_map close_with (two id_of bytes_of fields)
+abbrev pub close_of_words : List (List ℕ) → Option Close
+close_of_words fields = option_map close_with (two id_of bytes_of fields)
 
 -- a loss that has a code and a reason
 abbrev pub coded_loss_of : List ℕ → List (List ℕ) → Option LossReason
 coded_loss_of kind fields =
-    if is_word kind (codes "transport") then option_map (λ p. losses.TransportError p.0 p.1) (two id_of text_of fields) else
-    (if is_word kind (codes "connection") then option_map losses.ConnectionClosed (close_of fields) else
-    (if is_word kind (codes "application") then option_map losses.ApplicationClosed (close_of fields) else None))
+    if is_word kind (codes "transport") then option_map (λ p. losses.TransportError p.0 p.1) (two id_of text_of_word fields) else
+    (if is_word kind (codes "connection") then option_map losses.ConnectionClosed (close_of_words fields) else
+    (if is_word kind (codes "application") then option_map losses.ApplicationClosed (close_of_words fields) else None))
 
 -- a loss of one word
 abbrev pub bare_loss_of : List ℕ → Option LossReason
@@ -41,10 +41,10 @@ bare_loss_of kind =
     (if is_word kind (codes "cids_exhausted") then Some losses.CidsExhausted else None)))
 
 -- why the connection is lost
-abbrev pub loss_of : List (List ℕ) → Option LossReason
-loss_of [] = None
-loss_of (kind ∷ []) = bare_loss_of kind
-loss_of (kind ∷ field ∷ fields) = coded_loss_of kind (field ∷ fields)
+abbrev pub loss_of_words : List (List ℕ) → Option LossReason
+loss_of_words [] = None
+loss_of_words (kind ∷ []) = bare_loss_of kind
+loss_of_words (kind ∷ field ∷ fields) = coded_loss_of kind (field ∷ fields)
 
 -- what the transport tells when the connection stands
 abbrev pub connected_of : List (List ℕ) → Option Turn
@@ -57,7 +57,7 @@ abbrev pub data_event_of : List ℕ → List (List ℕ) → Option Turn
 data_event_of name fields =
     if is_word name (codes "bytes") then option_map (λ p. turns.Bytes p.0 p.1) (two id_of bytes_of fields) else
     (if is_word name (codes "datagram") then option_map turns.Datagram (one bytes_of fields) else
-    (if is_word name (codes "loss") then option_map turns.Loss (loss_of fields) else None))
+    (if is_word name (codes "loss") then option_map turns.Loss (loss_of_words fields) else None))
 
 -- the events of a stream
 abbrev pub stream_event_of : List ℕ → List (List ℕ) → Option Turn
@@ -79,5 +79,5 @@ limit_event_of name fields =
     (if is_word name (codes "datagram_limit") then option_map turns.DatagramLimit (one fact_of fields) else None))))
 
 -- the event of the transport by its name and its fields
-abbrev pub event_of : List ℕ → List (List ℕ) → Option Turn
-event_of name fields = option_or (data_event_of name fields) (option_or (stream_event_of name fields) (limit_event_of name fields))
+abbrev pub event_of_words : List ℕ → List (List ℕ) → Option Turn
+event_of_words name fields = option_or (data_event_of name fields) (option_or (stream_event_of name fields) (limit_event_of name fields))

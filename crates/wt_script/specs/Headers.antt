@@ -23,5 +23,5 @@ headers_from fields [] = Some fields
 headers_from fields (word ∷ words) = elim (with_header fields word) [ Some more ↦ headers_from more words | None ↦ None ]
 
 -- the fields that words spell
-abbrev pub headers_of : List (List ℕ) → Option Fields
-headers_of words = headers_from [] words
+abbrev pub headers_of_words : List (List ℕ) → Option Fields
+headers_of_words words = headers_from [] words

@@ -32,8 +32,8 @@ abbrev pub id_of : List ℕ → Option ℕ
 id_of word = number (2 ^ 62) word
 
 -- the port of an address
-abbrev pub port_of : List ℕ → Option ℕ
-port_of word = number (2 ^ 16) word
+abbrev pub port_of_word : List ℕ → Option ℕ
+port_of_word word = number (2 ^ 16) word
 
 -- the number n below zero
 abbrev pub minus : ℕ → ℤ
@@ -41,9 +41,9 @@ minus zero = pos zero
 minus (suc n) = negsuc n
 
 -- a signed number of 32 bits: '-' stands before one below zero
-abbrev pub priority_of : List ℕ → Option ℤ
-priority_of [] = None
-priority_of (c ∷ word) = if c == 45 then option_map minus (number (2 ^ 31 + 1) word) else option_map pos (number (2 ^ 31) (c ∷ word))
+abbrev pub priority_of_word : List ℕ → Option ℤ
+priority_of_word [] = None
+priority_of_word (c ∷ word) = if c == 45 then option_map minus (number (2 ^ 31 + 1) word) else option_map pos (number (2 ^ 31) (c ∷ word))
 
 -- the bytes that digits spell: an even number of hexadecimal digits in either case
 abbrev pub digits_of : List ℕ → Option (List ℕ)
@@ -59,5 +59,5 @@ abbrev pub as_text : List ℕ → Option (List ℕ)
 as_text bytes = if is_text bytes then Some bytes else None
 
 -- the text that a word spells by its bytes
-abbrev pub text_of : List ℕ → Option (List ℕ)
-text_of word = option_and_then as_text (bytes_of word)
+abbrev pub text_of_word : List ℕ → Option (List ℕ)
+text_of_word word = option_and_then as_text (bytes_of word)

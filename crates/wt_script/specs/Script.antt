@@ -8,14 +8,14 @@ use Rattle.wt_turn.specs.declared.turn.Turn.TheVariants as turns
 use Rattle.wt_script.specs.declared.script.Script.{Script}
 use Rattle.wt_script.specs.declared.script.ScriptRefused.{ScriptRefused}
 use Rattle.wt_script.specs.Calls.{call_of}
-use Rattle.wt_script.specs.Events.{event_of}
+use Rattle.wt_script.specs.Events.{event_of_words}
 use Rattle.wt_script.specs.Lines.{Lines}
 use Rattle.wt_script.specs.Words.{is_word, words, lines}
 
 -- the turn that a name and its fields spell
 abbrev pub turn_of_words : List (List ℕ) → Option Turn
 turn_of_words [] = None
-turn_of_words (name ∷ fields) = option_or (event_of name fields) (option_map turns.Call (call_of name fields))
+turn_of_words (name ∷ fields) = option_or (event_of_words name fields) (option_map turns.Call (call_of name fields))
 
 -- the turn that a line spells
 abbrev pub turn_of : List ℕ → Option Turn

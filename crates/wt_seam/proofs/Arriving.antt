@@ -1,5 +1,5 @@
 -- A turn that fits leads from what is kept of a log to what is kept of the longer one.
-use Rattle.std.proofs.Common.{arith, ◌≡◌, ◌≤◌, ◌+◌, ◌%◌, ◌^◌, ℕ, Bool, true, false, List, [], ◌∷◌, ◌++◌, refl, sym, subst, ap, ◌∙◌, append_assoc, append-nil, length, drop, length-append}
+use Rattle.std.proofs.Common.{arith, ◌≡◌, ◌≤◌, ◌+◌, ◌%◌, ◌^◌, ℕ, Bool, true, false, List, [], ◌∷◌, ◌++◌, refl, sym, subst, ap, ◌∙◌, append_assoc, append-nil, length, length-append}
 use Rattle.std.specs.Prelude.{nat_lt, is_some, ◌==◌, ◌&&◌, not, if◌then◌else◌}
 use Rattle.std.specs.List.{concat}
 use Rattle.std.proofs.lemmas.Bool.Decides.{nat_tests}
@@ -14,15 +14,15 @@ use Rattle.wt_seam_spec.specs.Streams.{contents, local_uni, peer_uni, peer_count
 use Rattle.wt_seam_spec.specs.Reports.{is_connected, is_running, loss_of, end_of, credit, unis_allowed, bis_allowed, initial_credit, datagram_fact}
 use Rattle.wt_seam_spec.specs.Sent.{sent_on, is_finished, is_reset, has_dialled, priority_of}
 use Rattle.wt_seam_spec.specs.Arrivals.{may_begin, may_receive, may_come, fits, event_entry, log_bytes, log_bytes_if, log_turn}
-use Rattle.wt_seam_spec.specs.Joined.{joined}
+use Rattle.wt_seam_spec.specs.Joined.{joined_actions}
 use Rattle.wt_seam_spec.specs.Unread.{ReadPosition, AtOffset, GivenUp, is_given_up, from_position, unread}
-use Rattle.wt_streams.specs.Pieces.{AreFilled, with_piece}
-use Rattle.wt_streams.specs.StreamState.{changed, receive}
+use Rattle.wt_streams.specs.Pieces.{AreFilled}
+use Rattle.wt_streams.specs.StreamState.{with_changed, with_bytes}
 use Rattle.wt_streams.specs.StreamState.{rows}
 use Rattle.wt_seam.specs.State.{TransportState, signals_of, stream_of, state_of, Facts, IsWithin, Holds}
 use Rattle.wt_seam.specs.Step.{if_so, after_turn}
 use Rattle.wt_streams.proofs.PieceLaws.{concat_more, filled_more}
-use Rattle.wt_seam.proofs.StreamChanges.{Changes, received_unless, received, receive-changes}
+use Rattle.wt_seam.proofs.StreamChanges.{received_unless, received, receive-changes}
 use Rattle.wt_seam.proofs.Events.{with-streams, end-then, reset-then, stop-then, ack-then, credit-then, uni-then, bi-then, connected-then, datagram-then, unis-then, bis-then, limit-then, loss-then}
 use Rattle.wt_seam.proofs.KeptFacts.{facts-changed, end-facts, reset-facts, stop-facts, ack-facts, credit-facts, uni-facts, bi-facts, connected-facts, datagram-facts, unis-facts, bis-facts, limit-facts, loss-facts, received-stream}
 use Rattle.wt_seam.proofs.Fitting.{finished-exists}
@@ -87,7 +87,7 @@ module _ (side : Side) (log g : Log) (o : OnlyBytes log g) where
     datagram_fact = datagram_fact (o.events i);
     loss = loss_of (o.events i);
     streams = rows (same-stream position pieces i) (same-count i);
-    actions = joined untaken;
+    actions = joined_actions untaken;
   }
 
 -- the pieces of one stream with one more hold its bytes
@@ -155,15 +155,15 @@ module _ (side : Side) (log : Log) (position : ℕ → ReadPosition) (pieces : �
   connected = is_connected (all_events_of log)
 
   bytes-then : (b : Bool) (id : ℕ) (piece : List ℕ) → exists side log id ≡ true
-      → if_so b (record state { streams = changed (rows stream (stream_count side log)) id (receive piece) }) state ≡ state_of side (log_bytes_if b log id piece) position (pieces_if b position pieces id piece) untaken
+      → if_so b (record state { streams = with_changed (rows stream (stream_count side log)) id (with_bytes piece) }) state ≡ state_of side (log_bytes_if b log id piece) position (pieces_if b position pieces id piece) untaken
   bytes-then true id piece x =
-      with-streams state stream (stream_of log position (received position pieces id piece)) (stream_count side log) id (receive piece) x (receive-changes log position pieces id piece)
+      with-streams state stream (stream_of log position (received position pieces id piece)) (stream_count side log) id (with_bytes piece) x (receive-changes log position pieces id piece)
       ∙ sym (same-state side log (log_bytes log id piece) (only-bytes log id piece) position (received position pieces id piece) untaken)
   bytes-then false id piece x = refl
 
   bytes-facts : (b : Bool) (id : ℕ) (piece : List ℕ) → exists side log id ≡ true → (local_uni side == id % 4) ≡ false → Facts side (log_bytes_if b log id piece) position (pieces_if b position pieces id piece)
   bytes-facts true id piece x w = let o = only-bytes log id piece in
-      facts-changed side log position pieces facts (log_bytes log id piece) position (received position pieces id piece) id (receive piece) (same-count side log (log_bytes log id piece) o)
+      facts-changed side log position pieces facts (log_bytes log id piece) position (received position pieces id piece) id (with_bytes piece) (same-count side log (log_bytes log id piece) o)
       (ap initial_credit o.all_events) (ap is_connected o.all_events) (λ p. o.events ∙ facts.open_same (sym o.open_same ∙ p) ∙ sym o.all_events)
       (λ p kind. ap (λ es. if local_uni side == kind then unis_allowed es else bis_allowed es) o.all_events ∙ facts.unallowed (sym (ap is_connected o.all_events) ∙ p) kind)
       (received-stream side (stream_count side log) (initial_credit (all_events_of log)) id (stream id) x (facts.streams id) piece w)
@@ -264,18 +264,6 @@ module _ (log : Log) (position : ℕ → ReadPosition) (pieces : ℕ → List (L
   event-holds e k = same-holds log (event_entry (is_open log) e ∷ log) position pieces (event-contents (is_open log) log e) holds k
 
   pub turn-holds : (turn : Turn) (k : ℕ) → Holds (log_turn log turn) position (pieces_then log position pieces turn) k
-  turn-holds (turns.Connected uni bi n datagrams) k = event-holds _ k
-  turn-holds turns.PeerUni k = event-holds _ k
-  turn-holds turns.PeerBi k = event-holds _ k
   turn-holds (turns.Bytes id piece) k = bytes-hold-if (is_open log) id piece k
-  turn-holds (turns.End id) k = event-holds _ k
-  turn-holds (turns.Reset id code) k = event-holds _ k
-  turn-holds (turns.Stop id code) k = event-holds _ k
-  turn-holds (turns.Acked id) k = event-holds _ k
-  turn-holds (turns.Datagram piece) k = event-holds _ k
-  turn-holds (turns.MaxUni total) k = event-holds _ k
-  turn-holds (turns.MaxBi total) k = event-holds _ k
-  turn-holds (turns.MaxData id total) k = event-holds _ k
-  turn-holds (turns.DatagramLimit fact) k = event-holds _ k
-  turn-holds (turns.Loss reason) k = event-holds _ k
   turn-holds (turns.Call call) k = holds k
+  turn-holds _ k = event-holds _ k

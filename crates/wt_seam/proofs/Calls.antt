@@ -1,5 +1,5 @@
 -- Each call leads from what is kept of a log to what is kept of the log with what the call did.
-use Rattle.std.proofs.Common.{arith, ◌≡◌, ◌≢◌, ◌<◌, ◌≤◌, ◌+◌, ◌-◌, ◌*◌, ◌%◌, ℕ, ℤ, zero, suc, Bool, true, false, Some, None, List, [], ◌∷◌, length, take, drop, refl, sym, subst, ap, ◌∙◌, length-take, length-append, length-drop}
+use Rattle.std.proofs.Common.{arith, ◌≡◌, ◌≢◌, ◌<◌, ◌≤◌, ◌+◌, ◌-◌, ◌*◌, ◌%◌, ℕ, ℤ, Bool, true, false, Some, None, List, [], ◌∷◌, length, take, drop, refl, sym, subst, ap, ◌∙◌, length-take, length-drop}
 use Rattle.std.specs.Prelude.{nat_lt, is_some, ◌==◌, ◌&&◌, ◌||◌, not, if◌then◌else◌}
 use Rattle.std.specs.List.{concat, list_any}
 use Rattle.std.proofs.lemmas.Bool.Decides.{nat_tests}
@@ -11,17 +11,16 @@ use Rattle.wt_turn.specs.declared.action.Action.{Action}
 use Rattle.wt_turn.specs.declared.action.Action.TheVariants as actions
 use Rattle.wt_turn.specs.Log.{Log, Sent, Called, ResetUnsent, PrioritySet, events_of, all_events_of, actions_of, is_open, ends_by, closes, with_actions}
 use Rattle.wt_streams.specs.declared.stream.Stream.{Stream}
-use Rattle.wt_seam_spec.specs.Streams.{contents, one_more_if, peer_count, local_count, stream_count, exists, local_uni, peer_uni, can_receive, can_send}
+use Rattle.wt_seam_spec.specs.Streams.{contents, one_more_if, peer_count, local_count, stream_count, exists, peer_uni, can_send}
 use Rattle.wt_seam_spec.specs.Reports.{is_connected, end_of, initial_credit}
-use Rattle.wt_seam_spec.specs.Sent.{sent_on}
-use Rattle.wt_seam_spec.specs.Joined.{send_of, join_one, joined, newest_first}
-use Rattle.wt_seam_spec.specs.Outgoing.{streams_allowed, may_open, next_id, opened_id, opening, may_send, credit_left, covered, sending, if_open, reset_entry}
-use Rattle.wt_seam_spec.specs.Unread.{ReadPosition, AtOffset, GivenUp, from_position, unread, advance, consumed, given_up}
+use Rattle.wt_seam_spec.specs.Joined.{send_of, join_one, joined_actions, newest_first}
+use Rattle.wt_seam_spec.specs.Outgoing.{streams_allowed, may_open, next_id, opened_id, actions_to_open, may_send, credit_left, bytes_within_credit, actions_to_send, if_open, reset_entry}
+use Rattle.wt_seam_spec.specs.Unread.{ReadPosition, AtOffset, GivenUp, from_position, unread, advance, position_after, given_up}
 use Rattle.wt_streams.specs.Pieces.{AreFilled, skip}
-use Rattle.wt_streams.specs.StreamState.{fresh, has_stream, stream_at, changed, pushed, credit_of, with_sent, with_finish, with_reset, with_priority, consume, give_up}
+use Rattle.wt_streams.specs.StreamState.{fresh, stream_at, with_changed, with_pushed, credit_of, with_sent, with_finish, with_reset, with_priority, consume, give_up}
 use Rattle.wt_streams.specs.StreamState.{rows}
 use Rattle.wt_seam.specs.State.{TransportState, stream_of, state_of, IsStream, Facts, IsWithin, Holds}
-use Rattle.wt_seam.specs.Step.{may_open_now, next_id_now, opened_id_now, after_opening, may_send_now, covered_now, with_send, after_send, after_finish, after_reset, after_stop, after_priority, after_dial, after_close, after_consume, after_give_up, pieces_now, unread_now, end_now, with_action, with_change, with_new_stream, if_so}
+use Rattle.wt_seam.specs.Step.{may_open_now, next_id_now, opened_id_now, after_opening, may_send_now, covered_now, with_send, after_send, after_finish, after_reset, after_stop, after_priority, after_close, after_consume, after_give_up, pieces_now, end_now, with_action, with_change, with_new_stream, if_so}
 use Rattle.wt_seam.proofs.Bools.{first, second, not-either, where-so-three}
 use Rattle.wt_streams.proofs.PieceLaws.{drop_none, concat_skip, filled_skip}
 use Rattle.wt_streams.proofs.Rows.{rows-changed, rows-pushed}
@@ -73,19 +72,19 @@ module _ (side : Side) (log : Log) (position : ℕ → ReadPosition) (pieces : �
 
   opened-if : (b : Bool) (kind : ℕ) → kind < 4 → (if b then with_action (with_new_stream state kind) (actions.Opened (next_id_now state kind)) else state)
       ≡ state_of side (with_actions (if b then actions.Opened (next_id side log kind) ∷ [] else []) log) position pieces (newest_first (if b then actions.Opened (next_id side log kind) ∷ [] else []) untaken)
-  opened-if true kind l = λ i. record state { streams = streams-are i; actions = join_one (joined untaken) (actions.Opened (id-is kind l i)) }
+  opened-if true kind l = λ i. record state { streams = streams-are i; actions = join_one (joined_actions untaken) (actions.Opened (id-is kind l i)) }
     where
       low : next_id side log kind % 4 ≡ kind
       low = low-bits (count kind) kind l
 
-      streams-are : pushed (rows stream count) kind (fresh initial) ≡ rows stream (stream_count side (Sent (actions.Opened (next_id side log kind)) ∷ log))
+      streams-are : with_pushed (rows stream count) kind (fresh initial) ≡ rows stream (stream_count side (Sent (actions.Opened (next_id side log kind)) ∷ log))
       streams-are = sym (rows-pushed stream count (stream_count side (Sent (actions.Opened (next_id side log kind)) ∷ log)) kind (fresh initial) l
           (one-more kind (next_id side log kind) (peer_count side (all_events_of log) kind) (local_count (actions_of log) kind) low)
           (λ j d. same-count kind j (next_id side log kind) (peer_count side (all_events_of log) j) (local_count (actions_of log) j) low d)
           (next-fresh side stream count initial kind l facts.streams))
   opened-if false kind l = refl
 
-  pub opening-is : (kind : ℕ) → kind < 4 → after_opening state kind ≡ state_of side (with_actions (opening side log kind) log) position pieces (newest_first (opening side log kind) untaken)
+  pub opening-is : (kind : ℕ) → kind < 4 → after_opening state kind ≡ state_of side (with_actions (actions_to_open side log kind) log) position pieces (newest_first (actions_to_open side log kind) untaken)
   opening-is kind l = ap (λ b. if b then with_action (with_new_stream state kind) (actions.Opened (next_id_now state kind)) else state) (may-open-is kind l)
       ∙ opened-if (may_open side log kind) kind l
 
@@ -102,28 +101,28 @@ module _ (side : Side) (log : Log) (position : ℕ → ReadPosition) (pieces : �
       absurd (grind (arith, nat_tests))
   opening-facts-if false kind o c d = facts
 
-  pub opening-facts : (kind : ℕ) → Facts side (with_actions (opening side log kind) log) position pieces
+  pub opening-facts : (kind : ℕ) → Facts side (with_actions (actions_to_open side log kind) log) position pieces
   opening-facts kind = opening-facts-if (may_open side log kind) kind refl (is_connected (all_events_of log)) refl
 
   -- ---- sending
 
-  covered-is : (id : ℕ) (bytes : List ℕ) → exists side log id ≡ true → covered_now state id bytes ≡ covered log id bytes
+  covered-is : (id : ℕ) (bytes : List ℕ) → exists side log id ≡ true → covered_now state id bytes ≡ bytes_within_credit log id bytes
   covered-is id bytes x = ap (λ (s : Stream). take (credit_of s) bytes) (at-is side log position pieces untaken id x)
 
   -- one stream changes as an action goes out
   change-then : (a : Action) (id : ℕ) (u : Stream → Stream) → exists side log id ≡ true → Changes stream id u (stream_of (Sent a ∷ log) position pieces)
-      → record state { streams = changed (rows stream count) id u; actions = join_one (joined untaken) a }
-      ≡ record state { streams = rows (stream_of (Sent a ∷ log) position pieces) count; actions = join_one (joined untaken) a }
-  change-then a id u x c = ap (λ s. record state { streams = s; actions = join_one (joined untaken) a }) (sym (rows-changed stream (stream_of (Sent a ∷ log) position pieces) count id u x c))
+      → record state { streams = with_changed (rows stream count) id u; actions = join_one (joined_actions untaken) a }
+      ≡ record state { streams = rows (stream_of (Sent a ∷ log) position pieces) count; actions = join_one (joined_actions untaken) a }
+  change-then a id u x c = ap (λ s. record state { streams = s; actions = join_one (joined_actions untaken) a }) (sym (rows-changed stream (stream_of (Sent a ∷ log) position pieces) count id u x c))
 
   with-send-is : (id : ℕ) (part : List ℕ) → exists side log id ≡ true → with_send state id part ≡ state_of side (with_actions (send_of id part) log) position pieces (newest_first (send_of id part) untaken)
   with-send-is id [] x = refl
   with-send-is id (b ∷ part) x = change-then (actions.Send id (b ∷ part)) id (with_sent (length (b ∷ part))) x (send-changes log position pieces id (b ∷ part))
 
-  pub send-then : (id : ℕ) (bytes : List ℕ) → exists side log id ≡ true → after_send state id bytes ≡ state_of side (with_actions (sending log id bytes) log) position pieces (newest_first (sending log id bytes) untaken)
-  send-then id bytes x = ap (with_send state id) (covered-is id bytes x) ∙ with-send-is id (covered log id bytes) x
+  pub send-then : (id : ℕ) (bytes : List ℕ) → exists side log id ≡ true → after_send state id bytes ≡ state_of side (with_actions (actions_to_send log id bytes) log) position pieces (newest_first (actions_to_send log id bytes) untaken)
+  send-then id bytes x = ap (with_send state id) (covered-is id bytes x) ∙ with-send-is id (bytes_within_credit log id bytes) x
 
-  pub count-covered : (id : ℕ) (bytes : List ℕ) → exists side log id ≡ true → length (covered_now state id bytes) ≡ length (covered log id bytes)
+  pub count-covered : (id : ℕ) (bytes : List ℕ) → exists side log id ≡ true → length (covered_now state id bytes) ≡ length (bytes_within_credit log id bytes)
   count-covered id bytes x = ap length (covered-is id bytes x)
 
   with-send-facts : (id : ℕ) (part : List ℕ) → exists side log id ≡ true → length part ≤ credit_left log id → Facts side (with_actions (send_of id part) log) position pieces
@@ -131,8 +130,8 @@ module _ (side : Side) (log : Log) (position : ℕ → ReadPosition) (pieces : �
   with-send-facts id (b ∷ part) x l = facts-changed side log position pieces facts (Sent (actions.Send id (b ∷ part)) ∷ log) position pieces id (with_sent (length (b ∷ part))) refl refl refl (sent-same (actions.Send id (b ∷ part))) facts.unallowed
       (sent-stream side count initial id (stream id) x (facts.streams id) (length (b ∷ part)) l) (send-changes log position pieces id (b ∷ part))
 
-  pub send-facts : (id : ℕ) (bytes : List ℕ) → exists side log id ≡ true → Facts side (with_actions (sending log id bytes) log) position pieces
-  send-facts id bytes x = with-send-facts id (covered log id bytes) x (omega (arith, length-take (credit_left log id) bytes))
+  pub send-facts : (id : ℕ) (bytes : List ℕ) → exists side log id ≡ true → Facts side (with_actions (actions_to_send log id bytes) log) position pieces
+  send-facts id bytes x = with-send-facts id (bytes_within_credit log id bytes) x (omega (arith, length-take (credit_left log id) bytes))
 
   -- ---- the end of a half
 
@@ -232,20 +231,20 @@ module _ (side : Side) (log : Log) (position : ℕ → ReadPosition) (pieces : �
       ap (consume n) here ∙ sym here
   untouched false id n k e x = refl
 
-  same-stream : (id n : ℕ) → exists side log id ≡ false → (k : ℕ) → stream_of log (consumed position id n) (skipped pieces id n) k ≡ stream k
+  same-stream : (id n : ℕ) → exists side log id ≡ false → (k : ℕ) → stream_of log (position_after position id n) (skipped pieces id n) k ≡ stream k
   same-stream id n x k = consume-changes log position pieces id n k ∙ untouched (id == k) id n k refl x
 
   consume-if : (b : Bool) (id n : ℕ) → exists side log id ≡ b
-      → (if b then with_change state id (consume n) else state) ≡ state_of side log (consumed position id n) (skipped pieces id n) untaken
-  consume-if true id n x = with-streams state stream (stream_of log (consumed position id n) (skipped pieces id n)) count id (consume n) x (consume-changes log position pieces id n)
+      → (if b then with_change state id (consume n) else state) ≡ state_of side log (position_after position id n) (skipped pieces id n) untaken
+  consume-if true id n x = with-streams state stream (stream_of log (position_after position id n) (skipped pieces id n)) count id (consume n) x (consume-changes log position pieces id n)
   consume-if false id n x = λ i. record state { streams = rows (λ k. sym (same-stream id n x k) i) count }
 
-  pub consume-then : (id n : ℕ) → after_consume state id n ≡ state_of side log (consumed position id n) (skipped pieces id n) untaken
+  pub consume-then : (id n : ℕ) → after_consume state id n ≡ state_of side log (position_after position id n) (skipped pieces id n) untaken
   consume-then id n = ap (λ b. if b then with_change state id (consume n) else state) (has-is side log position pieces untaken id)
       ∙ consume-if (exists side log id) id n refl
 
-  consume-facts-if : (b : Bool) (id n : ℕ) → exists side log id ≡ b → Facts side log (consumed position id n) (skipped pieces id n)
-  consume-facts-if true id n x = facts-changed side log position pieces facts log (consumed position id n) (skipped pieces id n) id (consume n) refl refl refl facts.open_same facts.unallowed
+  consume-facts-if : (b : Bool) (id n : ℕ) → exists side log id ≡ b → Facts side log (position_after position id n) (skipped pieces id n)
+  consume-facts-if true id n x = facts-changed side log position pieces facts log (position_after position id n) (skipped pieces id n) id (consume n) refl refl refl facts.open_same facts.unallowed
       (consumed-stream side count initial id (stream id) x (facts.streams id) n) (consume-changes log position pieces id n)
   consume-facts-if false id n x = record {
     streams = λ k. subst (IsStream side count initial k) (sym (same-stream id n x k)) (facts.streams k);
@@ -254,7 +253,7 @@ module _ (side : Side) (log : Log) (position : ℕ → ReadPosition) (pieces : �
     open_same = facts.open_same;
   }
 
-  pub consume-facts : (id n : ℕ) → Facts side log (consumed position id n) (skipped pieces id n)
+  pub consume-facts : (id n : ℕ) → Facts side log (position_after position id n) (skipped pieces id n)
   consume-facts id n = consume-facts-if (exists side log id) id n refl
 
   pub give-up-then : (id : ℕ) → exists side log id ≡ true → after_give_up state id ≡ state_of side log (given_up position id) (emptied pieces id) untaken
@@ -301,7 +300,7 @@ module _ (log : Log) (position : ℕ → ReadPosition) (pieces : ℕ → List (L
       still-within (position k) n (contents log k) (holds k).within (subst (λ (j : ℕ). n ≤ length (unread log position j)) same l)
   within-if false id n k e l = (holds k).within
 
-  pub consume-holds : (id n : ℕ) → n ≤ length (unread log position id) → (k : ℕ) → Holds log (consumed position id n) (skipped pieces id n) k
+  pub consume-holds : (id n : ℕ) → n ≤ length (unread log position id) → (k : ℕ) → Holds log (position_after position id n) (skipped pieces id n) k
   consume-holds id n l k = record { bytes = bytes-if (id == k) n k; filled = filled-if (id == k) n k; within = within-if (id == k) id n k refl l }
 
   given-up-if : (b : Bool) (k : ℕ) → concat (if b then [] else pieces k) ≡ from_position (if b then GivenUp else position k) (contents log k)

@@ -15,7 +15,7 @@ use Rattle.wt_seam_spec.specs.Streams.{peer_uni, peer_bi, peer_count, local_coun
 use Rattle.wt_seam_spec.specs.Reports.{is_connected, initial_credit}
 use Rattle.wt_seam_spec.specs.Arrivals.{event_entry}
 use Rattle.wt_seam_spec.specs.Unread.{ReadPosition}
-use Rattle.wt_streams.specs.StreamState.{fresh, signal, with_end, with_stop, with_ack, with_credit, changed, pushed}
+use Rattle.wt_streams.specs.StreamState.{fresh, signal, with_end, with_stop, with_ack, with_credit, with_changed, with_pushed}
 use Rattle.wt_streams.specs.StreamState.{rows}
 use Rattle.wt_seam.specs.State.{TransportState, stream_of, state_of, IsStream, Facts}
 use Rattle.wt_seam.specs.Step.{if_so, after_event}
@@ -24,7 +24,7 @@ use Rattle.wt_seam.proofs.StreamChanges.{Changes, end-changes, reset-changes, st
 
 -- a change of one stream, in a transport that stays the same but for its streams
 pub with-streams : (t : TransportState) (f g : ℕ → Stream) (count : ℕ → ℕ) (id : ℕ) (u : Stream → Stream)
-    → nat_lt (id / 4) (count (id % 4)) ≡ true → Changes f id u g → record t { streams = changed (rows f count) id u } ≡ record t { streams = rows g count }
+    → nat_lt (id / 4) (count (id % 4)) ≡ true → Changes f id u g → record t { streams = with_changed (rows f count) id u } ≡ record t { streams = rows g count }
 with-streams t f g count id u l c = ap (λ s. record t { streams = s }) (sym (rows-changed f g count id u l c))
 
 -- the stream that is opened next is fresh
@@ -64,9 +64,9 @@ module _ (side : Side) (log : Log) (position : ℕ → ReadPosition) (pieces : �
 
   signal-is : (b : Bool) (e : Event) (id : ℕ) (f : Signals → Signals) → is_open log ≡ b → exists side log id ≡ true
       → Changes stream id (signal b f) (stream_of (event_entry b e ∷ log) position pieces)
-      → record before { streams = changed (rows stream count) id (signal (is_open log) f) }
+      → record before { streams = with_changed (rows stream count) id (signal (is_open log) f) }
       ≡ record before { streams = rows (stream_of (event_entry b e ∷ log) position pieces) count }
-  signal-is b e id f o x c = ap (λ w. record before { streams = changed (rows stream count) id (signal w f) }) o
+  signal-is b e id f o x c = ap (λ w. record before { streams = with_changed (rows stream count) id (signal w f) }) o
       ∙ with-streams before stream (stream_of (event_entry b e ∷ log) position pieces) count id (signal b f) x c
 
   pub end-then : (b : Bool) (id : ℕ) → is_open log ≡ b → exists side log id ≡ true
@@ -96,7 +96,7 @@ module _ (side : Side) (log : Log) (position : ℕ → ReadPosition) (pieces : �
 
   -- ---- streams that the peer opens
 
-  uni-pushed : Facts side log position pieces → pushed (rows stream count) (peer_uni side) (fresh (initial_credit (all_events_of log))) ≡ rows stream (stream_count side (Reported PeerUni ∷ log))
+  uni-pushed : Facts side log position pieces → with_pushed (rows stream count) (peer_uni side) (fresh (initial_credit (all_events_of log))) ≡ rows stream (stream_count side (Reported PeerUni ∷ log))
   uni-pushed facts = sym (rows-pushed stream count (stream_count side (Reported PeerUni ∷ log)) (peer_uni side) (fresh (initial_credit (all_events_of log))) (uni-below side)
       (one-more (peer_uni side) (peer_count side (all_events_of log) (peer_uni side)) (local_count (actions_of log) (peer_uni side)))
       (λ j d. same-count (peer_uni side) j (peer_count side (all_events_of log) j) (local_count (actions_of log) j) d)
@@ -106,7 +106,7 @@ module _ (side : Side) (log : Log) (position : ℕ → ReadPosition) (pieces : �
   uni-then true facts = ap (λ s. record before { streams = s }) (uni-pushed facts)
   uni-then false facts = ap (λ s. record before { streams = s }) (uni-pushed facts)
 
-  bi-pushed : Facts side log position pieces → pushed (rows stream count) (peer_bi side) (fresh (initial_credit (all_events_of log))) ≡ rows stream (stream_count side (Reported PeerBi ∷ log))
+  bi-pushed : Facts side log position pieces → with_pushed (rows stream count) (peer_bi side) (fresh (initial_credit (all_events_of log))) ≡ rows stream (stream_count side (Reported PeerBi ∷ log))
   bi-pushed facts = sym (rows-pushed stream count (stream_count side (Reported PeerBi ∷ log)) (peer_bi side) (fresh (initial_credit (all_events_of log))) (bi-below side)
       (one-more (peer_bi side) (peer_count side (all_events_of log) (peer_bi side)) (local_count (actions_of log) (peer_bi side)))
       (λ j d. same-count (peer_bi side) j (peer_count side (all_events_of log) j) (local_count (actions_of log) j) d)

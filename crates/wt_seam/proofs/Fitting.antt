@@ -108,13 +108,9 @@ module _ (side : Side) (log : Log) (position : ℕ → ReadPosition) (pieces : �
   may-come-is facts (turns.Reset id code) = bytes-is id
   may-come-is facts (turns.Stop id code) = stop-is id
   may-come-is facts (turns.Acked id) = ack-is facts id
-  may-come-is facts (turns.Datagram piece) = refl
-  may-come-is facts (turns.MaxUni total) = refl
-  may-come-is facts (turns.MaxBi total) = refl
   may-come-is facts (turns.MaxData id total) = raise-is id total
-  may-come-is facts (turns.DatagramLimit fact) = refl
   may-come-is facts (turns.Loss reason) = lost-is side reason
-  may-come-is facts (turns.Call call) = refl
+  may-come-is facts _ = refl
 
   pub fits-is : Facts side log position pieces → (turn : Turn) → fits_now state turn ≡ fits side log turn
   fits-is facts turn = ap (λ b. b && not (is_some (loss_of (all_events_of log)))) (may-come-is facts turn)

@@ -1,5 +1,5 @@
 -- A call on one half answers by its rule over what is kept as over the log that it refines.
-use Rattle.std.proofs.Common.{arith, ◌≡◌, ◌≤◌, ℕ, ℤ, Bool, true, false, List, [], ◌∷◌, ◌++◌, length, take, drop, refl, sym, subst, ap, ◌∙◌}
+use Rattle.std.proofs.Common.{arith, ◌≡◌, ◌≤◌, ℕ, ℤ, Bool, true, false, List, [], ◌∷◌, ◌++◌, length, take, drop, refl, subst, ap, ◌∙◌}
 use Rattle.std.specs.Prelude.{IsTrue, nat_lt, if◌then◌else◌}
 use Rattle.std.proofs.lemmas.Bool.Decides.{nat_tests}
 use Rattle.wt_wire.specs.declared.side.StreamEnd.{StreamEnd}
@@ -8,16 +8,15 @@ use Rattle.wt_wire.specs.declared.side.Side.{Side}
 use Rattle.wt_turn.specs.declared.action.Action.{Action}
 use Rattle.wt_turn.specs.declared.action.Action.TheVariants as actions
 use Rattle.wt_turn.specs.Log.{Log, Called, PrioritySet, is_open, with_actions}
-use Rattle.wt_streams.specs.declared.stream.Stream.{Stream}
 use Rattle.wt_seam_spec.specs.Joined.{newest_first}
-use Rattle.wt_seam_spec.specs.Outgoing.{may_send, sending, if_open, reset_entry}
+use Rattle.wt_seam_spec.specs.Outgoing.{actions_to_send, if_open, reset_entry}
 use Rattle.wt_seam_spec.specs.Unread.{ReadPosition, unread, given_up}
 use Rattle.wt_streams.specs.StreamState.{stream_at}
 use Rattle.wt_seam.specs.State.{TransportState, Refines}
 use Rattle.wt_seam.specs.Step.{can_send_now, can_receive_now, may_send_now, after_send, after_finish, after_reset, after_priority, after_stop, after_give_up, unread_now, with_action, if_so}
 use Rattle.wt_streams.specs.HalfRules.{SendingHalf, ReceivingHalf, is_closed, read_count, read_exact_count, count_of_few}
 use Rattle.wt_streams.specs.StreamState.{sending_half_of}
-use Rattle.wt_seam.specs.Rules.{sending_half, receiving_half, sending_half_now, receiving_half_now, writing, finishing, log_reset, resetting, log_priority, after_write, after_finishing, after_reset_unless_closed, after_priority_unless_closed}
+use Rattle.wt_seam.specs.Rules.{sending_half, receiving_half, sending_half_now, receiving_half_now, actions_of_write, actions_of_finish, log_reset, actions_of_reset, log_priority, after_write, after_finishing, after_reset_unless_closed, after_priority_unless_closed}
 use Rattle.wt_seam.proofs.Fitting.{at-is}
 use Rattle.wt_seam.proofs.Refining as refining
 
@@ -56,12 +55,12 @@ module _ (side : Side) (t : TransportState) (log : Log) (position : ℕ → Read
   front_kept count id old = λ i. take (count (receiving_kept id i)) (refining.refined_unread side t log position untaken r id i) ++ drop (count (receiving_kept id i)) old
 
   write-if : (b : Bool) (id : ℕ) (bytes : List ℕ) → may_send_now t id ≡ b
-      → Refines side (if b then after_send t id bytes else t) (with_actions (if b then sending log id bytes else []) log) position (newest_first (if b then sending log id bytes else []) untaken)
+      → Refines side (if b then after_send t id bytes else t) (with_actions (if b then actions_to_send log id bytes else []) log) position (newest_first (if b then actions_to_send log id bytes else []) untaken)
   write-if true id bytes e = refining.send_refines side t log position untaken r id bytes e
   write-if false id bytes e = r
 
-  pub write_refines : (id : ℕ) (bytes : List ℕ) → Refines side (after_write t id bytes) (with_actions (writing side log id bytes) log) position (newest_first (writing side log id bytes) untaken)
-  write_refines id bytes = subst (λ (b : Bool). Refines side (after_write t id bytes) (with_actions (if b then sending log id bytes else []) log) position (newest_first (if b then sending log id bytes else []) untaken))
+  pub write_refines : (id : ℕ) (bytes : List ℕ) → Refines side (after_write t id bytes) (with_actions (actions_of_write side log id bytes) log) position (newest_first (actions_of_write side log id bytes) untaken)
+  write_refines id bytes = subst (λ (b : Bool). Refines side (after_write t id bytes) (with_actions (if b then actions_to_send log id bytes else []) log) position (newest_first (if b then actions_to_send log id bytes else []) untaken))
       (refining.refined_may_send side t log position untaken r id) (write-if (may_send_now t id) id bytes refl)
 
   finish-if : (b : Bool) (id : ℕ) → may_send_now t id ≡ b
@@ -69,7 +68,7 @@ module _ (side : Side) (t : TransportState) (log : Log) (position : ℕ → Read
   finish-if true id e = refining.finish_refines side t log position untaken r id e
   finish-if false id e = r
 
-  pub finishing_refines : (id : ℕ) → Refines side (after_finishing t id) (with_actions (finishing side log id) log) position (newest_first (finishing side log id) untaken)
+  pub finishing_refines : (id : ℕ) → Refines side (after_finishing t id) (with_actions (actions_of_finish side log id) log) position (newest_first (actions_of_finish side log id) untaken)
   finishing_refines id = subst (λ (b : Bool). Refines side (after_finishing t id) (with_actions (if b then actions.Finish id ∷ [] else []) log) position (newest_first (if b then actions.Finish id ∷ [] else []) untaken))
       (refining.refined_may_send side t log position untaken r id) (finish-if (may_send_now t id) id refl)
 
@@ -79,7 +78,7 @@ module _ (side : Side) (t : TransportState) (log : Log) (position : ℕ → Read
   reset-if false id code e = refining.reset_refines side t log position untaken r id code e
 
   pub reset_half_refines : (id code : ℕ) → IsTrue (can_send_now t id)
-      → Refines side (after_reset_unless_closed t id code) (log_reset log id code) position (newest_first (resetting log id code) untaken)
+      → Refines side (after_reset_unless_closed t id code) (log_reset log id code) position (newest_first (actions_of_reset log id code) untaken)
   reset_half_refines id code e = subst (λ (h : SendingHalf). Refines side (after_reset_unless_closed t id code) (if is_closed h then log else (reset_entry log id code ∷ log)) position (newest_first (if is_closed h then [] else if_open log (actions.ResetOut id code)) untaken))
       (sending_kept id e) (reset-if (is_closed (sending_half_now t id)) id code e)
 

@@ -8,14 +8,13 @@ use Rattle.wt_wire.specs.declared.side.StreamEnd.TheVariants as ends
 use Rattle.wt_turn.specs.declared.datagram_fact.DatagramFact.{DatagramFact}
 use Rattle.wt_error.specs.declared.loss.LossReason.{LossReason}
 use Rattle.wt_turn.specs.Log.{Event, Connected, PeerUni, PeerBi, End, Reset, Stop, Acked, Datagram, MaxUni, MaxBi, MaxData, DatagramLimit, Loss, Reported, ReportedLate, Log, events_of, all_events_of, actions_of, is_open}
-use Rattle.wt_streams.specs.declared.stream.Signals.{Signals}
 use Rattle.wt_streams.specs.declared.stream.Stream.{Stream}
 use Rattle.wt_seam_spec.specs.Streams.{local_uni, peer_uni, peer_bi, peer_count, local_count, one_more_if, stream_count, exists}
 use Rattle.wt_seam_spec.specs.Reports.{is_connected, initial_credit, credit}
 use Rattle.wt_seam_spec.specs.Arrivals.{event_entry}
 use Rattle.wt_seam_spec.specs.Outgoing.{streams_allowed}
 use Rattle.wt_seam_spec.specs.Unread.{ReadPosition}
-use Rattle.wt_streams.specs.StreamState.{fresh, signal, with_end, with_stop, with_ack, with_credit, with_sent, with_finish, with_reset, with_priority, receive_unless, receive, consume, give_up, credit_of}
+use Rattle.wt_streams.specs.StreamState.{fresh, signal, with_end, with_stop, with_ack, with_credit, with_sent, with_finish, with_reset, with_priority, receive_unless, with_bytes, consume, give_up, credit_of}
 use Rattle.wt_streams.specs.Pieces.{skip}
 use Rattle.wt_seam.specs.State.{stream_of, IsStream, Facts}
 use Rattle.wt_seam.proofs.StreamChanges.{Changes, end-changes, reset-changes, stop-changes, ack-changes, credit-changes}
@@ -50,7 +49,7 @@ module _ (side : Side) (count : ℕ → ℕ) (initial id : ℕ) (s : Stream) (x 
   received-if true bytes w = i
   received-if false bytes w = record { unopened = λ n. absurd (cc); sent = i.sent; one_way = λ o. absurd (cc) }
 
-  pub received-stream : (bytes : List ℕ) → (local_uni side == id % 4) ≡ false → IsStream side count initial id (receive bytes s)
+  pub received-stream : (bytes : List ℕ) → (local_uni side == id % 4) ≡ false → IsStream side count initial id (with_bytes bytes s)
   received-stream bytes w = received-if s.given_up bytes w
 
   pub consumed-stream : (n : ℕ) → IsStream side count initial id (consume n s)

@@ -1,8 +1,7 @@
 -- A transport that refines a log tells what the log says, and after each call refines the longer one.
 use Rattle.std.proofs.Common.{arith, ◌≡◌, ◌<◌, ◌≤◌, ◌+◌, ◌*◌, ◌%◌, ℕ, ℤ, Bool, true, false, List, [], ◌∷◌, ◌++◌, length, take, min, refl, sym, subst, ap, ◌∙◌, length-take}
-use Rattle.std.specs.Prelude.{Option, IsTrue, nat_lt, is_some, ◌==◌, ◌&&◌, not, if◌then◌else◌}
+use Rattle.std.specs.Prelude.{IsTrue, is_some, ◌==◌, ◌&&◌, not, if◌then◌else◌}
 use Rattle.std.specs.List.{concat}
-use Rattle.std.proofs.lemmas.Bool.Decides.{nat_tests}
 use Rattle.wt_wire.specs.declared.side.Side.{Side}
 use Rattle.wt_wire.specs.declared.side.Side.TheVariants.{Client, Server}
 use Rattle.wt_wire.specs.declared.side.StreamEnd.TheVariants as ends
@@ -11,14 +10,14 @@ use Rattle.wt_turn.specs.declared.action.Action.{Action}
 use Rattle.wt_turn.specs.declared.action.Action.TheVariants as actions
 use Rattle.wt_turn.specs.declared.turn.Turn.{Turn}
 use Rattle.wt_turn.specs.declared.turn.Turn.TheVariants as turns
-use Rattle.wt_turn.specs.Log.{Log, Sent, Called, ResetUnsent, PrioritySet, events_of, all_events_of, actions_of, is_open, with_actions}
+use Rattle.wt_turn.specs.Log.{Log, Sent, Called, ResetUnsent, PrioritySet, events_of, is_open, with_actions}
 use Rattle.wt_streams.specs.declared.stream.Stream.{Stream}
 use Rattle.wt_seam_spec.specs.Streams.{local_bi, local_uni, peer_uni, exists, contents, can_send, can_receive}
 use Rattle.wt_seam_spec.specs.Reports.{end_of, datagram_fact, loss_of}
 use Rattle.wt_seam_spec.specs.Arrivals.{fits, log_turn}
-use Rattle.wt_seam_spec.specs.Joined.{joined, newest_first}
-use Rattle.wt_seam_spec.specs.Outgoing.{may_open, may_send, opening, opened_id, credit_left, covered, sending, if_open, reset_entry}
-use Rattle.wt_seam_spec.specs.Unread.{ReadPosition, unread, at_start, consumed, given_up, IsFront}
+use Rattle.wt_seam_spec.specs.Joined.{joined_actions, newest_first}
+use Rattle.wt_seam_spec.specs.Outgoing.{may_send, actions_to_open, opened_id, credit_left, bytes_within_credit, actions_to_send, if_open, reset_entry}
+use Rattle.wt_seam_spec.specs.Unread.{ReadPosition, unread, at_start, position_after, given_up, IsFront}
 use Rattle.wt_streams.specs.Pieces.{AreFilled, first_piece}
 use Rattle.wt_streams.specs.StreamState.{stream_at}
 use Rattle.wt_seam.specs.State.{TransportState, state_of, Facts, Holds, Refines}
@@ -132,8 +131,8 @@ module _ (side : Side) (t : TransportState) (log : Log) (position : ℕ → Read
   pub refined_loss : t.loss ≡ loss_of (events_of log)
   refined_loss = kept-gives (λ u. u.loss) (loss_of (events_of log)) refl
 
-  pub refined_actions : t.actions ≡ joined untaken
-  refined_actions = kept-gives (λ u. u.actions) (joined untaken) refl
+  pub refined_actions : t.actions ≡ joined_actions untaken
+  refined_actions = kept-gives (λ u. u.actions) (joined_actions untaken) refl
 
   pub refined_may_send : (id : ℕ) → may_send_now t id ≡ may_send side log id
   refined_may_send id = kept-gives (λ u. may_send_now u id) (may_send side log id) (may-send-is side log position r.pieces untaken r.facts id)
@@ -167,7 +166,7 @@ module _ (side : Side) (t : TransportState) (log : Log) (position : ℕ → Read
       (first (t.is_open && can_send_now t id && not (stream_at t.streams id).finished && not (stream_at t.streams id).reset) (not (is_some (stream_at t.streams id).signals.stop)) e))))
 
   pub refined_sent : (id : ℕ) (bytes : List ℕ) → IsTrue (may_send_now t id) → length (covered_now t id bytes) ≡ min (length bytes) (credit_left log id)
-  refined_sent id bytes e = kept-gives (λ u. length (covered_now u id bytes)) (length (covered log id bytes)) (count-covered side log position r.pieces untaken r.facts id bytes (sending-exists id e))
+  refined_sent id bytes e = kept-gives (λ u. length (covered_now u id bytes)) (length (bytes_within_credit log id bytes)) (count-covered side log position r.pieces untaken r.facts id bytes (sending-exists id e))
       ∙ take-min (credit_left log id) bytes
 
   -- ---- what it refines after a turn or a call
@@ -184,21 +183,21 @@ module _ (side : Side) (t : TransportState) (log : Log) (position : ℕ → Read
   with-contents : (later : List Action) → contents (with_actions later log) ≡ contents log
   with-contents later = actions-contents later log
 
-  opening_refines : (kind : ℕ) → kind < 4 → Refines side (after_opening t kind) (with_actions (opening side log kind) log) position (newest_first (opening side log kind) untaken)
-  opening_refines kind l = refines-after (λ u. after_opening u kind) (with_actions (opening side log kind) log) position r.pieces (newest_first (opening side log kind) untaken)
-      (opening-is side log position r.pieces untaken r.facts kind l) (opening-facts side log position r.pieces untaken r.facts kind) (held-by _ (with-contents (opening side log kind)))
+  opening_refines : (kind : ℕ) → kind < 4 → Refines side (after_opening t kind) (with_actions (actions_to_open side log kind) log) position (newest_first (actions_to_open side log kind) untaken)
+  opening_refines kind l = refines-after (λ u. after_opening u kind) (with_actions (actions_to_open side log kind) log) position r.pieces (newest_first (actions_to_open side log kind) untaken)
+      (opening-is side log position r.pieces untaken r.facts kind l) (opening-facts side log position r.pieces untaken r.facts kind) (held-by _ (with-contents (actions_to_open side log kind)))
 
-  pub uni_refines : Refines side (after_opening t (local_uni t.side)) (with_actions (opening side log (local_uni side)) log) position (newest_first (opening side log (local_uni side)) untaken)
-  uni_refines = subst (λ (w : Side). Refines side (after_opening t (local_uni w)) (with_actions (opening side log (local_uni side)) log) position (newest_first (opening side log (local_uni side)) untaken))
+  pub uni_refines : Refines side (after_opening t (local_uni t.side)) (with_actions (actions_to_open side log (local_uni side)) log) position (newest_first (actions_to_open side log (local_uni side)) untaken)
+  uni_refines = subst (λ (w : Side). Refines side (after_opening t (local_uni w)) (with_actions (actions_to_open side log (local_uni side)) log) position (newest_first (actions_to_open side log (local_uni side)) untaken))
       (sym refined_side) (opening_refines (local_uni side) (uni-below side))
 
-  pub bi_refines : Refines side (after_opening t (local_bi t.side)) (with_actions (opening side log (local_bi side)) log) position (newest_first (opening side log (local_bi side)) untaken)
-  bi_refines = subst (λ (w : Side). Refines side (after_opening t (local_bi w)) (with_actions (opening side log (local_bi side)) log) position (newest_first (opening side log (local_bi side)) untaken))
+  pub bi_refines : Refines side (after_opening t (local_bi t.side)) (with_actions (actions_to_open side log (local_bi side)) log) position (newest_first (actions_to_open side log (local_bi side)) untaken)
+  bi_refines = subst (λ (w : Side). Refines side (after_opening t (local_bi w)) (with_actions (actions_to_open side log (local_bi side)) log) position (newest_first (actions_to_open side log (local_bi side)) untaken))
       (sym refined_side) (opening_refines (local_bi side) (bi-below side))
 
-  pub send_refines : (id : ℕ) (bytes : List ℕ) → IsTrue (may_send_now t id) → Refines side (after_send t id bytes) (with_actions (sending log id bytes) log) position (newest_first (sending log id bytes) untaken)
-  send_refines id bytes e = refines-after (λ u. after_send u id bytes) (with_actions (sending log id bytes) log) position r.pieces (newest_first (sending log id bytes) untaken)
-      (send-then side log position r.pieces untaken r.facts id bytes (sending-exists id e)) (send-facts side log position r.pieces untaken r.facts id bytes (sending-exists id e)) (held-by _ (with-contents (sending log id bytes)))
+  pub send_refines : (id : ℕ) (bytes : List ℕ) → IsTrue (may_send_now t id) → Refines side (after_send t id bytes) (with_actions (actions_to_send log id bytes) log) position (newest_first (actions_to_send log id bytes) untaken)
+  send_refines id bytes e = refines-after (λ u. after_send u id bytes) (with_actions (actions_to_send log id bytes) log) position r.pieces (newest_first (actions_to_send log id bytes) untaken)
+      (send-then side log position r.pieces untaken r.facts id bytes (sending-exists id e)) (send-facts side log position r.pieces untaken r.facts id bytes (sending-exists id e)) (held-by _ (with-contents (actions_to_send log id bytes)))
 
   pub finish_refines : (id : ℕ) → IsTrue (may_send_now t id) → Refines side (after_finish t id) (Sent (actions.Finish id) ∷ log) position (actions.Finish id ∷ untaken)
   finish_refines id e = refines-after (λ u. after_finish u id) (Sent (actions.Finish id) ∷ log) position r.pieces (actions.Finish id ∷ untaken)
@@ -235,10 +234,10 @@ module _ (side : Side) (t : TransportState) (log : Log) (position : ℕ → Read
   pub taken_refines : Refines side (record t { actions = [] }) log position []
   taken_refines = refines-after (λ u. record u { actions = [] }) log position r.pieces [] refl r.facts r.holds
 
-  pub consume_refines : (id count : ℕ) → count ≤ length (unread_now t id) → Refines side (after_consume t id count) log (consumed position id count) untaken
+  pub consume_refines : (id count : ℕ) → count ≤ length (unread_now t id) → Refines side (after_consume t id count) log (position_after position id count) untaken
   consume_refines id count l =
       let few : count ≤ length (unread log position id) = subst (λ (xs : List ℕ). count ≤ length xs) (refined_unread id) l in
-      refines-after (λ u. after_consume u id count) log (consumed position id count) (skipped r.pieces id count) untaken
+      refines-after (λ u. after_consume u id count) log (position_after position id count) (skipped r.pieces id count) untaken
       (consume-then side log position r.pieces untaken r.facts id count) (consume-facts side log position r.pieces untaken r.facts id count) (consume-holds log position r.pieces r.holds id count few)
 
   pub give_up_refines : (id : ℕ) → IsTrue (can_receive_now t id) → Refines side (after_give_up t id) log (given_up position id) untaken

@@ -10,9 +10,9 @@ use Rattle.wt_streams.specs.declared.stream.Stream.{Stream}
 use Rattle.wt_seam_spec.specs.Reports.{end_reported, credit_reported}
 use Rattle.wt_seam_spec.specs.Sent.{sent_on, priority_set}
 use Rattle.wt_seam_spec.specs.Arrivals.{event_entry}
-use Rattle.wt_seam_spec.specs.Unread.{ReadPosition, AtOffset, GivenUp, is_given_up, advance, consumed, given_up}
+use Rattle.wt_seam_spec.specs.Unread.{ReadPosition, AtOffset, GivenUp, is_given_up, advance, position_after, given_up}
 use Rattle.wt_streams.specs.Pieces.{with_piece, skip}
-use Rattle.wt_streams.specs.StreamState.{signal, with_ack, with_credit, with_end, with_finish, with_priority, with_reset, with_sent, with_stop, receive, consume, give_up}
+use Rattle.wt_streams.specs.StreamState.{signal, with_ack, with_credit, with_end, with_finish, with_priority, with_reset, with_sent, with_stop, with_bytes, consume, give_up}
 use Rattle.wt_seam.specs.State.{stream_of}
 
 -- another function differs from the first at one id alone, by this change
@@ -130,13 +130,13 @@ abbrev pub emptied : (ℕ → List (List ℕ)) → ℕ → ℕ → List (List �
 emptied pieces id k = if id == k then [] else pieces k
 
 receive-if : (b gone : Bool) (s : Stream) (piece : List ℕ) → record s { unread = if b then received_unless gone s.unread piece else s.unread; given_up = gone }
-    ≡ (if b then receive piece (record s { given_up = gone }) else record s { given_up = gone })
+    ≡ (if b then with_bytes piece (record s { given_up = gone }) else record s { given_up = gone })
 receive-if true true s piece = refl
 receive-if true false s piece = refl
 receive-if false gone s piece = refl
 
 pub receive-changes : (log : Log) (position : ℕ → ReadPosition) (pieces : ℕ → List (List ℕ)) (id : ℕ) (piece : List ℕ)
-    → Changes (stream_of log position pieces) id (receive piece) (stream_of log position (received position pieces id piece))
+    → Changes (stream_of log position pieces) id (with_bytes piece) (stream_of log position (received position pieces id piece))
 receive-changes log position pieces id piece k = receive-if (id == k) (is_given_up (position k)) (stream_of log position pieces k) piece
 
 consume-if : (b : Bool) (s : Stream) (at : ReadPosition) (count : ℕ) → record s { unread = if b then skip count s.unread else s.unread; given_up = is_given_up (if b then advance count at else at) }
@@ -146,7 +146,7 @@ consume-if true s GivenUp count = refl
 consume-if false s at count = refl
 
 pub consume-changes : (log : Log) (position : ℕ → ReadPosition) (pieces : ℕ → List (List ℕ)) (id count : ℕ)
-    → Changes (stream_of log position pieces) id (consume count) (stream_of log (consumed position id count) (skipped pieces id count))
+    → Changes (stream_of log position pieces) id (consume count) (stream_of log (position_after position id count) (skipped pieces id count))
 consume-changes log position pieces id count k = consume-if (id == k) (stream_of log position pieces k) (position k) count
 
 give-up-if : (b : Bool) (s : Stream) (at : ReadPosition) → record s { unread = if b then [] else s.unread; given_up = is_given_up (if b then GivenUp else at) }

@@ -6,7 +6,7 @@ use Rattle.wt_turn.specs.declared.action.Action.TheVariants as actions
 use Rattle.wt_turn.specs.Log.{Log, Called, PrioritySet, is_open, events_of, actions_of, calls_of}
 use Rattle.wt_seam_spec.specs.Reports.{end_of, stop_of, is_acknowledged}
 use Rattle.wt_seam_spec.specs.Sent.{is_finished, is_reset, priority_of}
-use Rattle.wt_seam_spec.specs.Outgoing.{credit_left, may_send, sending, if_open, reset_entry}
+use Rattle.wt_seam_spec.specs.Outgoing.{credit_left, may_send, actions_to_send, if_open, reset_entry}
 use Rattle.wt_seam_spec.specs.Unread.{ReadPosition, unread}
 use Rattle.wt_streams.specs.HalfRules.{SendingHalf, ReceivingHalf, is_closed}
 use Rattle.wt_streams.specs.StreamState.{stream_at, sending_half_of}
@@ -39,20 +39,20 @@ abbrev pub may_write : Log → ℕ → Bool
 may_write log k = is_writable (is_open log) (sending_half log k)
 
 -- what a write of these bytes sends
-abbrev pub writing : Side → Log → ℕ → List ℕ → List Action
-writing side log k bytes = if may_send side log k then sending log k bytes else []
+abbrev pub actions_of_write : Side → Log → ℕ → List ℕ → List Action
+actions_of_write side log k bytes = if may_send side log k then actions_to_send log k bytes else []
 
 -- what a finish sends
-abbrev pub finishing : Side → Log → ℕ → List Action
-finishing side log k = if may_send side log k then actions.Finish k ∷ [] else []
+abbrev pub actions_of_finish : Side → Log → ℕ → List Action
+actions_of_finish side log k = if may_send side log k then actions.Finish k ∷ [] else []
 
 -- the log after a reset, which counts only on a half that isn't closed
 abbrev pub log_reset : Log → ℕ → ℕ → Log
 log_reset log k code = if is_closed (sending_half log k) then log else reset_entry log k code ∷ log
 
 -- what a reset sends
-abbrev pub resetting : Log → ℕ → ℕ → List Action
-resetting log k code = if is_closed (sending_half log k) then [] else if_open log (actions.ResetOut k code)
+abbrev pub actions_of_reset : Log → ℕ → ℕ → List Action
+actions_of_reset log k code = if is_closed (sending_half log k) then [] else if_open log (actions.ResetOut k code)
 
 -- the log after a priority was set, which counts only on a half that isn't closed
 abbrev pub log_priority : Log → ℕ → ℤ → Log

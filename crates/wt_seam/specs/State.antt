@@ -12,7 +12,7 @@ use Rattle.wt_streams.specs.declared.stream.Stream.{Stream}
 use Rattle.wt_seam_spec.specs.Streams.{contents, stream_count, local_uni}
 use Rattle.wt_seam_spec.specs.Reports.{end_of, stop_of, is_acknowledged, credit, initial_credit, is_connected, unis_allowed, bis_allowed, datagram_fact, loss_of}
 use Rattle.wt_seam_spec.specs.Sent.{sent_on, is_finished, is_reset, has_dialled, priority_of}
-use Rattle.wt_seam_spec.specs.Joined.{joined}
+use Rattle.wt_seam_spec.specs.Joined.{joined_actions}
 use Rattle.wt_seam_spec.specs.Outgoing.{streams_allowed}
 use Rattle.wt_seam_spec.specs.Unread.{ReadPosition, AtOffset, GivenUp, is_given_up, unread}
 use Rattle.wt_streams.specs.Pieces.{AreFilled}
@@ -67,7 +67,7 @@ state_of side log position pieces untaken = record {
   datagram_fact = datagram_fact (events_of log);
   loss = loss_of (events_of log);
   streams = rows (stream_of log position pieces) (stream_count side log);
-  actions = joined untaken;
+  actions = joined_actions untaken;
 }
 
 -- ---- what holds of every log whose turns fit

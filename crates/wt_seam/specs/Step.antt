@@ -11,11 +11,11 @@ use Rattle.wt_turn.specs.declared.turn.Turn.TheVariants as turns
 use Rattle.wt_turn.specs.declared.action.Action.{Action}
 use Rattle.wt_turn.specs.declared.action.Action.TheVariants as actions
 use Rattle.wt_turn.specs.Log.{Event, Connected, PeerUni, PeerBi, End, Reset, Stop, Acked, Datagram, MaxUni, MaxBi, MaxData, DatagramLimit, Loss}
+use Rattle.wt_turn.specs.Turns.{event_of}
 use Rattle.wt_streams.specs.declared.stream.Stream.{Stream}
 use Rattle.wt_seam_spec.specs.Streams.{local_uni, peer_uni, peer_bi}
 use Rattle.wt_seam_spec.specs.Reports.{is_running}
 use Rattle.wt_seam_spec.specs.Joined.{join_one}
-use Rattle.wt_streams.specs.Pieces.{first_piece}
 use Rattle.wt_streams.specs.StreamState as stream
 use Rattle.wt_seam.specs.State.{TransportState}
 
@@ -93,11 +93,11 @@ fits_now t turn = may_come_now t turn && not t.is_lost
 
 -- one stream is changed
 abbrev pub with_change : TransportState → ℕ → (Stream → Stream) → TransportState
-with_change t id f = record t { streams = stream.changed t.streams id f }
+with_change t id f = record t { streams = stream.with_changed t.streams id f }
 
 -- a stream of this kind is opened
 abbrev pub with_new_stream : TransportState → ℕ → TransportState
-with_new_stream t kind = record t { streams = stream.pushed t.streams kind (stream.fresh t.initial_credit) }
+with_new_stream t kind = record t { streams = stream.with_pushed t.streams kind (stream.fresh t.initial_credit) }
 
 -- the new where the test holds, else the old
 abbrev pub if_so : {T : Type 0} → Bool → T → T → T
@@ -123,25 +123,17 @@ after_event t (Loss reason) = record t { is_open = false; is_lost = true; loss =
 
 -- after bytes for a stream
 abbrev pub after_bytes : TransportState → ℕ → List ℕ → TransportState
-after_bytes t id piece = if_so t.is_open (with_change t id (stream.receive piece)) t
+after_bytes t id piece = if_so t.is_open (with_change t id (stream.with_bytes piece)) t
+
+-- after what a turn tells, if it tells an event
+abbrev pub after_told : TransportState → Option Event → TransportState
+after_told t (Some e) = after_event t e
+after_told t None = t
 
 -- after a turn of the transport
 abbrev pub after_turn : TransportState → Turn → TransportState
-after_turn t (turns.Connected uni bi credit datagrams) = after_event t (Connected uni bi credit datagrams)
-after_turn t turns.PeerUni = after_event t PeerUni
-after_turn t turns.PeerBi = after_event t PeerBi
 after_turn t (turns.Bytes id piece) = after_bytes t id piece
-after_turn t (turns.End id) = after_event t (End id)
-after_turn t (turns.Reset id code) = after_event t (Reset id code)
-after_turn t (turns.Stop id code) = after_event t (Stop id code)
-after_turn t (turns.Acked id) = after_event t (Acked id)
-after_turn t (turns.Datagram piece) = after_event t (Datagram piece)
-after_turn t (turns.MaxUni total) = after_event t (MaxUni total)
-after_turn t (turns.MaxBi total) = after_event t (MaxBi total)
-after_turn t (turns.MaxData id total) = after_event t (MaxData id total)
-after_turn t (turns.DatagramLimit fact) = after_event t (DatagramLimit fact)
-after_turn t (turns.Loss reason) = after_event t (Loss reason)
-after_turn t (turns.Call call) = t
+after_turn t turn = after_told t (event_of turn)
 
 -- ---- what goes out
 

@@ -4,12 +4,12 @@ ghost use Rattle.wt_turn.specs.declared.action.Action.TheVariants as actions;
 ghost use Rattle.wt_turn.specs.Log.{is_open, with_actions};
 ghost use Rattle.wt_seam_spec.specs.Joined.{newest_first};
 ghost use Rattle.wt_seam_spec.specs.Outgoing.{if_open};
-ghost use Rattle.wt_seam_spec.specs.Unread.{consumed, given_up, unread};
+ghost use Rattle.wt_seam_spec.specs.Unread.{position_after, given_up, unread};
 ghost use Rattle.wt_seam.specs.OfLog.{OfEachLog, SendsIfOk, Tells, TellsUnread};
 ghost use Rattle.wt_seam.specs.State.{Refines};
 ghost use Rattle.wt_seam.specs.Step.{after_consume, after_give_up, after_stop, can_receive_now, can_send_now, unread_now};
 ghost use Rattle.wt_streams.specs.HalfRules.{finish_answer, priority_answer, read_answer, read_count, read_exact_answer, read_exact_count, reset_answer, stopped_answer, write_all_answer, write_answer};
-ghost use Rattle.wt_seam.specs.Rules.{after_finishing, after_priority_unless_closed, after_reset_unless_closed, after_write, finishing, log_priority, log_reset, may_write, may_write_now, receiving_half, receiving_half_now, resetting, sending_half, sending_half_now, writing};
+ghost use Rattle.wt_seam.specs.Rules.{after_finishing, after_priority_unless_closed, after_reset_unless_closed, after_write, actions_of_finish, log_priority, log_reset, may_write, may_write_now, receiving_half, receiving_half_now, actions_of_reset, sending_half, sending_half_now, actions_of_write};
 
 use crate::transport::Transport;
 use wt_turn::poll::Poll;
@@ -56,7 +56,7 @@ impl QuicSendStream {
         ensures state { OnOk result (t.new ≡ after_write t.old self.old.id bytes.now) }
         ensures err { OnErr result (t.new ≡ t.old) }
         ensures log_answer { Tells t.old (λ side log. IfOk result (λ a. a ≡ write_answer (is_open log) (sending_half log self.old.id) bytes.now)) }
-        ensures log { SendsIfOk result t.old t.new (λ side log. writing side log self.old.id bytes.now) }
+        ensures log { SendsIfOk result t.old t.new (λ side log. actions_of_write side log self.old.id bytes.now) }
         ensures same { self.new ≡ self.old }
     {
         t.write(self.id, bytes)
@@ -74,7 +74,7 @@ impl QuicSendStream {
         ensures state { OnOk result (t.new ≡ after_write t.old self.old.id bytes.now) }
         ensures err { OnErr result (t.new ≡ t.old) }
         ensures log_answer { Tells t.old (λ side log. IfOk result (λ a. a ≡ write_all_answer (is_open log) (sending_half log self.old.id) bytes.now)) }
-        ensures log { SendsIfOk result t.old t.new (λ side log. writing side log self.old.id bytes.now) }
+        ensures log { SendsIfOk result t.old t.new (λ side log. actions_of_write side log self.old.id bytes.now) }
         ensures same { self.new ≡ self.old }
     {
         t.write_all(self.id, bytes)
@@ -102,7 +102,7 @@ impl QuicSendStream {
         ensures state { OnOk result (t.new ≡ after_finishing t.old self.old.id) }
         ensures err { OnErr result (t.new ≡ t.old) }
         ensures log_answer { Tells t.old (λ side log. IfOk result (λ a. a ≡ finish_answer (is_open log) (sending_half log self.old.id))) }
-        ensures log { SendsIfOk result t.old t.new (λ side log. finishing side log self.old.id) }
+        ensures log { SendsIfOk result t.old t.new (λ side log. actions_of_finish side log self.old.id) }
         ensures same { self.new ≡ self.old }
     {
         t.finish_half(self.id)
@@ -119,7 +119,7 @@ impl QuicSendStream {
         ensures state { OnOk result (t.new ≡ after_reset_unless_closed t.old self.old.id code) }
         ensures err { OnErr result (t.new ≡ t.old) }
         ensures log_answer { Tells t.old (λ side log. IfOk result (λ a. a ≡ reset_answer (sending_half log self.old.id))) }
-        ensures log { OfEachLog t.old (λ side log position untaken. OnOk result (Refines side t.new (log_reset log self.old.id code) position (newest_first (resetting log self.old.id code) untaken))) }
+        ensures log { OfEachLog t.old (λ side log position untaken. OnOk result (Refines side t.new (log_reset log self.old.id code) position (newest_first (actions_of_reset log self.old.id code) untaken))) }
         ensures same { self.new ≡ self.old }
     {
         t.reset_half(self.id, code)
@@ -194,7 +194,7 @@ impl QuicRecvStream {
         ensures state { t.new ≡ after_consume t.old self.old.id (read_count (receiving_half_now t.old self.old.id) (length buffer.old)) }
         ensures log_answer { TellsUnread t.old (λ side log position. result ≡ read_answer (is_open log) (receiving_half log position self.old.id) (length buffer.old)) }
         ensures log_bytes { TellsUnread t.old (λ side log position. buffer.new ≡ take (read_count (receiving_half log position self.old.id) (length buffer.old)) (unread log position self.old.id) ++ drop (read_count (receiving_half log position self.old.id) (length buffer.old)) buffer.old) }
-        ensures log { OfEachLog t.old (λ side log position untaken. Refines side t.new log (consumed position self.old.id (read_count (receiving_half log position self.old.id) (length buffer.old))) untaken) }
+        ensures log { OfEachLog t.old (λ side log position untaken. Refines side t.new log (position_after position self.old.id (read_count (receiving_half log position self.old.id) (length buffer.old))) untaken) }
         ensures same { self.new ≡ self.old }
     {
         t.read(self.id, buffer)
@@ -214,7 +214,7 @@ impl QuicRecvStream {
         ensures state { t.new ≡ after_consume t.old self.old.id (read_exact_count (receiving_half_now t.old self.old.id) (length buffer.old)) }
         ensures log_answer { TellsUnread t.old (λ side log position. result ≡ read_exact_answer (is_open log) (receiving_half log position self.old.id) (length buffer.old)) }
         ensures log_bytes { TellsUnread t.old (λ side log position. buffer.new ≡ take (read_exact_count (receiving_half log position self.old.id) (length buffer.old)) (unread log position self.old.id) ++ drop (read_exact_count (receiving_half log position self.old.id) (length buffer.old)) buffer.old) }
-        ensures log { OfEachLog t.old (λ side log position untaken. Refines side t.new log (consumed position self.old.id (read_exact_count (receiving_half log position self.old.id) (length buffer.old))) untaken) }
+        ensures log { OfEachLog t.old (λ side log position untaken. Refines side t.new log (position_after position self.old.id (read_exact_count (receiving_half log position self.old.id) (length buffer.old))) untaken) }
         ensures same { self.new ≡ self.old }
     {
         t.read_exact(self.id, buffer)

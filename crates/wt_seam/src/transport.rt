@@ -3,7 +3,7 @@ ghost use Rattle.std.specs.Prelude.{◌≡◌, ◌<◌, ◌≤◌, ◌^◌, ◌+
 ghost use Rattle.wt_turn.specs.Log.{events_of, is_open};
 ghost use Rattle.wt_seam_spec.specs.Streams.{local_bi, local_uni, peer_bi, peer_uni};
 ghost use Rattle.wt_seam_spec.specs.Reports.{datagram_fact, loss_of};
-ghost use Rattle.wt_seam_spec.specs.Joined.{joined};
+ghost use Rattle.wt_seam_spec.specs.Joined.{joined_actions};
 ghost use Rattle.wt_seam_spec.specs.Outgoing.{if_open};
 ghost use Rattle.wt_seam_spec.specs.Unread.{at_start};
 ghost use Rattle.wt_streams.specs.StreamState.{has_stream, stream_at};
@@ -306,7 +306,7 @@ impl Transport {
     pub fn take_actions(&mut self) -> Actions
         ensures actions { result ≡ self.old.actions }
         ensures state { self.new ≡ record self.old { actions = [] } }
-        ensures log_actions { OfEachLog self.old (λ side log position untaken. result ≡ joined untaken) }
+        ensures log_actions { OfEachLog self.old (λ side log position untaken. result ≡ joined_actions untaken) }
         ensures log { TellsUnread self.old (λ side log position. Refines side self.new log position []) }
     {
         self.take_actions_now()

@@ -1,6 +1,6 @@
 -- Which actions a call may send.
 use Rattle.std.specs.Prelude.{◌≡◌, [], ◌∷◌, List, Some, if◌then◌else◌, true, ℕ}
-use Rattle.wt_seam_spec.specs.Outgoing.{may_send, opened_id, sending}
+use Rattle.wt_seam_spec.specs.Outgoing.{may_send, opened_id, actions_to_send}
 use Rattle.wt_seam_spec.specs.Streams.{can_receive, can_send, local_bi, local_uni}
 use Rattle.wt_turn.specs.Log.{Log, Sent, is_open}
 use Rattle.wt_turn.specs.declared.action.Action.{Action}
@@ -17,7 +17,7 @@ local_kind side id = if is_bidirectional id then local_bi side else local_uni si
 abbrev pub MayAct : Side → Log → Action → Type 0
 MayAct side log (actions.Dial address name) = is_open log ≡ true
 MayAct side log (actions.Opened id) = opened_id side log (local_kind side id) ≡ Some id
-MayAct side log (actions.Send id piece) = (may_send side log id ≡ true) × (sending log id piece ≡ actions.Send id piece ∷ [])
+MayAct side log (actions.Send id piece) = (may_send side log id ≡ true) × (actions_to_send log id piece ≡ actions.Send id piece ∷ [])
 MayAct side log (actions.Finish id) = may_send side log id ≡ true
 MayAct side log (actions.ResetOut id code) = (is_open log ≡ true) × (can_send side log id ≡ true)
 MayAct side log (actions.StopOut id code) = (is_open log ≡ true) × (can_receive side log id ≡ true)

@@ -1,11 +1,12 @@
 -- Which turn of the transport may come next, and what it adds to the log. Turns after the end are judged as if they
 -- counted, and then change nothing else.
-use Rattle.std.specs.Prelude.{ℕ, ◌^◌, List, [], ◌∷◌, Bool, true, false, nat_lt, is_some, ◌&&◌, not}
+use Rattle.std.specs.Prelude.{ℕ, ◌^◌, List, [], ◌∷◌, Bool, true, false, nat_lt, Option, None, Some, is_some, ◌&&◌, not}
 use Rattle.wt_wire.specs.declared.side.Side.{Side}
 use Rattle.wt_wire.specs.declared.side.Side.TheVariants.{Client, Server}
 use Rattle.wt_turn.specs.declared.turn.Turn.{Turn}
 use Rattle.wt_turn.specs.declared.turn.Turn.TheVariants as turns
-use Rattle.wt_turn.specs.Log.{Event, Connected, PeerUni, PeerBi, End, Reset, Stop, Acked, Datagram, MaxUni, MaxBi, MaxData, DatagramLimit, Loss, Entry, Received, Reported, ReportedLate, Log, all_events_of, actions_of, is_open}
+use Rattle.wt_turn.specs.Log.{Event, Entry, Received, Reported, ReportedLate, Log, all_events_of, actions_of, is_open}
+use Rattle.wt_turn.specs.Turns.{event_of}
 use Rattle.wt_seam_spec.specs.Reports.{end_of, stop_of, is_acknowledged, credit, is_connected, unis_allowed, bis_allowed, loss_of, is_running}
 use Rattle.wt_seam_spec.specs.Sent.{is_finished, is_reset, has_dialled}
 use Rattle.wt_seam_spec.specs.Streams.{peer_uni, peer_bi, stream_count, can_receive, can_send}
@@ -75,20 +76,12 @@ abbrev pub log_bytes_if : Bool → Log → ℕ → List ℕ → Log
 log_bytes_if true log id piece = log_bytes log id piece
 log_bytes_if false log id piece = log
 
+-- the log after what a turn tells, if it tells an event
+abbrev pub log_told : Log → Option Event → Log
+log_told log (Some e) = log_event log e
+log_told log None = log
+
 -- the log after a turn of the transport: its event, or its bytes, which are left out once the connection has ended
 abbrev pub log_turn : Log → Turn → Log
-log_turn log (turns.Connected uni bi total datagrams) = log_event log (Connected uni bi total datagrams)
-log_turn log turns.PeerUni = log_event log PeerUni
-log_turn log turns.PeerBi = log_event log PeerBi
 log_turn log (turns.Bytes id piece) = log_bytes_if (is_open log) log id piece
-log_turn log (turns.End id) = log_event log (End id)
-log_turn log (turns.Reset id code) = log_event log (Reset id code)
-log_turn log (turns.Stop id code) = log_event log (Stop id code)
-log_turn log (turns.Acked id) = log_event log (Acked id)
-log_turn log (turns.Datagram piece) = log_event log (Datagram piece)
-log_turn log (turns.MaxUni total) = log_event log (MaxUni total)
-log_turn log (turns.MaxBi total) = log_event log (MaxBi total)
-log_turn log (turns.MaxData id total) = log_event log (MaxData id total)
-log_turn log (turns.DatagramLimit fact) = log_event log (DatagramLimit fact)
-log_turn log (turns.Loss reason) = log_event log (Loss reason)
-log_turn log (turns.Call call) = log
+log_turn log turn = log_told log (event_of turn)

@@ -25,9 +25,9 @@ join_all before [] = before
 join_all before (a ∷ later) = join_all (join_one before a) later
 
 -- actions whose newest comes first, in the order in which they go out
-abbrev pub joined : List Action → List Action
-joined [] = []
-joined (a ∷ before) = join_one (joined before) a
+abbrev pub joined_actions : List Action → List Action
+joined_actions [] = []
+joined_actions (a ∷ before) = join_one (joined_actions before) a
 
 -- actions whose newest comes first, with these after them, the first of which is the oldest
 abbrev pub newest_first : List Action → List Action → List Action

@@ -26,8 +26,8 @@ abbrev pub opened_id : Side → Log → ℕ → Option ℕ
 opened_id side log kind = if may_open side log kind then Some (next_id side log kind) else None
 
 -- what opening a stream of a kind sends
-abbrev pub opening : Side → Log → ℕ → List Action
-opening side log kind = if may_open side log kind then actions.Opened (next_id side log kind) ∷ [] else []
+abbrev pub actions_to_open : Side → Log → ℕ → List Action
+actions_to_open side log kind = if may_open side log kind then actions.Opened (next_id side log kind) ∷ [] else []
 
 -- the sending half can still send: it is neither finished, reset nor stopped, and the connection is open
 abbrev pub may_send : Side → Log → ℕ → Bool
@@ -38,12 +38,12 @@ abbrev pub credit_left : Log → ℕ → ℕ
 credit_left log k = credit (all_events_of log) k - length (sent_on (actions_of log) k)
 
 -- the bytes of these that credit is left for
-abbrev pub covered : Log → ℕ → List ℕ → List ℕ
-covered log k bytes = take (credit_left log k) bytes
+abbrev pub bytes_within_credit : Log → ℕ → List ℕ → List ℕ
+bytes_within_credit log k bytes = take (credit_left log k) bytes
 
 -- what sending these bytes sends
-abbrev pub sending : Log → ℕ → List ℕ → List Action
-sending log k bytes = send_of k (covered log k bytes)
+abbrev pub actions_to_send : Log → ℕ → List ℕ → List Action
+actions_to_send log k bytes = send_of k (bytes_within_credit log k bytes)
 
 -- the action where the connection is open, else nothing
 abbrev pub if_open : Log → Action → List Action

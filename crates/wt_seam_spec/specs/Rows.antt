@@ -1,5 +1,5 @@
 -- A short run of a server, for worked rows: one unidirectional stream, three bytes of credit.
-use Rattle.std.specs.Prelude.{ℕ, List, [], ◌∷◌}
+use Rattle.std.specs.Prelude.{ℕ, [], ◌∷◌}
 use Rattle.wt_turn.specs.declared.action.Action.TheVariants as actions
 use Rattle.wt_turn.specs.declared.datagram_fact.DatagramFact.TheVariants.{Limit}
 use Rattle.wt_turn.specs.declared.turn.Turn.TheVariants as turns
@@ -7,21 +7,21 @@ use Rattle.wt_turn.specs.Log.{Log, with_actions}
 use Rattle.wt_seam_spec.specs.Arrivals.{log_turn}
 
 -- a connection with one unidirectional stream and three bytes of credit
-abbrev pub connected : Log
-connected = log_turn [] (turns.Connected 1 0 3 (Limit 1200))
+abbrev pub connected_log : Log
+connected_log = log_turn [] (turns.Connected 1 0 3 (Limit 1200))
 
 -- the stream is opened
-abbrev pub opened : Log
-opened = with_actions (actions.Opened 3 ∷ []) connected
+abbrev pub log_with_stream : Log
+log_with_stream = with_actions (actions.Opened 3 ∷ []) connected_log
 
 -- all of its credit is used
-abbrev pub sent : Log
-sent = with_actions (actions.Send 3 (97 ∷ 98 ∷ 99 ∷ []) ∷ []) opened
+abbrev pub sent_log : Log
+sent_log = with_actions (actions.Send 3 (97 ∷ 98 ∷ 99 ∷ []) ∷ []) log_with_stream
 
 -- the peer opened a stream, on which two bytes came
-abbrev pub received : Log
-received = log_turn (log_turn sent turns.PeerUni) (turns.Bytes 2 (97 ∷ 98 ∷ []))
+abbrev pub received_log : Log
+received_log = log_turn (log_turn sent_log turns.PeerUni) (turns.Bytes 2 (97 ∷ 98 ∷ []))
 
 -- this end closed the connection
-abbrev pub closed : Log
-closed = with_actions (actions.Close 5 [] ∷ []) received
+abbrev pub closed_log : Log
+closed_log = with_actions (actions.Close 5 [] ∷ []) received_log

@@ -32,8 +32,8 @@ advance count (AtOffset offset) = AtOffset (offset + count)
 advance count GivenUp = GivenUp
 
 -- the positions once so many bytes of stream `id` were consumed
-abbrev pub consumed : (ℕ → ReadPosition) → ℕ → ℕ → ℕ → ReadPosition
-consumed position id count k = if id == k then advance count (position k) else position k
+abbrev pub position_after : (ℕ → ReadPosition) → ℕ → ℕ → ℕ → ReadPosition
+position_after position id count k = if id == k then advance count (position k) else position k
 
 -- the positions once stream `id` was given up
 abbrev pub given_up : (ℕ → ReadPosition) → ℕ → ℕ → ReadPosition

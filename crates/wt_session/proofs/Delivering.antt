@@ -21,7 +21,7 @@ use Rattle.wt_session_spec.specs.Plans.{plan_of}
 use Rattle.wt_session_spec.specs.SessionState.{session_state}
 use Rattle.wt_spec.specs.Answers.{call_effect, is_client, is_first, may_call}
 use Rattle.wt_spec.specs.Effect.{Effect, driver_error, log_call, reply_with}
-use Rattle.wt_spec.specs.Handshake.{awaits_request, deliver, handshake_state, queued_requests, request_fields_of, requested}
+use Rattle.wt_spec.specs.Handshake.{awaits_request, deliver, handshake_state, queued_requests, request_fields_of, requested_stream}
 use Rattle.wt_spec.specs.StreamTable.{Classified}
 use Rattle.wt_told.proofs.DriverTheorems.{driver_error_theorem, requests_theorem, told_end_theorem, transport_open_theorem}
 use Rattle.wt_told.proofs.Theorems.{logged_theorem}
@@ -109,7 +109,7 @@ module _ (side : Side) (d : DriverValue) (log : Log) (taken : ℕ) (f : Follows 
         let made : calls_of (call_effect side log calls.Incoming).log ≡ RequestDelivered r.id ∷ calls_of log = ap (λ (x : Effect). calls_of x.log) delivered_effect ∙ logged_theorem side log [] (RequestDelivered r.id) in
         record {
           state = ap handshake_state made;
-          requested = ap requested made;
+          requested = ap requested_stream made;
           end = told_end_theorem side d log (untaken_since taken log) calls.Incoming [] r.id (replies.Request r.id r.fields) r.id r.fields r.end f.refines may (plan-is ∙ plan-by (requests_now d.state) first_is_request told) (sym told);
         }
 

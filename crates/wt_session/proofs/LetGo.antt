@@ -6,7 +6,7 @@ use Rattle.wt_flush.proofs.Flushed.{receive-later}
 use Rattle.wt_driver_state.specs.DriverValue.{DriverValue}
 use Rattle.wt_driver_state.specs.Stages.{is_let_go, is_there}
 use Rattle.wt_driver_state.specs.Tie.{Follows, untaken_since}
-use Rattle.wt_driver_spec.specs.Moment.{is_local}
+use Rattle.wt_driver_spec.specs.Moment.{has_local_kind}
 use Rattle.wt_driver_spec.specs.Uses.{use_of}
 use Rattle.wt_laws.proofs.HeaderLaws.{Both, Heads, first-heads, keeps-both}
 use Rattle.wt_laws.proofs.Reached.{reached}
@@ -57,7 +57,7 @@ module _ (side : Side) where
   given-up-lets log id can p k e = by (id == k) e
     where
       by : (b : Bool) → (b || (use_of k (calls_of log)).is_dropped) ≡ true → ((b && is_there side log id) || is_let_go side log k) ≡ true
-      by true g = λ i. there (is_local side id) (can_receive side log id) can i || is_let_go side log k
+      by true g = λ i. there (has_local_kind side id) (can_receive side log id) can i || is_let_go side log k
       by false g = p k g
 
   passed-lets : (log : Log) (id : ℕ) → AllLetGo side log → AllLetGo side (Called (StreamPassed id) ∷ log)

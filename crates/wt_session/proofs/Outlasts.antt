@@ -5,7 +5,7 @@ use Rattle.std.proofs.lemmas.Bool.{and_from, and_parts}
 use Rattle.wt_error.specs.declared.connecting_error.ConnectingError.{ConnectingError}
 use Rattle.wt_laws.proofs.Reached.{keeps-turn}
 use Rattle.wt_laws.proofs.Steps.{KeepsEntries, by-entries}
-use Rattle.wt_laws.specs.Causes.{ByAcceptance, ByAnswer, ByRejection, ByResponse, ConnectTo, EstablishCause, FromBefore, ResponseFrom, frame_of}
+use Rattle.wt_laws.specs.Causes.{ByAcceptance, ByAnswer, ByRejection, ByResponse, ConnectTo, EstablishCause, FromBefore, ResponseFrom, head_frame_of}
 use Rattle.wt_laws.specs.Reachable.{IsReachable}
 use Rattle.wt_laws.specs.RecordCauses.{AcceptanceEnded, AcceptanceStopped, ConnectEnded, NoMoreRequests, OverCause, RecordCause, RejectionEnded}
 use Rattle.wt_laws.specs.ReplyCauses.{AfterSuccess, BeforeConnection, BeforeRequest, BeforeResponse, BeforeSettings, BeforeStream, ByRefusal, ByReserved, ByResponseFault, ByStatus, ByStreamEnd, ConnectFailedCause, ConnectionEnded, NoAddress, NoUrl, NotHttps, NotProceeding, RejectedCause, RejectionOver, RejectionRefused}
@@ -17,7 +17,7 @@ use Rattle.wt_session.specs.Responding.{IsResponse, Response}
 use Rattle.wt_connection.specs.Staying.{is_past_handshake}
 use Rattle.wt_session_spec.specs.SessionState.{is_answering}
 use Rattle.wt_spec.specs.Answers.{call_effect, is_client, is_first, may_call}
-use Rattle.wt_spec.specs.Handshake.{awaits_request, handshake_state, requested}
+use Rattle.wt_spec.specs.Handshake.{awaits_request, handshake_state, requested_stream}
 use Rattle.wt_told.proofs.Theorems.{call_first_theorem}
 use Rattle.wt_told.proofs.Turns.{goes-on}
 use Rattle.wt_turn.specs.Log.{CallRecord, ConnectStarted, HandshakeOver, Log, RequestDelivered, ResponseStarted, SessionEstablished, calls_of}
@@ -30,19 +30,14 @@ use Rattle.wt_wire.specs.declared.side.Side.{Side}
 -- ---- such a call causes no record of a handshake
 
 -- it has no frame of a request or a response
-no-frame : (call : Call) → is_past_handshake call ≡ true → (head : List ℕ) → frame_of (turns.Call call) ≡ Some head → ⊥
-no-frame (calls.Connect options lookup outcome) p head f = absurd (cc)
+no-frame : (call : Call) → is_past_handshake call ≡ true → (head : List ℕ) → head_frame_of (turns.Call call) ≡ Some head → ⊥
 no-frame calls.Incoming p head f = absurd (cc)
-no-frame (calls.Accept headers) p head f = absurd (cc)
-no-frame calls.Forbidden p head f = absurd (cc)
-no-frame calls.NotFound p head f = absurd (cc)
-no-frame calls.TooManyRequests p head f = absurd (cc)
 no-frame _ p head f = absurd (cc)
 
 -- the handshake is where it was, for the same request
 record IsAsBefore (before : List CallRecord) (log : Log) : Type 0 where
   pub state : handshake_state (calls_of log) ≡ handshake_state before
-  pub request : requested (calls_of log) ≡ requested before
+  pub request : requested_stream (calls_of log) ≡ requested_stream before
 
 module _ (side : Side) (call : Call) (p : is_past_handshake call ≡ true) where
   not-this : (other : Call) → turns.Call call ≡ turns.Call other → is_past_handshake other ≡ false → ⊥
@@ -90,7 +85,7 @@ module _ (side : Side) (call : Call) (p : is_past_handshake call ≡ true) where
   not-over log (ConnectEnded e w) = not-failed log e w
 
   -- its record leaves the handshake where it was
-  record-as-before : (log : Log) (r : CallRecord) → RecordCause side (turns.Call call) log r → (cs : List CallRecord) → (handshake_state (r ∷ cs) ≡ handshake_state cs) × (requested (r ∷ cs) ≡ requested cs)
+  record-as-before : (log : Log) (r : CallRecord) → RecordCause side (turns.Call call) log r → (cs : List CallRecord) → (handshake_state (r ∷ cs) ≡ handshake_state cs) × (requested_stream (r ∷ cs) ≡ requested_stream cs)
   record-as-before log (RequestDelivered k) c cs = absurd (not-this calls.Incoming c.asks refl)
   record-as-before log (ResponseStarted accepts head) c cs = absurd (no-response (calls_of log) accepts head c.0)
   record-as-before log (ConnectStarted reserved head) c cs = absurd (not-to c.dials.to)
@@ -129,7 +124,7 @@ module _ (side : Side) (call : Call) (p : is_past_handshake call ≡ true) where
       end-outlasts end k a =
           let x = goes-on side log (turns.Call call) l in
           subst (λ (g : Log). KeepsRequestEnd side g end) (sym x.1)
-          (request_end_kept side x.0 log end r k (ap is_answering (sym as-before.state) ∙ a) (ap (λ (g : Log). requested (calls_of g)) (sym x.1) ∙ as-before.request)) a
+          (request_end_kept side x.0 log end r k (ap is_answering (sym as-before.state) ∙ a) (ap (λ (g : Log). requested_stream (calls_of g)) (sym x.1) ∙ as-before.request)) a
 
       pub request-outlasts : (request : Request) → IsUnanswered side log request → IsUnanswered side (call_effect side log call).log request
       request-outlasts request u = record { state = as-before.state ∙ u.state; requested = as-before.request ∙ u.requested; end = end-outlasts request.end u.end }

@@ -9,25 +9,25 @@ use Rattle.wt_driver_state.specs.Tie.{Follows, untaken_since}
 use Rattle.wt_laws.proofs.SessionLaws.{has_request}
 use Rattle.wt_laws.specs.Reachable.{IsReachable}
 use Rattle.wt_plan.proofs.FactsSame.{facts-same}
+use Rattle.wt_plan.proofs.PlansSame.{response-same}
 use Rattle.wt_plan.specs.DriverAnswers.{answers_now}
 use Rattle.wt_plan.specs.FactsNow.{DriverAnswers, facts_now}
-use Rattle.wt_plan.specs.Planned.{planned}
+use Rattle.wt_plan.specs.Planned.{defined_plan}
 use Rattle.wt_plan.specs.Tells.{KeepsRequestEnd, TellsFacts, driver_facts}
 use Rattle.wt_plan.specs.declared.plan.Plan as code
-use Rattle.wt_proto.specs.declared.response_walk.ResponseWalk.{ResponseWalk}
 use Rattle.wt_reached.proofs.Handshaking.{reached-holds}
 use Rattle.wt_seam.specs.State.{TransportState}
 use Rattle.wt_seam.specs.Step.{unread_now}
 use Rattle.wt_calls.proofs.Ends.{step_delivers}
 use Rattle.wt_session_spec.proofs.Theorems.{planned_theorem}
 use Rattle.wt_session_spec.specs.CallFacts.{CallFacts, facts_of}
-use Rattle.wt_session_spec.specs.HandshakePlans.{AllOut, Ended, HeadProgress, Refused, Short, acceptance, actions_of_head, continued_by, finished_rejection, left_of, progress_of, rejection, response_left, response_plan}
+use Rattle.wt_session_spec.specs.HandshakePlans.{AllOut, Ended, HeadProgress, Refused, Short, acceptance, actions_of_head, continued_by, finished_rejection, left_of, head_progress_of, rejection, response_left, response_plan}
 use Rattle.wt_session_spec.specs.Plan.{Establish, Plan, Step, closing_with, fail_with, perform}
 use Rattle.wt_session_spec.specs.Plans.{plan_of}
 use Rattle.wt_session_spec.specs.SessionState.{SessionState, is_answering, session_state}
 use Rattle.wt_spec.specs.Answers.{call_effect, is_client, is_first, may_call}
 use Rattle.wt_spec.specs.Effect.{Effect, log_call}
-use Rattle.wt_spec.specs.Handshake.{HandshakeState, awaits_answer, handshake_state, is_continuable, requested, requested_by}
+use Rattle.wt_spec.specs.Handshake.{HandshakeState, awaits_answer, handshake_state, is_continuable, requested_stream, requested_by}
 use Rattle.wt_told.proofs.DriverTheorems.{drivers_tell_theorem}
 use Rattle.wt_told.proofs.Theorems.{logged_theorem, stays_theorem}
 use Rattle.wt_told.specs.Delivering.{delivers_request}
@@ -42,26 +42,6 @@ use Rattle.wt_wire.specs.declared.side.Side.{Side}
 
 -- ---- the plan by what a driver keeps is the one by the log
 
-module _ (f : CallFacts) (end : ℕ) (walk : ResponseWalk) (bytes : ℕ → List ℕ) where
-  abbrev other : CallFacts
-  other = record f { request_end = end; response = walk; unread = bytes }
-
-  acceptance-same : end ≡ f.request_end → (p : HeadProgress) (id : ℕ) (own : List Action) (waiting : CallRecord) → acceptance p other id own waiting ≡ acceptance p f id own waiting
-  acceptance-same q Ended id own waiting = refl
-  acceptance-same q Refused id own waiting = refl
-  acceptance-same q Short id own waiting = refl
-  acceptance-same q AllOut id own waiting = ap (Establish own id) q
-
-  rejection-same : (p : HeadProgress) (id : ℕ) (own : List Action) (waiting : CallRecord) → rejection p other id own waiting ≡ rejection p f id own waiting
-  rejection-same Ended id own waiting = refl
-  rejection-same Refused id own waiting = refl
-  rejection-same Short id own waiting = refl
-  rejection-same AllOut id own waiting = refl
-
-  response-same : end ≡ f.request_end → (accepts : Bool) (id : ℕ) (left : List ℕ) (waiting : CallRecord) → response_left accepts other id left waiting ≡ response_left accepts f id left waiting
-  response-same q true id left waiting = acceptance-same q (progress_of f id left) id (actions_of_head f id left) waiting
-  response-same q false id left waiting = rejection-same (progress_of f id left) id (actions_of_head f id left) waiting
-
 module _ (side : Side) (d : DriverValue) (log : Log) (taken : ℕ) (f : Follows side d log taken) (reach : IsReachable side log) where
   -- what the driver answers, where the request ends here
   abbrev answered : ℕ → DriverAnswers
@@ -73,7 +53,7 @@ module _ (side : Side) (d : DriverValue) (log : Log) (taken : ℕ) (f : Follows 
   response_by_log end k a accepts head waiting =
       let tells : TellsFacts side log d.inbox.transport (answered end) = drivers_tell_theorem side d log (untaken_since taken log) (is_first log) end (driver_facts side log).response f.refines refl k (λ r h e. refl) reach in
       ap (λ (x : CallFacts). response_plan x (session_state log) accepts head waiting) (facts-same side d.inbox.transport log tells.position tells.untaken tells.refines (answered end) tells.answers tells.lawful)
-      ∙ response-same (facts_of side log) end (driver_facts side log).response (unread_now d.inbox.transport) (k a) accepts (requested (calls_of log)) (left_of (facts_of side log) (requested (calls_of log)) head) waiting
+      ∙ response-same (facts_of side log) end (driver_facts side log).response (unread_now d.inbox.transport) (k a) accepts (requested_stream (calls_of log)) (left_of (facts_of side log) (requested_stream (calls_of log)) head) waiting
 
 -- ---- the call of a poll
 
@@ -145,22 +125,20 @@ either P false x y p q = q
 
 module _ (f : CallFacts) (id : ℕ) (own : List Action) (waiting : CallRecord) where
   acceptance-plan : (p : HeadProgress) → IsAcceptancePlan waiting (acceptance p f id own waiting)
-  acceptance-plan Ended = refl
-  acceptance-plan Refused = refl
-  acceptance-plan Short = refl
   acceptance-plan AllOut = tt
+  acceptance-plan _ = refl
 
   rejection-plan : (p : HeadProgress) → IsRejectionPlan waiting (rejection p f id own waiting)
-  rejection-plan Ended = refl
-  rejection-plan Refused = refl
-  rejection-plan Short = refl
   rejection-plan AllOut =
       either (IsRejectionPlan waiting) (not (f.sending id).finished) _ (finished_rejection f (f.sending id) waiting) refl
       (either (IsRejectionPlan waiting) _ (fail_with (closing_with f 0) replies.Rejected) (Step [] waiting replies.Pending) refl refl)
+  rejection-plan Ended = refl
+  rejection-plan Refused = refl
+  rejection-plan Short = refl
 
 response-planned : (f : CallFacts) (accepts : Bool) (id : ℕ) (left : List ℕ) (waiting : CallRecord) → IsResponsePlan accepts waiting (response_left accepts f id left waiting)
-response-planned f true id left waiting = acceptance-plan f id (actions_of_head f id left) waiting (progress_of f id left)
-response-planned f false id left waiting = rejection-plan f id (actions_of_head f id left) waiting (progress_of f id left)
+response-planned f true id left waiting = acceptance-plan f id (actions_of_head f id left) waiting (head_progress_of f id left)
+response-planned f false id left waiting = rejection-plan f id (actions_of_head f id left) waiting (head_progress_of f id left)
 
 -- ---- what stands afterwards
 
@@ -198,7 +176,7 @@ waits-on : (begun accepts : Bool) (id : ℕ) (head : List ℕ) (before : List Ca
 waits-on true accepts id head before e = e
 waits-on false accepts id head before e = refl
 
-asks-on : (begun accepts : Bool) (head : List ℕ) (before : List CallRecord) → requested (waiting_record begun accepts head ∷ before) ≡ requested before
+asks-on : (begun accepts : Bool) (head : List ℕ) (before : List CallRecord) → requested_stream (waiting_record begun accepts head ∷ before) ≡ requested_stream before
 asks-on true accepts head before = refl
 asks-on false accepts head before = refl
 
@@ -210,7 +188,7 @@ module _ (side : Side) (log : Log) (accepts : Bool) (r : Response) (s : IsRespon
       let made_is : calls_of later ≡ waiting_record r.has_begun accepts r.head ∷ calls_of log = ap calls_of l ∙ logged_theorem side log own made ∙ ap (λ (x : CallRecord). x ∷ calls_of log) m in
       record {
         state = ap handshake_state made_is ∙ waits-on r.has_begun accepts r.id r.head (calls_of log) s.state;
-        requested = ap requested made_is ∙ asks-on r.has_begun accepts r.head (calls_of log) ∙ s.requested;
+        requested = ap requested_stream made_is ∙ asks-on r.has_begun accepts r.head (calls_of log) ∙ s.requested;
         end = k;
       }
 
@@ -236,7 +214,7 @@ module _ (side : Side) (log : Log) (accepts : Bool) (r : Response) (s : IsRespon
     planned-poll = response_plan (facts_of side log) (session_state log) accepts r.head (waiting_record r.has_begun accepts r.head)
 
     kind-of-poll : IsResponsePlan accepts (waiting_record r.has_begun accepts r.head) planned-poll
-    kind-of-poll = response-planned (facts_of side log) accepts (requested (calls_of log)) (left_of (facts_of side log) (requested (calls_of log)) r.head) (waiting_record r.has_begun accepts r.head)
+    kind-of-poll = response-planned (facts_of side log) accepts (requested_stream (calls_of log)) (left_of (facts_of side log) (requested_stream (calls_of log)) r.head) (waiting_record r.has_begun accepts r.head)
 
     effect-of-poll : call_effect side log call ≡ perform side log planned-poll
     effect-of-poll = planned_theorem side log call ∙ ap (perform side log) (poll_plan side log accepts r call s c)
@@ -263,21 +241,21 @@ module _ (side : Side) (log : Log) (accepts : Bool) (r : Response) (s : IsRespon
 module _ (p : Result code.Plan OutOfMemory) (side : Side) (log : Log) (accepts : Bool) (r : Response) (s : IsResponse side log accepts r) where
   -- what is planned by what a driver keeps is planned by the log
   pub planned_by_log : (d : DriverValue) (taken : ℕ) → Follows side d log taken → IsReachable side log → (t : TransportState) → t ≡ d.inbox.transport → (head : List ℕ) → head ≡ r.head → (waiting : CallRecord)
-      → ((f : DriverAnswers) (x : SessionState) → x.requested ≡ r.id → f.request_end ≡ r.end → IfOk p (λ q. planned q ≡ response_plan (facts_now t f) x accepts head waiting))
-      → IfOk p (λ q. planned q ≡ response_plan (facts_of side log) (session_state log) accepts r.head waiting)
+      → ((f : DriverAnswers) (x : SessionState) → x.requested ≡ r.id → f.request_end ≡ r.end → IfOk p (λ q. defined_plan q ≡ response_plan (facts_now t f) x accepts head waiting))
+      → IfOk p (λ q. defined_plan q ≡ response_plan (facts_of side log) (session_state log) accepts r.head waiting)
   planned_by_log d taken f reach t there head same waiting g =
       let now = g (answers_now d.inbox.transport d.state (is_first log) r.end (driver_facts side log).response) (session_state log) s.requested refl in
       let by_transport =
-      subst (λ (u : TransportState). IfOk p (λ q. planned q ≡ response_plan (facts_now u (answers_now d.inbox.transport d.state (is_first log) r.end (driver_facts side log).response)) (session_state log) accepts head waiting)) there now in
+      subst (λ (u : TransportState). IfOk p (λ q. defined_plan q ≡ response_plan (facts_now u (answers_now d.inbox.transport d.state (is_first log) r.end (driver_facts side log).response)) (session_state log) accepts head waiting)) there now in
       let by_head =
-      subst (λ (h : List ℕ). IfOk p (λ q. planned q ≡ response_plan (facts_now d.inbox.transport (answers_now d.inbox.transport d.state (is_first log) r.end (driver_facts side log).response)) (session_state log) accepts h waiting)) same by_transport in
-      subst (λ (x : Plan). IfOk p (λ q. planned q ≡ x)) (response_by_log side d log taken f reach r.end s.end (answering side log accepts r s) accepts r.head waiting) by_head
+      subst (λ (h : List ℕ). IfOk p (λ q. defined_plan q ≡ response_plan (facts_now d.inbox.transport (answers_now d.inbox.transport d.state (is_first log) r.end (driver_facts side log).response)) (session_state log) accepts h waiting)) same by_transport in
+      subst (λ (x : Plan). IfOk p (λ q. defined_plan q ≡ x)) (response_by_log side d log taken f reach r.end s.end (answering side log accepts r s) accepts r.head waiting) by_head
 
-  module _ (waiting : CallRecord) (g : IfOk p (λ q. planned q ≡ response_plan (facts_of side log) (session_state log) accepts r.head waiting)) where
+  module _ (waiting : CallRecord) (g : IfOk p (λ q. defined_plan q ≡ response_plan (facts_of side log) (session_state log) accepts r.head waiting)) where
     -- it is the plan of the poll's call
-    pub planned_call : (call : Call) → IsPollOf accepts r call → waiting ≡ waiting_record r.has_begun accepts r.head → IfOk p (λ q. planned q ≡ plan_of (facts_of side log) (session_state log) call)
+    pub planned_call : (call : Call) → IsPollOf accepts r call → waiting ≡ waiting_record r.has_begun accepts r.head → IfOk p (λ q. defined_plan q ≡ plan_of (facts_of side log) (session_state log) call)
     planned_call call c e =
-        subst (λ (x : Plan). IfOk p (λ q. planned q ≡ x)) (ap (response_plan (facts_of side log) (session_state log) accepts r.head) e ∙ sym (poll_plan side log accepts r call s c)) g
+        subst (λ (x : Plan). IfOk p (λ q. defined_plan q ≡ x)) (ap (response_plan (facts_of side log) (session_state log) accepts r.head) e ∙ sym (poll_plan side log accepts r call s c)) g
 
 -- ---- before a response begins
 

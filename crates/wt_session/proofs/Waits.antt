@@ -3,12 +3,12 @@ use Rattle.std.specs.Prelude.{[], ◌&&◌, ◌≡◌, Bool, false, not, true}
 use Rattle.std.proofs.Common.{◌∙◌, ap, refl}
 use Rattle.std.proofs.lemmas.Bool.{and_from, and_parts}
 use Rattle.wt_laws.specs.Reachable.{IsReachable}
-use Rattle.wt_spec.specs.Turns.{is_call}
+use Rattle.wt_turn.specs.Turns.{is_call}
 use Rattle.wt_connecting.specs.Connecting.{Connect, IsConnecting}
 use Rattle.wt_session.specs.Incoming.{IsUnanswered, Request}
 use Rattle.wt_session.specs.Responding.{IsResponse, Response}
 use Rattle.wt_spec.specs.Answers.{is_client, is_first, is_lawful, log_after, may_call}
-use Rattle.wt_spec.specs.Handshake.{awaits_request, handshake_state, requested}
+use Rattle.wt_spec.specs.Handshake.{awaits_request, handshake_state, requested_stream}
 use Rattle.wt_told.proofs.Theorems.{not_first_theorem, same_calls_theorem, turn_end_theorem}
 use Rattle.wt_turn.specs.Log.{Log, calls_of}
 use Rattle.wt_turn.specs.declared.call.Call.{Call}
@@ -31,14 +31,14 @@ module _ (side : Side) (log : Log) (turn : Turn) (n : is_call turn ≡ false) wh
     pub request-stays : (request : Request) → IsUnanswered side log request → IsUnanswered side (log_after side log turn) request
     request-stays request u = record {
       state = ap handshake_state same-calls ∙ u.state;
-      requested = ap requested same-calls ∙ u.requested;
+      requested = ap requested_stream same-calls ∙ u.requested;
       end = turn_end_theorem side log turn request.end r l n u.end;
     }
 
     pub response-stays : (accepts : Bool) (response : Response) → IsResponse side log accepts response → IsResponse side (log_after side log turn) accepts response
     response-stays accepts response s = record {
       state = ap handshake_state same-calls ∙ s.state;
-      requested = ap requested same-calls ∙ s.requested;
+      requested = ap requested_stream same-calls ∙ s.requested;
       end = turn_end_theorem side log turn response.end r l n s.end;
     }
 
@@ -54,12 +54,6 @@ module _ (side : Side) (log : Log) (turn : Turn) (n : is_call turn ≡ false) wh
 -- ---- a server's wait begins
 
 not-first : (call : Call) → may_call Server [] call ≡ true → ⊥
-not-first (calls.Connect options lookup outcome) m = absurd (cc)
-not-first calls.Incoming m = absurd (cc)
-not-first (calls.Accept headers) m = absurd (cc)
-not-first calls.Forbidden m = absurd (cc)
-not-first calls.NotFound m = absurd (cc)
-not-first calls.TooManyRequests m = absurd (cc)
 not-first calls.Handshake m = absurd (cc)
 not-first _ m = absurd (cc)
 

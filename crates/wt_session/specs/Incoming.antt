@@ -3,7 +3,7 @@ use Rattle.std.specs.Prelude.{◌≡◌, Err, List, None, Ok, Option, Result, So
 use Rattle.wt_session.specs.Responding.{Response}
 use Rattle.wt_plan.specs.Tells.{KeepsRequestEnd}
 use Rattle.wt_spec.specs.Answers.{may_call}
-use Rattle.wt_spec.specs.Handshake.{Requested, handshake_state, requested}
+use Rattle.wt_spec.specs.Handshake.{Requested, handshake_state, requested_stream}
 use Rattle.wt_turn.specs.Log.{Log, calls_of}
 use Rattle.wt_turn.specs.declared.call.Call.TheVariants as calls
 use Rattle.wt_error.specs.declared.connection_error.ConnectionError.{ConnectionError}
@@ -23,7 +23,7 @@ pub record Request : Type 0 where
 -- the request was delivered, and isn't answered yet
 pub record IsUnanswered (side : Side) (log : Log) (r : Request) : Type 0 where
   pub state : handshake_state (calls_of log) ≡ Requested r.id
-  pub requested : requested (calls_of log) ≡ r.id
+  pub requested : requested_stream (calls_of log) ≡ r.id
   pub end : KeepsRequestEnd side log r.end
 
 -- the response to it with this head, before it begins

@@ -3,7 +3,7 @@ use Rattle.std.specs.Prelude.{◌≡◌, Bool, Err, List, Ok, Result, codes, fal
 use Rattle.wt_connection.specs.Standing.{IsEstablished}
 use Rattle.wt_message.specs.FixedBytes.{response_bytes}
 use Rattle.wt_plan.specs.Tells.{KeepsRequestEnd}
-use Rattle.wt_spec.specs.Handshake.{HandshakeState, Requested, Responding, handshake_state, requested, response_head}
+use Rattle.wt_spec.specs.Handshake.{HandshakeState, Requested, Responding, handshake_state, requested_stream, response_head}
 use Rattle.wt_turn.specs.Log.{CallRecord, Log, Polled, ResponseStarted, calls_of}
 use Rattle.wt_turn.specs.declared.call.Call.{Call}
 use Rattle.wt_turn.specs.declared.call.Call.TheVariants as calls
@@ -31,7 +31,7 @@ response_state false accepts id head = Requested id
 -- the response is that of the log: whether it accepts, and to which request
 pub record IsResponse (side : Side) (log : Log) (accepts : Bool) (r : Response) : Type 0 where
   pub state : handshake_state (calls_of log) ≡ response_state r.has_begun accepts r.id r.head
-  pub requested : requested (calls_of log) ≡ r.id
+  pub requested : requested_stream (calls_of log) ≡ r.id
   pub end : KeepsRequestEnd side log r.end
 
 -- this end has this response, which accepts or rejects

@@ -7,7 +7,7 @@ ghost use Rattle.wt_driver_spec.specs.Uses.{use_of};
 ghost use Rattle.wt_laws.specs.Causes.{polls_opening};
 ghost use Rattle.wt_laws.specs.Reachable.{IsReachable};
 ghost use Rattle.wt_seam.specs.Step.{unread_now};
-ghost use Rattle.wt_spec.specs.Turns.{is_call};
+ghost use Rattle.wt_turn.specs.Turns.{is_call};
 ghost use Rattle.wt_connecting.specs.Connecting.{Connect, IsConnecting};
 ghost use Rattle.wt_session.specs.Incoming.{IsUnanswered, Request};
 ghost use Rattle.wt_connection.specs.Openings.{IsOpening, OpeningStream};

@@ -4,7 +4,7 @@ ghost use Rattle.wt_session.specs.Responding.{HasResponse, IsPollOf, IsResponse,
 ghost use Rattle.wt_driver_state.specs.Tie.{Follows};
 ghost use Rattle.wt_halves.specs.Answering.{LeadsOn, RepliesTo, StandsBehind, WhereStands};
 ghost use Rattle.wt_laws.specs.Reachable.{IsReachable};
-ghost use Rattle.wt_plan.specs.Planned.{planned};
+ghost use Rattle.wt_plan.specs.Planned.{defined_plan};
 ghost use Rattle.wt_session_spec.specs.CallFacts.{facts_of};
 ghost use Rattle.wt_session_spec.specs.HandshakePlans.{response_plan};
 ghost use Rattle.wt_session_spec.specs.Plans.{plan_of};
@@ -75,7 +75,7 @@ impl Response {
         waiting: Record,
     ) -> Result<Plan, OutOfMemory>
         ensures { (side : Side) (log : Log) (taken : ℕ) → Follows side d.now log taken → IsReachable side log → IsResponse side log accepts self.now
-            → IfOk result (λ p. planned p ≡ response_plan (facts_of side log) (session_state log) accepts self.now.head (record_of waiting)) }
+            → IfOk result (λ p. defined_plan p ≡ response_plan (facts_of side log) (session_state log) accepts self.now.head (record_of waiting)) }
     {
         let t = d.inbox().transport();
         let head = self.head.as_slice();
@@ -85,7 +85,7 @@ impl Response {
     /// What the next poll does.
     fn plan(&self, alloc: Global, d: &Driver, accepts: bool) -> Result<Plan, OutOfMemory>
         ensures { (side : Side) (log : Log) (taken : ℕ) (call : Call) → Follows side d.now log taken → IsReachable side log → IsResponse side log accepts self.now → IsPollOf accepts self.now call
-            → IfOk result (λ p. planned p ≡ plan_of (facts_of side log) (session_state log) call) }
+            → IfOk result (λ p. defined_plan p ≡ plan_of (facts_of side log) (session_state log) call) }
     {
         let waiting = self.waiting_record(accepts)?;
         self.plan_with(alloc, d, accepts, waiting)

@@ -8,7 +8,7 @@ use Rattle.url.specs.Parts.{Parts, host_or_empty}
 use Rattle.url.specs.declared.error.ParseError.{ParseError}
 use Rattle.wt_message.specs.Datagram.{datagram_bytes}
 use Rattle.wt_message.specs.FixedBytes.{response_bytes}
-use Rattle.wt_session_spec.specs.CallFacts.{receiving}
+use Rattle.wt_session_spec.specs.CallFacts.{receiving_facts}
 use Rattle.wt_session_spec.specs.ConnectionPlans.{close_plan, header_left}
 use Rattle.wt_session_spec.specs.HalfPlans.{finish_plan, priority_plan, read_plan, set_priority_plan, stop_plan, stopped_plan, write_all_plan, write_plan}
 use Rattle.wt_session_spec.specs.Plan.{AcceptBi, AcceptUni, Receive}
@@ -49,16 +49,16 @@ use Rattle.wt_session_acts.specs.OwnActions.{HalfFacts, RespondsWell, left_out, 
 use Rattle.wt_session_spec.specs.CallFacts.{facts_of}
 use Rattle.wt_session_spec.specs.ConnectionPlans.{header_sent, opening_plan, poll_plan}
 use Rattle.wt_session_spec.specs.HalfPlans.{reset_plan}
-use Rattle.wt_session_spec.specs.HandshakePlans.{AllOut, Ended, HeadProgress, Refused, Short, acceptance, actions_of_head, head_actions, progress_of, rejection, rejection_out, response_left}
+use Rattle.wt_session_spec.specs.HandshakePlans.{AllOut, Ended, HeadProgress, Refused, Short, acceptance, actions_of_head, head_actions, head_progress_of, rejection, rejection_out, response_left}
 use Rattle.wt_session_spec.specs.ConnectPlans.{dialled_at, dialled_to, dialled_unless}
 use Rattle.wt_session_spec.specs.ConnectionPlans.{datagram_by, datagram_if, datagram_plan}
-use Rattle.wt_session_spec.specs.HandshakePlans.{abandoned, failed_connect, lost_connect, awaited, continued_by, continued_connect, delivery, handshake_plan, left_of, request_left, request_plan, request_sent, request_unless, response_read, start_plan}
+use Rattle.wt_session_spec.specs.HandshakePlans.{abandon_plan, failed_connect, lost_connect, wait_plan, continued_by, continued_connect, delivery, handshake_plan, left_of, request_left, request_plan, request_sent, request_unless, response_read, start_plan}
 use Rattle.wt_session_spec.specs.HalfPlans.{read_exact_plan, exact_plan}
 use Rattle.wt_session_spec.specs.Plans.{in_session_now, may_call_now, plan_of, with_half}
 use Rattle.wt_session_spec.specs.SessionState.{has_receiving_now, has_sending_now, is_opening_now}
 use Rattle.wt_session_spec.specs.Plan.{Establish, Plan, Step, closing_with, fail_with, only_reply, send_and_reply}
 use Rattle.wt_session_spec.specs.SessionState.{session_state}
-use Rattle.wt_spec.specs.Handshake.{Connecting, HandshakeState, Responding, awaits_answer, handshake_state, has_success, requested, response_head}
+use Rattle.wt_spec.specs.Handshake.{Connecting, HandshakeState, Responding, awaits_answer, handshake_state, has_success, requested_stream, response_head}
 use Rattle.wt_error.specs.declared.connecting_error.ConnectingError.TheVariants as connects
 use Rattle.wt_streams.specs.HalfRules.{is_closed}
 use Rattle.wt_reply.specs.declared.reply.Reply.TheVariants as replies
@@ -133,7 +133,7 @@ module _ (side : Side) (log : Log) where
     true-false : {b : Bool} → b ≡ true → b ≡ false → ⊥
     true-false e f = cc
 
-    out-may : progress_of (facts_of side log) k left ≡ AllOut → MayActAll side log (send_of k left) → MayPlan side log (rejection_out (facts_of side log) k (send_of k left) waiting)
+    out-may : head_progress_of (facts_of side log) k left ≡ AllOut → MayActAll side log (send_of k left) → MayPlan side log (rejection_out (facts_of side log) k (send_of k left) waiting)
     out-may p m =
         plan-if (not (is_finished (actions_of log) k)) _ _
         (λ e. may-both side (send_of k left) (actions.Finish k ∷ []) log m
@@ -144,21 +144,21 @@ module _ (side : Side) (log : Log) where
         flip true e = absurd cc
         flip false e = refl
 
-    rejection-may : MayPlan side log (rejection (progress_of (facts_of side log) k left) (facts_of side log) k (actions_of_head (facts_of side log) k left) waiting)
-    rejection-may = by (progress_of (facts_of side log) k left) refl response-head
+    rejection-may : MayPlan side log (rejection (head_progress_of (facts_of side log) k left) (facts_of side log) k (actions_of_head (facts_of side log) k left) waiting)
+    rejection-may = by (head_progress_of (facts_of side log) k left) refl response-head
       where
-        by : (p : HeadProgress) → progress_of (facts_of side log) k left ≡ p → MayActAll side log (head_actions p k (sending_half log k) left) → MayPlan side log (rejection p (facts_of side log) k (head_actions p k (sending_half log k) left) waiting)
+        by : (p : HeadProgress) → head_progress_of (facts_of side log) k left ≡ p → MayActAll side log (head_actions p k (sending_half log k) left) → MayPlan side log (rejection p (facts_of side log) k (head_actions p k (sending_half log k) left) waiting)
         by Ended e m = tt
         by Refused e m = closing-may _
         by Short e m = m
         by AllOut e m = out-may e m
 
   pub response-may : (accepts : Bool) (head : List ℕ) (waiting : CallRecord) → RespondsWell side log accepts head
-      → MayPlan side log (response_left accepts (facts_of side log) (requested (calls_of log)) (left_out log (requested (calls_of log)) head) waiting)
+      → MayPlan side log (response_left accepts (facts_of side log) (requested_stream (calls_of log)) (left_out log (requested_stream (calls_of log)) head) waiting)
   response-may true head waiting w =
-      acceptance-may (progress_of (facts_of side log) (requested (calls_of log)) (left_out log (requested (calls_of log)) head)) (requested (calls_of log)) _ waiting
-      (head-may side log (requested (calls_of log)) (left_out log (requested (calls_of log)) head) (λ n. record { there = w.there; unfinished = w.unfinished n; unreset = w.unreset }))
-  response-may false head waiting w = rejection-may (requested (calls_of log)) (left_out log (requested (calls_of log)) head) waiting w.there w.unreset w.unfinished (w.finished refl)
+      acceptance-may (head_progress_of (facts_of side log) (requested_stream (calls_of log)) (left_out log (requested_stream (calls_of log)) head)) (requested_stream (calls_of log)) _ waiting
+      (head-may side log (requested_stream (calls_of log)) (left_out log (requested_stream (calls_of log)) head) (λ n. record { there = w.there; unfinished = w.unfinished n; unreset = w.unreset }))
+  response-may false head waiting w = rejection-may (requested_stream (calls_of log)) (left_out log (requested_stream (calls_of log)) head) waiting w.there w.unreset w.unfinished (w.finished refl)
 
   -- ---- a client's connect
 
@@ -171,7 +171,7 @@ module _ (side : Side) (log : Log) where
     read-may responses.Ended = closing-behind 0
     read-may responses.Waiting = plan-if (is_open log) (send_and_reply own replies.Pending) (failed_connect own (lost_connect (facts_of side log))) (λ o. m) (λ o. m)
     read-may (responses.Response fields at) =
-        plan-if (not (has_success fields)) (abandoned (facts_of side log) own connects.SessionRejected)
+        plan-if (not (has_success fields)) (abandon_plan (facts_of side log) own connects.SessionRejected)
         (if is_open log then Establish own id at else failed_connect own (connects.ConnectionError (facts_of side log).driver_error)) (λ e. closing-behind 0)
         (λ e. plan-if (is_open log) (Establish own id at) (failed_connect own (connects.ConnectionError (facts_of side log).driver_error)) (λ o. m) (λ o. m))
 
@@ -192,8 +192,8 @@ module _ (side : Side) (log : Log) where
     left-may : MayPlan side log (request_left (facts_of side log) id own left)
     left-may =
         plan-if (is_empty left) (response_read (facts_of side log) id own (facts_of side log).response)
-        (request_sent (progress_of (facts_of side log) id left) (facts_of side log) id own (actions_of_head (facts_of side log) id left))
-        (λ e. read-may id own m same (facts_of side log).response) (λ e. sent-may (progress_of (facts_of side log) id left) out)
+        (request_sent (head_progress_of (facts_of side log) id left) (facts_of side log) id own (actions_of_head (facts_of side log) id left))
+        (λ e. read-may id own m same (facts_of side log).response) (λ e. sent-may (head_progress_of (facts_of side log) id left) out)
 
   bi-peers : (side : Side) → (peer_uni side == local_bi side) ≡ false
   bi-peers Client = refl
@@ -245,7 +245,7 @@ module _ (side : Side) (log : Log) where
       (λ n. record { there = counted (Sent (actions.Opened (next_id side log k)) ∷ log) (more-counted (next_id side log k % 4 == k) (local_count (actions_of log) k) next-self); unfinished = f; unreset = r })))
       (λ m. tt)))
 
-  awaited-may : (e : ConnectionError) → MayPlan side log (awaited (facts_of side log) e)
+  awaited-may : (e : ConnectionError) → MayPlan side log (wait_plan (facts_of side log) e)
   awaited-may e = plan-if (is_open log) (only_reply replies.Pending) (failed_connect [] (connects.ConnectionError e)) (λ o. tt) (λ o. tt)
 
   unless-may : (reserved : Option (List ℕ)) (head : List ℕ) → is_finished (actions_of log) (local_bi side) ≡ false → is_reset log (local_bi side) ≡ false → MayPlan side log (request_unless (facts_of side log) reserved head)
@@ -255,8 +255,8 @@ module _ (side : Side) (log : Log) where
   pub connecting-may : (reserved : Option (List ℕ)) (head : List ℕ) → is_finished (actions_of log) (local_bi side) ≡ false → is_reset log (local_bi side) ≡ false → MayPlan side log (continued_connect (facts_of side log) reserved head)
   connecting-may reserved head f r =
       let t = facts_of side log in
-      plan-if (not t.is_connected) (awaited t t.transport_error) (if t.settings_came then request_unless t reserved head else awaited t t.driver_error) (λ e. awaited-may t.transport_error)
-      (λ e. plan-if t.settings_came (request_unless t reserved head) (awaited t t.driver_error) (λ s. unless-may reserved head f r) (λ s. awaited-may t.driver_error))
+      plan-if (not t.is_connected) (wait_plan t t.transport_error) (if t.settings_came then request_unless t reserved head else wait_plan t t.driver_error) (λ e. awaited-may t.transport_error)
+      (λ e. plan-if t.settings_came (request_unless t reserved head) (wait_plan t t.driver_error) (λ s. unless-may reserved head f r) (λ s. awaited-may t.driver_error))
 
   module _ (h : HalfFacts side log) where
     pub handshake-may : MayPlan side log (handshake_plan (facts_of side log) (session_state log))
@@ -281,7 +281,7 @@ module _ (side : Side) (log : Log) where
   poll-may h k session =
       let left = left_of (facts_of side log) k (stream_header k session) in
       plan-if (is_opening_now (session_state log) k) (header_left (facts_of side log) k left) (only_reply replies.NoStream)
-      (λ o. header-may (progress_of (facts_of side log) k left) k (actions_of_head (facts_of side log) k left) (head-may side log k left (λ n. h.opening k o))) (λ o. tt)
+      (λ o. header-may (head_progress_of (facts_of side log) k left) k (actions_of_head (facts_of side log) k left) (head-may side log k left (λ n. h.opening k o))) (λ o. tt)
 
   datagram-may : (payload : List ℕ) (session : ℕ) → MayPlan side log (datagram_plan (facts_of side log) payload session)
   datagram-may payload session =
@@ -360,10 +360,7 @@ module _ (side : Side) (log : Log) where
     plan_may calls.OpenBi m = session-may (facts_of side log).session (opening_plan (facts_of side log) (local_bi side)) (λ s. opening-may (local_bi side) s (bi-kind side (stream_count side log (local_bi side))))
     plan_may (calls.PollOpening id) m = session-may (facts_of side log).session (poll_plan (facts_of side log) (session_state log) id) (λ s. poll-may h id s)
     plan_may (calls.SendDatagram payload) m = session-may (facts_of side log).session (datagram_plan (facts_of side log) payload) (λ s. datagram-may payload s)
-    plan_may calls.MaxDatagramSize m = session-may (facts_of side log).session _ (λ s. tt)
-    plan_may calls.SessionId m = session-may (facts_of side log).session _ (λ s. tt)
     plan_may (calls.Close code reason) m = session-may (facts_of side log).session (λ s. close_plan (facts_of side log) code reason) (λ s. closes-may code reason)
-    plan_may calls.Closed m = session-may (facts_of side log).session _ (λ s. tt)
     plan_may (calls.Write id bytes) m = half-plan-may (has_sending_now side (session_state log) id) (write_plan (facts_of side log) id bytes) (λ e. write-may side log id bytes (h.given_sends id e))
     plan_may (calls.WriteAll id bytes) m = half-plan-may (has_sending_now side (session_state log) id) (write_all_plan (facts_of side log) id bytes) (λ e. write-may side log id bytes (h.given_sends id e))
     plan_may (calls.Finish id) m = half-plan-may (has_sending_now side (session_state log) id) (finish_plan (facts_of side log) id) (λ e. finish-may side log id (h.given_sends id e))
@@ -372,5 +369,6 @@ module _ (side : Side) (log : Log) where
     plan_may (calls.SetPriority id priority) m = half-plan-may (has_sending_now side (session_state log) id) (set_priority_plan (facts_of side log) id priority) (λ e. set-may id priority)
     plan_may (calls.ResetSend id code) m = half-plan-may (has_sending_now side (session_state log) id) (reset_plan (facts_of side log) id code) (λ e. reset-plan-may id code (h.given_sends id e))
     plan_may (calls.Read id size) m = half-plan-may (has_receiving_now side (session_state log) id) (read_plan (facts_of side log) id size) (λ e. tt)
-    plan_may (calls.ReadExact id size) m = half-plan-may (has_receiving_now side (session_state log) id) (read_exact_plan (facts_of side log) id size) (λ e. exact-may id size ((facts_of side log).unread id) (read_exact_answer (is_open log) (receiving (facts_of side log) id) size))
+    plan_may (calls.ReadExact id size) m = half-plan-may (has_receiving_now side (session_state log) id) (read_exact_plan (facts_of side log) id size) (λ e. exact-may id size ((facts_of side log).unread id) (read_exact_answer (is_open log) (receiving_facts (facts_of side log) id) size))
     plan_may (calls.StopRecv id code) m = half-plan-may (has_receiving_now side (session_state log) id) (stop_plan (facts_of side log) id code) (λ e. may-if side log (actions.StopOut id code) (is_open log) (λ o. (o, h.given_receives id e)))
+    plan_may _ m = session-may (facts_of side log).session _ (λ s. tt)

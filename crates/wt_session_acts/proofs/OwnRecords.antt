@@ -24,11 +24,11 @@ use Rattle.wt_session_acts.specs.OwnActions.{HalfFacts}
 use Rattle.wt_session_acts.specs.Performing.{MayBeMade, RecordMayBeMade}
 use Rattle.wt_session_acts.specs.RecordFacts.{AnswersRequest, Connects, RecordFacts}
 use Rattle.wt_session_spec.proofs.Uses.{same-receiving}
-use Rattle.wt_session_spec.specs.CallFacts.{facts_of, receiving}
+use Rattle.wt_session_spec.specs.CallFacts.{facts_of, receiving_facts}
 use Rattle.wt_session_spec.specs.ConnectPlans.{dialled_at, dialled_to, dialled_unless}
 use Rattle.wt_session_spec.specs.ConnectionPlans.{close_plan, datagram_by, datagram_if, datagram_plan, header_left, header_sent, opening_plan, poll_plan}
 use Rattle.wt_session_spec.specs.HalfPlans.{exact_plan, finish_actions, finish_plan, priority_plan, read_exact_plan, read_plan, reset_plan, set_priority_plan, stop_plan, stopped_plan, write_actions, write_all_plan, write_plan}
-use Rattle.wt_session_spec.specs.HandshakePlans.{AllOut, Ended, HeadProgress, Refused, Short, abandoned, acceptance, actions_of_head, awaited, continued_by, continued_connect, delivery, failed_connect, handshake_plan, left_of, lost_connect, progress_of, refusal_code, rejection, request_left, request_plan, request_sent, request_unless, response_left, response_read, start_plan}
+use Rattle.wt_session_spec.specs.HandshakePlans.{AllOut, Ended, HeadProgress, Refused, Short, abandon_plan, acceptance, actions_of_head, wait_plan, continued_by, continued_connect, delivery, failed_connect, handshake_plan, left_of, lost_connect, head_progress_of, refusal_code, rejection, request_left, request_plan, request_sent, request_unless, response_left, response_read, start_plan}
 use Rattle.wt_session_spec.specs.Plan.{AcceptBi, AcceptUni, Establish, Plan, Receive, Step, closing_with, fail_with, only_reply, send_and_reply, while_open}
 use Rattle.wt_session_spec.specs.Plans.{in_session_now, may_call_now, may_respond_now, plan_of, with_half}
 use Rattle.wt_session_spec.specs.SessionState.{has_receiving_now, has_sending_now, is_answering, is_opening_now, session_state}
@@ -38,8 +38,8 @@ use Rattle.wt_spec.specs.Connection.{stream_header}
 use Rattle.wt_spec.specs.Driver.{call_view, settings_came, stream_table}
 use Rattle.wt_spec.specs.Effect.{is_empty}
 use Rattle.wt_spec.specs.Halves.{unread_body}
-use Rattle.wt_spec.specs.Handshake.{Connecting, HandshakeState, Requested, Responding, awaits_answer, handshake_state, has_success, queued_requests, requested, response_head}
-use Rattle.wt_spec.specs.StreamTable.{Classified, dispatched}
+use Rattle.wt_spec.specs.Handshake.{Connecting, HandshakeState, Requested, Responding, awaits_answer, handshake_state, has_success, queued_requests, requested_stream, response_head}
+use Rattle.wt_spec.specs.StreamTable.{Classified, dispatched_streams}
 use Rattle.wt_streams.specs.HalfRules.{is_closed, read_count, too_few}
 use Rattle.wt_turn.specs.Log.{BytesRead, CallRecord, HandshakeOver, Log, Polled, PrioritySet, ResponseStarted, Sent, StreamAccepted, actions_of, calls_of, events_of, is_open, with_actions}
 use Rattle.wt_turn.specs.declared.action.Action.{Action}
@@ -80,25 +80,25 @@ module _ (side : Side) (log : Log) where
   -- ---- a server's request
 
   module _ (r : RecordFacts side log) where
-    delivery-made : (cs : List Classified) → ((c : Classified) → In c cs → In c (dispatched (call_view log) (stream_table side log).classified).requests) → RecordMayBeMade side log (delivery (facts_of side log) cs)
+    delivery-made : (cs : List Classified) → ((c : Classified) → In c cs → In c (dispatched_streams (call_view log) (stream_table side log).classified).requests) → RecordMayBeMade side log (delivery (facts_of side log) cs)
     delivery-made (c ∷ later) i = delivered-made side log c.id (queued-found (call_view log).delivered (stream_table side log).classified c r.once (i c (inl refl)))
     delivery-made [] i = plan-if (is_open log) (only_reply replies.Pending) (fail_with [] (replies.Failed (facts_of side log).driver_error)) (λ o. polls []) (λ o. fails [])
 
     incoming-made : RecordMayBeMade side log (delivery (facts_of side log) (facts_of side log).requests)
     incoming-made = delivery-made (queued_requests side log) (by (settings_came side log))
       where
-        by : (b : Bool) (c : Classified) → In c (if b then (dispatched (call_view log) (stream_table side log).classified).requests else []) → In c (dispatched (call_view log) (stream_table side log).classified).requests
+        by : (b : Bool) (c : Classified) → In c (if b then (dispatched_streams (call_view log) (stream_table side log).classified).requests else []) → In c (dispatched_streams (call_view log) (stream_table side log).classified).requests
         by true c i = i
         by false c i = absurd i
 
   -- ---- a server's response
 
   module _ (waiting : CallRecord) (w : (own : List Action) → MayBeMade side (with_actions own log) waiting) (a : AnswersRequest side log) where
-    acceptance-made : (p : HeadProgress) (own : List Action) → RecordMayBeMade side log (acceptance p (facts_of side log) (requested (calls_of log)) own waiting)
+    acceptance-made : (p : HeadProgress) (own : List Action) → RecordMayBeMade side log (acceptance p (facts_of side log) (requested_stream (calls_of log)) own waiting)
     acceptance-made Ended own = fails []
     acceptance-made Refused own = fails (closing_with (facts_of side log) refusal_code)
     acceptance-made Short own = w own
-    acceptance-made AllOut own = accepted-made side log own (requested (calls_of log)) (facts_of side log).request_end a.server a.queued
+    acceptance-made AllOut own = accepted-made side log own (requested_stream (calls_of log)) (facts_of side log).request_end a.server a.queued
 
     rejection-made : (p : HeadProgress) (k : ℕ) (own : List Action) → RecordMayBeMade side log (rejection p (facts_of side log) k own waiting)
     rejection-made Ended k own = fails []
@@ -108,9 +108,9 @@ module _ (side : Side) (log : Log) where
         plan-if (not (is_finished (actions_of log) k)) _ _ (λ e. w (own ++ actions.Finish k ∷ []))
         (λ e. plan-if (is_some (stop_of (events_of log) k) || (sending_half log k).acknowledged) (fail_with (closing_with (facts_of side log) 0) replies.Rejected) (Step [] waiting replies.Pending) (λ s. fails (closing_with (facts_of side log) 0)) (λ s. w []))
 
-    response-made : (accepts : Bool) (left : List ℕ) → RecordMayBeMade side log (response_left accepts (facts_of side log) (requested (calls_of log)) left waiting)
-    response-made true left = acceptance-made (progress_of (facts_of side log) (requested (calls_of log)) left) (actions_of_head (facts_of side log) (requested (calls_of log)) left)
-    response-made false left = rejection-made (progress_of (facts_of side log) (requested (calls_of log)) left) (requested (calls_of log)) (actions_of_head (facts_of side log) (requested (calls_of log)) left)
+    response-made : (accepts : Bool) (left : List ℕ) → RecordMayBeMade side log (response_left accepts (facts_of side log) (requested_stream (calls_of log)) left waiting)
+    response-made true left = acceptance-made (head_progress_of (facts_of side log) (requested_stream (calls_of log)) left) (actions_of_head (facts_of side log) (requested_stream (calls_of log)) left)
+    response-made false left = rejection-made (head_progress_of (facts_of side log) (requested_stream (calls_of log)) left) (requested_stream (calls_of log)) (actions_of_head (facts_of side log) (requested_stream (calls_of log)) left)
 
   answering : (s : HandshakeState) → awaits_answer s ≡ true → is_answering s ≡ true
   answering (Requested id) e = refl
@@ -120,7 +120,7 @@ module _ (side : Side) (log : Log) where
   start-made r accepts head m =
       let parts = and_parts (not (is_client side)) (awaits_answer (handshake_state (calls_of log))) m in
       let a = r.answering (answering (handshake_state (calls_of log)) parts.1) in
-      response-made (ResponseStarted accepts head) (λ own. started-made side log own accepts head a.server parts.1) a accepts (left_of (facts_of side log) (requested (calls_of log)) head)
+      response-made (ResponseStarted accepts head) (λ own. started-made side log own accepts head a.server parts.1) a accepts (left_of (facts_of side log) (requested_stream (calls_of log)) head)
 
   -- ---- a client's connect
 
@@ -134,7 +134,7 @@ module _ (side : Side) (log : Log) where
     read-response own o responses.Ended e = fails (own ++ closing_with (facts_of side log) 0)
     read-response own o responses.Waiting e = plan-if (is_open log) (send_and_reply own replies.Pending) (failed_connect own (lost_connect (facts_of side log))) (λ s. polls own) (λ s. fails own)
     read-response own o (responses.Response fields at) e =
-        plan-if (not (has_success fields)) (abandoned (facts_of side log) own connects.SessionRejected)
+        plan-if (not (has_success fields)) (abandon_plan (facts_of side log) own connects.SessionRejected)
         (if is_open log then Establish own (local_bi side) at else failed_connect own (connects.ConnectionError (facts_of side log).driver_error)) (λ s. fails (own ++ closing_with (facts_of side log) 0))
         (λ s. plan-if (is_open log) (Establish own (local_bi side) at) (failed_connect own (connects.ConnectionError (facts_of side log).driver_error))
         (λ p. connected-made side log own at c o (ap response_offset e)) (λ p. fails own))
@@ -148,9 +148,9 @@ module _ (side : Side) (log : Log) where
     left-made : (own : List Action) (left : List ℕ) → IsOpened own → RecordMayBeMade side log (request_left (facts_of side log) (local_bi side) own left)
     left-made own left o =
         plan-if (is_empty left) (response_read (facts_of side log) (local_bi side) own (facts_of side log).response)
-        (request_sent (progress_of (facts_of side log) (local_bi side) left) (facts_of side log) (local_bi side) own (actions_of_head (facts_of side log) (local_bi side) left))
+        (request_sent (head_progress_of (facts_of side log) (local_bi side) left) (facts_of side log) (local_bi side) own (actions_of_head (facts_of side log) (local_bi side) left))
         (λ e. read-response own o (facts_of side log).response refl)
-        (λ e. sent-made (progress_of (facts_of side log) (local_bi side) left) own (actions_of_head (facts_of side log) (local_bi side) left) o)
+        (λ e. sent-made (head_progress_of (facts_of side log) (local_bi side) left) own (actions_of_head (facts_of side log) (local_bi side) left) o)
 
     next-self : (next_id side log (local_bi side) % 4 == local_bi side) ≡ true
     next-self = by side
@@ -172,7 +172,7 @@ module _ (side : Side) (log : Log) where
         (λ e. plan-if (may_open side log k) (request_left f k opened left) (only_reply replies.Pending)
         (λ m. left-made opened left (more-counted (next_id side log k % 4 == k) (local_count (actions_of log) k) next-self)) (λ m. polls [])))
 
-    awaited-made : (e : ConnectionError) → RecordMayBeMade side log (awaited (facts_of side log) e)
+    awaited-made : (e : ConnectionError) → RecordMayBeMade side log (wait_plan (facts_of side log) e)
     awaited-made e = plan-if (is_open log) (only_reply replies.Pending) (failed_connect [] (connects.ConnectionError e)) (λ o. polls []) (λ o. fails [])
 
     unless-made : (reserved : Option (List ℕ)) (head : List ℕ) → RecordMayBeMade side log (request_unless (facts_of side log) reserved head)
@@ -182,15 +182,15 @@ module _ (side : Side) (log : Log) where
     connecting-made : (reserved : Option (List ℕ)) (head : List ℕ) → RecordMayBeMade side log (continued_connect (facts_of side log) reserved head)
     connecting-made reserved head =
         let t = facts_of side log in
-        plan-if (not t.is_connected) (awaited t t.transport_error) (if t.settings_came then request_unless t reserved head else awaited t t.driver_error) (λ e. awaited-made t.transport_error)
-        (λ e. plan-if t.settings_came (request_unless t reserved head) (awaited t t.driver_error) (λ s. unless-made reserved head) (λ s. awaited-made t.driver_error))
+        plan-if (not t.is_connected) (wait_plan t t.transport_error) (if t.settings_came then request_unless t reserved head else wait_plan t t.driver_error) (λ e. awaited-made t.transport_error)
+        (λ e. plan-if t.settings_came (request_unless t reserved head) (wait_plan t t.driver_error) (λ s. unless-made reserved head) (λ s. awaited-made t.driver_error))
 
   -- a poll of the handshake
   handshake-made : RecordFacts side log → RecordMayBeMade side log (handshake_plan (facts_of side log) (session_state log))
   handshake-made r = by (handshake_state (calls_of log)) refl
     where
       by : (s : HandshakeState) → handshake_state (calls_of log) ≡ s → RecordMayBeMade side log (continued_by s (facts_of side log) (session_state log))
-      by (Responding accepts head) e = response-made Polled polls (r.answering (ap is_answering e)) accepts (left_of (facts_of side log) (requested (calls_of log)) head)
+      by (Responding accepts head) e = response-made Polled polls (r.answering (ap is_answering e)) accepts (left_of (facts_of side log) (requested_stream (calls_of log)) head)
       by (Connecting reserved head) e = connecting-made (r.connecting reserved head e) reserved head
       by _ e = polls []
 
@@ -231,7 +231,7 @@ module _ (side : Side) (log : Log) where
   poll-made r k session =
       let left = left_of (facts_of side log) k (stream_header k session) in
       plan-if (is_opening_now (session_state log) k) (header_left (facts_of side log) k left) (only_reply replies.NoStream)
-      (λ o. header-made (progress_of (facts_of side log) k left) k (actions_of_head (facts_of side log) k left) (given-made side log (actions_of_head (facts_of side log) k left) k (r.opening k o))) (λ o. polls [])
+      (λ o. header-made (head_progress_of (facts_of side log) k left) k (actions_of_head (facts_of side log) k left) (given-made side log (actions_of_head (facts_of side log) k left) k (r.opening k o))) (λ o. polls [])
 
   datagram-made : (payload : List ℕ) (session : ℕ) → RecordMayBeMade side log (datagram_plan (facts_of side log) payload session)
   datagram-made payload session =
@@ -268,7 +268,7 @@ module _ (side : Side) (log : Log) where
 
   module _ (r : RecordFacts side log) (k : ℕ) (given : has_receiving_now side (session_state log) k ≡ true) where
     read-plan-made : (size : ℕ) → RecordMayBeMade side log (read_plan (facts_of side log) k size)
-    read-plan-made size = reading-made side log k (read_count (receiving (facts_of side log) k) size) (r.receiving k given) (sym (same-receiving side log k) ∙ given) (omega arith)
+    read-plan-made size = reading-made side log k (read_count (receiving_facts (facts_of side log) k) size) (r.receiving k given) (sym (same-receiving side log k) ∙ given) (omega arith)
 
     takes-made : (count : ℕ) → count ≤ length (unread_body side log k) → MayBeMade side log (BytesRead k count)
     takes-made count within = read-made side log k count (r.receiving k given) (sym (same-receiving side log k) ∙ given) within
@@ -307,10 +307,7 @@ module _ (side : Side) (log : Log) where
     plan-made calls.OpenBi m = session-made (facts_of side log).session (opening_plan (facts_of side log) (local_bi side)) (λ s e. opens-made (local_bi side) s.0 (r.asked s e) (inr refl))
     plan-made (calls.PollOpening id) m = session-made (facts_of side log).session (poll_plan (facts_of side log) (session_state log) id) (λ s e. poll-made r id s.0)
     plan-made (calls.SendDatagram payload) m = session-made (facts_of side log).session (datagram_plan (facts_of side log) payload) (λ s e. datagram-made payload s.0)
-    plan-made calls.MaxDatagramSize m = session-made (facts_of side log).session _ (λ s e. polls [])
-    plan-made calls.SessionId m = session-made (facts_of side log).session _ (λ s e. polls [])
     plan-made (calls.Close code reason) m = session-made (facts_of side log).session (λ s. close_plan (facts_of side log) code reason) (λ s e. polls (while_open (facts_of side log) (actions.Close code reason)))
-    plan-made calls.Closed m = session-made (facts_of side log).session _ (λ s e. polls [])
     plan-made (calls.Write id bytes) m = half-made (has_sending_now side (session_state log) id) (write_plan (facts_of side log) id bytes) (λ e. polls (write_actions (facts_of side log) id bytes))
     plan-made (calls.WriteAll id bytes) m = half-made (has_sending_now side (session_state log) id) (write_all_plan (facts_of side log) id bytes) (λ e. polls (write_actions (facts_of side log) id bytes))
     plan-made (calls.Finish id) m = half-made (has_sending_now side (session_state log) id) (finish_plan (facts_of side log) id) (λ e. polls (finish_actions (is_open log) (sending_half log id) id))
@@ -321,3 +318,4 @@ module _ (side : Side) (log : Log) where
     plan-made (calls.Read id size) m = half-made (has_receiving_now side (session_state log) id) (read_plan (facts_of side log) id size) (λ e. read-plan-made r id e size)
     plan-made (calls.ReadExact id size) m = half-made (has_receiving_now side (session_state log) id) (read_exact_plan (facts_of side log) id size) (λ e. exact-plan-made r id e size)
     plan-made (calls.StopRecv id code) m = half-made (has_receiving_now side (session_state log) id) (stop_plan (facts_of side log) id code) (λ e. given-up-made side log (while_open (facts_of side log) (actions.StopOut id code)) id (r.receiving id e))
+    plan-made _ m = session-made (facts_of side log).session _ (λ s e. polls [])

@@ -20,11 +20,11 @@ use Rattle.wt_seam_spec.specs.Streams.{local_bi, local_count, local_uni, opens, 
 use Rattle.wt_session_acts.proofs.Classified.{queued-apart}
 use Rattle.wt_session_acts.specs.OwnActions.{own_of}
 use Rattle.wt_session_acts.specs.RecordFacts.{AnswersRequest, RecordFacts}
-use Rattle.wt_session_spec.specs.CallFacts.{facts_of, receiving}
+use Rattle.wt_session_spec.specs.CallFacts.{facts_of, receiving_facts}
 use Rattle.wt_session_spec.specs.ConnectPlans.{dialled_at, dialled_to, dialled_unless}
 use Rattle.wt_session_spec.specs.ConnectionPlans.{close_plan, datagram_by, datagram_if, datagram_plan, header_left, header_sent, opening_plan, poll_plan}
 use Rattle.wt_session_spec.specs.HalfPlans.{bytes_out, exact_plan, finish_actions, finish_plan, priority_plan, read_exact_plan, read_plan, reset_plan, set_priority_plan, stop_plan, stopped_plan, write_actions, write_all_plan, write_plan}
-use Rattle.wt_session_spec.specs.HandshakePlans.{AllOut, Ended, HeadProgress, Refused, Short, abandoned, acceptance, actions_of_head, awaited, continued_by, continued_connect, delivery, failed_connect, handshake_plan, head_actions, left_of, lost_connect, progress_of, rejection, request_left, request_plan, request_sent, request_unless, response_left, response_read, start_plan}
+use Rattle.wt_session_spec.specs.HandshakePlans.{AllOut, Ended, HeadProgress, Refused, Short, abandon_plan, acceptance, actions_of_head, wait_plan, continued_by, continued_connect, delivery, failed_connect, handshake_plan, head_actions, left_of, lost_connect, head_progress_of, rejection, request_left, request_plan, request_sent, request_unless, response_left, response_read, start_plan}
 use Rattle.wt_session_spec.specs.Plan.{AcceptBi, AcceptUni, Establish, Plan, Receive, Step, closing_with, fail_with, only_reply, send_and_reply}
 use Rattle.wt_session_spec.specs.Plans.{in_session_now, may_call_now, may_respond_now, plan_of, with_half}
 use Rattle.wt_session_spec.specs.SessionState.{has_receiving_now, has_sending_now, is_answering, is_opening_now, session_state}
@@ -32,7 +32,7 @@ use Rattle.wt_spec.specs.Answers.{is_client}
 use Rattle.wt_spec.specs.Connect.{address_of, outcome_error, port_of}
 use Rattle.wt_spec.specs.Connection.{stream_header}
 use Rattle.wt_spec.specs.Effect.{is_empty}
-use Rattle.wt_spec.specs.Handshake.{Connecting, HandshakeState, Requested, Responding, awaits_answer, handshake_state, has_success, requested, response_head}
+use Rattle.wt_spec.specs.Handshake.{Connecting, HandshakeState, Requested, Responding, awaits_answer, handshake_state, has_success, requested_stream, response_head}
 use Rattle.wt_spec.specs.StreamTable.{Classified}
 use Rattle.wt_streams.specs.HalfRules.{SendingHalf, is_closed, read_exact_answer, write_refusal}
 use Rattle.wt_turn.specs.Log.{CallRecord, Log, OpeningStarted, Polled, PrioritySet, ResetUnsent, ResponseStarted, Sent, actions_of, calls_of, events_of, is_open}
@@ -145,13 +145,13 @@ module _ (side : Side) (log : Log) where
 
   response-apart : (accepts : Bool) (id : ℕ) (left : List ℕ) (waiting : CallRecord) → (id == local_uni side) ≡ false → Apart (response_left accepts (facts_of side log) id left waiting)
   response-apart true id left waiting e =
-      acceptance-apart (progress_of (facts_of side log) id left) id (actions_of_head (facts_of side log) id left) waiting (head-apart (local_uni side) id (progress_of (facts_of side log) id left) (sending_half log id) left e)
+      acceptance-apart (head_progress_of (facts_of side log) id left) id (actions_of_head (facts_of side log) id left) waiting (head-apart (local_uni side) id (head_progress_of (facts_of side log) id left) (sending_half log id) left e)
   response-apart false id left waiting e =
-      rejection-apart (progress_of (facts_of side log) id left) id (actions_of_head (facts_of side log) id left) waiting e (head-apart (local_uni side) id (progress_of (facts_of side log) id left) (sending_half log id) left e)
+      rejection-apart (head_progress_of (facts_of side log) id left) id (actions_of_head (facts_of side log) id left) waiting e (head-apart (local_uni side) id (head_progress_of (facts_of side log) id left) (sending_half log id) left e)
 
   -- the stream of a request that is answered
-  requested-apart : AnswersRequest side log → (requested (calls_of log) == local_uni side) ≡ false
-  requested-apart a = queued-apart side log (requested (calls_of log)) (facts_of side log).request_end a.queued
+  requested-apart : AnswersRequest side log → (requested_stream (calls_of log) == local_uni side) ≡ false
+  requested-apart a = queued-apart side log (requested_stream (calls_of log)) (facts_of side log).request_end a.queued
 
   answering : (s : HandshakeState) → awaits_answer s ≡ true → is_answering s ≡ true
   answering (Requested id) e = refl
@@ -160,7 +160,7 @@ module _ (side : Side) (log : Log) where
   start-apart : RecordFacts side log → (accepts : Bool) (head : List ℕ) → may_respond_now (facts_of side log) (session_state log) ≡ true → Apart (start_plan (facts_of side log) (session_state log) accepts head)
   start-apart r accepts head m =
       let parts = and_parts (not (is_client side)) (awaits_answer (handshake_state (calls_of log))) m in
-      response-apart accepts (requested (calls_of log)) (left_of (facts_of side log) (requested (calls_of log)) head) (ResponseStarted accepts head) (requested-apart (r.answering (answering (handshake_state (calls_of log)) parts.1)))
+      response-apart accepts (requested_stream (calls_of log)) (left_of (facts_of side log) (requested_stream (calls_of log)) head) (ResponseStarted accepts head) (requested-apart (r.answering (answering (handshake_state (calls_of log)) parts.1)))
 
   -- ---- a client's connect
 
@@ -169,7 +169,7 @@ module _ (side : Side) (log : Log) where
   read-apart id own a responses.Ended = closing-behind own 0 a
   read-apart id own a responses.Waiting = plan-if (is_open log) (send_and_reply own replies.Pending) (failed_connect own (lost_connect (facts_of side log))) (λ s. a) (λ s. a)
   read-apart id own a (responses.Response fields at) =
-      plan-if (not (has_success fields)) (abandoned (facts_of side log) own connects.SessionRejected)
+      plan-if (not (has_success fields)) (abandon_plan (facts_of side log) own connects.SessionRejected)
       (if is_open log then Establish own id at else failed_connect own (connects.ConnectionError (facts_of side log).driver_error)) (λ s. closing-behind own 0 a)
       (λ s. plan-if (is_open log) (Establish own id at) (failed_connect own (connects.ConnectionError (facts_of side log).driver_error)) (λ p. a) (λ p. a))
 
@@ -183,9 +183,9 @@ module _ (side : Side) (log : Log) where
   left-apart own left a =
       let id = local_bi side in
       let out = actions_of_head (facts_of side log) id left in
-      plan-if (is_empty left) (response_read (facts_of side log) id own (facts_of side log).response) (request_sent (progress_of (facts_of side log) id left) (facts_of side log) id own out)
+      plan-if (is_empty left) (response_read (facts_of side log) id own (facts_of side log).response) (request_sent (head_progress_of (facts_of side log) id left) (facts_of side log) id own out)
       (λ e. read-apart id own a (facts_of side log).response)
-      (λ e. sent-apart (progress_of (facts_of side log) id left) id own out a (head-apart (local_uni side) id (progress_of (facts_of side log) id left) (sending_half log id) left (bi-apart side)))
+      (λ e. sent-apart (head_progress_of (facts_of side log) id left) id own out a (head-apart (local_uni side) id (head_progress_of (facts_of side log) id left) (sending_half log id) left (bi-apart side)))
 
   request-apart : (head : List ℕ) → Apart (request_plan (facts_of side log) (local_bi side) head)
   request-apart head =
@@ -199,7 +199,7 @@ module _ (side : Side) (log : Log) where
       plan-if (not (is_open log)) (failed_connect [] (lost_connect f)) (if may_open side log k then request_left f k opened left else only_reply replies.Pending) (λ e. tt)
       (λ e. plan-if (may_open side log k) (request_left f k opened left) (only_reply replies.Pending) (λ m. left-apart opened left ((next-apart side log, refl, refl, refl), tt)) (λ m. tt)))
 
-  awaited-apart : (e : ConnectionError) → Apart (awaited (facts_of side log) e)
+  awaited-apart : (e : ConnectionError) → Apart (wait_plan (facts_of side log) e)
   awaited-apart e = plan-if (is_open log) (only_reply replies.Pending) (failed_connect [] (connects.ConnectionError e)) (λ o. tt) (λ o. tt)
 
   unless-apart : (reserved : Option (List ℕ)) (head : List ℕ) → Apart (request_unless (facts_of side log) reserved head)
@@ -209,15 +209,15 @@ module _ (side : Side) (log : Log) where
   connecting-apart : (reserved : Option (List ℕ)) (head : List ℕ) → Apart (continued_connect (facts_of side log) reserved head)
   connecting-apart reserved head =
       let t = facts_of side log in
-      plan-if (not t.is_connected) (awaited t t.transport_error) (if t.settings_came then request_unless t reserved head else awaited t t.driver_error) (λ e. awaited-apart t.transport_error)
-      (λ e. plan-if t.settings_came (request_unless t reserved head) (awaited t t.driver_error) (λ s. unless-apart reserved head) (λ s. awaited-apart t.driver_error))
+      plan-if (not t.is_connected) (wait_plan t t.transport_error) (if t.settings_came then request_unless t reserved head else wait_plan t t.driver_error) (λ e. awaited-apart t.transport_error)
+      (λ e. plan-if t.settings_came (request_unless t reserved head) (wait_plan t t.driver_error) (λ s. unless-apart reserved head) (λ s. awaited-apart t.driver_error))
 
   -- a poll of the handshake
   handshake-apart : RecordFacts side log → Apart (handshake_plan (facts_of side log) (session_state log))
   handshake-apart r = by (handshake_state (calls_of log)) refl
     where
       by : (s : HandshakeState) → handshake_state (calls_of log) ≡ s → Apart (continued_by s (facts_of side log) (session_state log))
-      by (Responding accepts head) e = response-apart accepts (requested (calls_of log)) (left_of (facts_of side log) (requested (calls_of log)) head) Polled (requested-apart (r.answering (ap is_answering e)))
+      by (Responding accepts head) e = response-apart accepts (requested_stream (calls_of log)) (left_of (facts_of side log) (requested_stream (calls_of log)) head) Polled (requested-apart (r.answering (ap is_answering e)))
       by (Connecting reserved head) e = connecting-apart reserved head
       by _ e = tt
 
@@ -248,7 +248,7 @@ module _ (side : Side) (log : Log) where
   poll-apart r k session =
       let left = left_of (facts_of side log) k (stream_header k session) in
       plan-if (is_opening_now (session_state log) k) (header_left (facts_of side log) k left) (only_reply replies.NoStream)
-      (λ o. header-apart (progress_of (facts_of side log) k left) k (actions_of_head (facts_of side log) k left) (head-apart (local_uni side) k (progress_of (facts_of side log) k left) (sending_half log k) left (r.opening k o).apart))
+      (λ o. header-apart (head_progress_of (facts_of side log) k left) k (actions_of_head (facts_of side log) k left) (head-apart (local_uni side) k (head_progress_of (facts_of side log) k left) (sending_half log k) left (r.opening k o).apart))
       (λ o. tt)
 
   datagram-apart : (payload : List ℕ) (session : ℕ) → Apart (datagram_plan (facts_of side log) payload session)
@@ -344,10 +344,7 @@ module _ (side : Side) (log : Log) where
     plan-spares calls.OpenBi m = session-spares (facts_of side log).session (opening_plan (facts_of side log) (local_bi side)) (λ s. spares (opening_plan (facts_of side log) (local_bi side) s) (opens-bi-apart s))
     plan-spares (calls.PollOpening id) m = session-spares (facts_of side log).session (poll_plan (facts_of side log) (session_state log) id) (λ s. spares (poll_plan (facts_of side log) (session_state log) id s) (poll-apart r id s))
     plan-spares (calls.SendDatagram payload) m = session-spares (facts_of side log).session (datagram_plan (facts_of side log) payload) (λ s. spares (datagram_plan (facts_of side log) payload s) (datagram-apart payload s))
-    plan-spares calls.MaxDatagramSize m = session-spares (facts_of side log).session _ (λ s. tt)
-    plan-spares calls.SessionId m = session-spares (facts_of side log).session _ (λ s. tt)
     plan-spares (calls.Close code reason) m = session-spares (facts_of side log).session (λ s. close_plan (facts_of side log) code reason) (λ s. spares (close_plan (facts_of side log) code reason) (close-apart code reason))
-    plan-spares calls.Closed m = session-spares (facts_of side log).session _ (λ s. tt)
     plan-spares (calls.Write id bytes) m = half-spares (has_sending_now side (session_state log) id) (write_plan (facts_of side log) id bytes) (λ e. writes-apart id bytes (r.sending id e))
     plan-spares (calls.WriteAll id bytes) m = half-spares (has_sending_now side (session_state log) id) (write_all_plan (facts_of side log) id bytes) (λ e. writes-apart id bytes (r.sending id e))
     plan-spares (calls.Finish id) m = half-spares (has_sending_now side (session_state log) id) (finish_plan (facts_of side log) id) (λ e. finishes-apart id (r.sending id e))
@@ -357,6 +354,7 @@ module _ (side : Side) (log : Log) where
     plan-spares (calls.ResetSend id code) m = half-spares (has_sending_now side (session_state log) id) (reset_plan (facts_of side log) id code) (λ e. resets-apart id code (r.sending id e))
     plan-spares (calls.Read id size) m = half-spares (has_receiving_now side (session_state log) id) (read_plan (facts_of side log) id size) (λ e. tt)
     plan-spares (calls.ReadExact id size) m =
-        half-spares (has_receiving_now side (session_state log) id) (read_exact_plan (facts_of side log) id size) (λ e. exact-apart id size ((facts_of side log).unread id) (read_exact_answer (is_open log) (receiving (facts_of side log) id) size))
+        half-spares (has_receiving_now side (session_state log) id) (read_exact_plan (facts_of side log) id size) (λ e. exact-apart id size ((facts_of side log).unread id) (read_exact_answer (is_open log) (receiving_facts (facts_of side log) id) size))
     plan-spares (calls.StopRecv id code) m =
         half-spares (has_receiving_now side (session_state log) id) (stop_plan (facts_of side log) id code) (λ e. apart-if (local_uni side) (actions.StopOut id code) (is_open log) (refl, refl, refl, refl))
+    plan-spares _ m = session-spares (facts_of side log).session _ (λ s. tt)

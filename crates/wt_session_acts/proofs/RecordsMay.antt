@@ -4,7 +4,7 @@ use Rattle.std.specs.Prelude.{Option, Some, None, ◌==◌, ◌&&◌, ◌||◌, 
 use Rattle.std.specs.List.{list_any}
 use Rattle.std.proofs.lemmas.Bool.{or_left}
 use Rattle.wt_driver_spec.proofs.NextStreams.{next-given}
-use Rattle.wt_driver_spec.specs.Moment.{is_local, names_session}
+use Rattle.wt_driver_spec.specs.Moment.{has_local_kind, names_session}
 use Rattle.wt_driver_spec.specs.Uses.{RequestOpened, classified_of, is_for_application, may_give, passes, queued_at, role_by, role_of, use_of}
 use Rattle.wt_proto.specs.ResponseWalk.{response_offset, response_walk_of}
 use Rattle.wt_seam_spec.specs.Outgoing.{next_id}
@@ -16,7 +16,7 @@ use Rattle.wt_session_acts.specs.Performing.{MayBeMade}
 use Rattle.wt_session_acts.specs.RecordFacts.{Connects, OpensForSession}
 use Rattle.wt_session_spec.specs.HalfPlans.{read_record}
 use Rattle.wt_spec.specs.Answers.{is_client, is_first}
-use Rattle.wt_spec.specs.Driver.{established, stream_table}
+use Rattle.wt_spec.specs.Driver.{established_session, stream_table}
 use Rattle.wt_spec.specs.Halves.{has_receiving_half, unread_body}
 use Rattle.wt_spec.specs.Handshake.{awaits_answer, handshake_state}
 use Rattle.wt_spec.specs.StreamTable.{StreamTable, verdict_of}
@@ -69,7 +69,7 @@ connected-made Client log own at c o w = record {
   half = (
     record {
       role = refl;
-      unestablished = ap established (calls-behind own log) ∙ c.unestablished;
+      unestablished = ap established_session (calls-behind own log) ∙ c.unestablished;
       goes_on = ap (λ (cs : List CallRecord). (use_of 0 cs).is_over) (calls-behind own log) ∙ c.goes_on;
     },
     (λ i. response_offset (response_walk_of (contents-behind own log 0 i) (end_of (events-behind own log i) 0))) ∙ w,
@@ -93,7 +93,7 @@ server-local (suc (suc zero)) l e = absurd cc
 server-local (suc (suc (suc zero))) l e = refl
 server-local (suc (suc (suc (suc r)))) l e = absurd (omega arith)
 
-given-local : (side : Side) (k : ℕ) → may_give (role_of side k) None ≡ true → is_local side k ≡ true
+given-local : (side : Side) (k : ℕ) → may_give (role_of side k) None ≡ true → has_local_kind side k ≡ true
 given-local Client k e = client-local (k % 4) (k == 0) (omega arith) e
 given-local Server k e = server-local (k % 4) (omega arith) e
 
@@ -105,7 +105,7 @@ opening-made side log later kind session opened is =
 -- an opening that is through gives its stream
 pub given-made : (side : Side) (log : Log) (own : List Action) (k : ℕ) → OpensForSession side log k → MayBeMade side (with_actions own log) (StreamAccepted k)
 given-made side log own k o = record {
-  may = or_left (is_local side k) (names_session (verdict_of k (stream_table side (with_actions own log)).classified)) (given-local side k o.given);
+  may = or_left (has_local_kind side k) (names_session (verdict_of k (stream_table side (with_actions own log)).classified)) (given-local side k o.given);
   can = (
     ap (λ (t : StreamTable). may_give (role_of side k) (classified_of k t.classified)) (table-behind side own log) ∙ ap (may_give (role_of side k)) o.unclassified ∙ o.given,
     ap (list_any (passes k)) (calls-behind own log) ∙ o.kept,

@@ -4,7 +4,7 @@ use Rattle.wt_seam_spec.specs.Sent.{is_finished, is_reset, sent_on}
 use Rattle.wt_seam_spec.specs.Streams.{can_receive, can_send, local_bi}
 use Rattle.wt_session_spec.specs.Plan.{Establish, Plan, Step}
 use Rattle.wt_session_spec.specs.SessionState.{has_receiving_now, has_sending_now, is_opening_now, session_state}
-use Rattle.wt_spec.specs.Handshake.{Connecting, Responding, awaits_answer, handshake_state, requested}
+use Rattle.wt_spec.specs.Handshake.{Connecting, Responding, awaits_answer, handshake_state, requested_stream}
 use Rattle.wt_turn.specs.Log.{Log, actions_of, calls_of}
 use Rattle.wt_turn.specs.declared.action.Action.{Action}
 use Rattle.wt_wire.specs.declared.side.Side.{Side}
@@ -28,10 +28,10 @@ left_out log k head = drop (length (sent_on (actions_of log) k)) head
 -- A response can go on: the stream is there and wasn't reset; it wasn't finished while some of the response is left, and a
 -- rejection whose response is out is finished.
 pub record RespondsWell (side : Side) (log : Log) (accepts : Bool) (head : List ℕ) : Type 0 where
-  pub there : can_send side log (requested (calls_of log)) ≡ true
-  pub unreset : is_reset log (requested (calls_of log)) ≡ false
-  pub unfinished : (left_out log (requested (calls_of log)) head ≡ [] → ⊥) → is_finished (actions_of log) (requested (calls_of log)) ≡ false
-  pub finished : accepts ≡ false → left_out log (requested (calls_of log)) head ≡ [] → is_finished (actions_of log) (requested (calls_of log)) ≡ true
+  pub there : can_send side log (requested_stream (calls_of log)) ≡ true
+  pub unreset : is_reset log (requested_stream (calls_of log)) ≡ false
+  pub unfinished : (left_out log (requested_stream (calls_of log)) head ≡ [] → ⊥) → is_finished (actions_of log) (requested_stream (calls_of log)) ≡ false
+  pub finished : accepts ≡ false → left_out log (requested_stream (calls_of log)) head ≡ [] → is_finished (actions_of log) (requested_stream (calls_of log)) ≡ true
 
 -- What lets a session's calls send, of a log: the streams that the application has, those that are being opened, and those
 -- of the handshake have their halves.

@@ -1,7 +1,7 @@
 -- What lets a call's plan be performed.
 use Rattle.std.specs.Prelude.{List}
 use Rattle.wt_driver_spec.specs.Asking.{HalfAsks, MayBeCalled, SparesControlAll}
-use Rattle.wt_driver_spec.specs.Moment.{MayCall}
+use Rattle.wt_driver_spec.specs.Moment.{MayRecord}
 use Rattle.wt_driver_spec.specs.Uses.{MayUse}
 use Rattle.wt_seam_spec.specs.Acting.{MayActAll}
 use Rattle.wt_session_spec.specs.Plan.{Establish, Plan, Step}
@@ -11,7 +11,7 @@ use Rattle.wt_wire.specs.declared.side.Side.{Side}
 
 -- the record may be made: it may follow the log, and asks only what is there
 pub record MayBeMade (side : Side) (log : Log) (r : CallRecord) : Type 0 where
-  pub may : MayCall side log r
+  pub may : MayRecord side log r
   pub can : MayUse side log r
   pub half : HalfAsks side log r
 

@@ -2,7 +2,7 @@
 use Rattle.std.specs.Prelude.{[], ◌/◌, ◌∷◌, ◌≡◌, Bool, List, None, Option, Some, false, if◌then◌else◌, length, nat_lt, not, true, ℕ}
 use Rattle.std.proofs.Common.{refl}
 use Rattle.wt_message.specs.Datagram.{datagram_bytes}
-use Rattle.wt_seam_spec.specs.Outgoing.{credit_left, may_open, next_id, opening}
+use Rattle.wt_seam_spec.specs.Outgoing.{credit_left, may_open, next_id, actions_to_open}
 use Rattle.wt_seam_spec.specs.Reports.{datagram_fact}
 use Rattle.wt_turn.specs.Log.{Log, OpeningStarted, events_of, is_open}
 use Rattle.wt_turn.specs.declared.datagram_fact.DatagramFact.{DatagramFact}
@@ -27,7 +27,7 @@ module _ (side : Side) (log : Log) where
   same-open kind session = split side log (not (is_open log)) _ _ _ _ refl (at (may_open side log kind) refl)
     where
       at : (m : Bool) → may_open side log kind ≡ m
-          → (if may_open side log kind then reply_with (log_call side log (opening side log kind) (OpeningStarted (next_id side log kind) session)) (replies.Opening (next_id side log kind)) else poll_only side log replies.Pending)
+          → (if may_open side log kind then reply_with (log_call side log (actions_to_open side log kind) (OpeningStarted (next_id side log kind) session)) (replies.Opening (next_id side log kind)) else poll_only side log replies.Pending)
           ≡ perform side log (if may_open side log kind then Step (actions.Opened (next_id side log kind) ∷ []) (OpeningStarted (next_id side log kind) session) (replies.Opening (next_id side log kind)) else only_reply replies.Pending)
       at true m = rw m refl
       at false m = rw m refl

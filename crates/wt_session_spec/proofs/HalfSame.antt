@@ -6,14 +6,14 @@ use Rattle.wt_seam.specs.Rules.{sending_half}
 use Rattle.wt_seam_spec.specs.Joined.{send_of}
 use Rattle.wt_seam_spec.specs.Outgoing.{credit_left}
 use Rattle.wt_seam_spec.specs.Reports.{end_of, stop_of}
-use Rattle.wt_streams.specs.HalfRules.{all_unless, all_written, finish_unless, read_answer, nothing_unread, read_exact_answer, stopped_unless, too_few, write_refusal, written, written_unless}
+use Rattle.wt_streams.specs.HalfRules.{all_unless, all_written, finish_unless, read_answer, nothing_unread, read_exact_answer, stopped_unless, too_few, write_refusal, written_count, written_unless}
 use Rattle.wt_turn.specs.Log.{Log, events_of, is_open}
 use Rattle.wt_turn.specs.declared.poll.Poll.TheVariants.{Pending, Ready}
 use Rattle.wt_error.specs.declared.stream_error.StreamWriteError.{StreamWriteError}
 use Rattle.wt_wire.specs.declared.side.Side.{Side}
 use Rattle.wt_wire.specs.declared.side.StreamEnd.{StreamEnd}
 use Rattle.wt_spec.specs.Effect.{poll_only}
-use Rattle.wt_spec.specs.Halves.{all_written_reply, at_stream_end, exact_at_end, finish, is_done, priority, read, read_exact, read_reply, reset, set_priority, stop_receiving, stopped, stopped_reply, take_bytes, unread_body, write, write_all, write_by, write_error, written_reply}
+use Rattle.wt_spec.specs.Halves.{all_written_reply, reply_at_end, exact_at_end, finish, is_done, priority, read, read_exact, read_reply, reset, set_priority, stop_receiving, stopped, stopped_reply, take_bytes, unread_body, write, write_all, write_by, write_error, written_reply}
 use Rattle.wt_session_spec.proofs.HandshakeSame.{split}
 use Rattle.wt_session_spec.specs.CallFacts.{facts_of}
 use Rattle.wt_session_spec.specs.HalfPlans.{bytes_out, exact_plan, finish_plan, finish_reply, priority_plan, read_exact_plan, read_plan, reset_plan, set_priority_plan, stop_plan, stopped_by, stopped_plan, write_all_plan, write_all_reply, write_plan, write_reply}
@@ -34,7 +34,7 @@ same-stop (Some code) = refl
 same-refusal : (log : Log) (k : ℕ) → write_error log k ≡ write_refusal (is_open log) (sending_half log k)
 same-refusal log k = rw (← same-stop (stop_of (events_of log) k)) refl
 
-same-written : (left : ℕ) (bytes : List ℕ) → written_reply bytes (length (take left bytes)) ≡ write_reply (written left bytes)
+same-written : (left : ℕ) (bytes : List ℕ) → written_reply bytes (length (take left bytes)) ≡ write_reply (written_count left bytes)
 same-written left [] = refl
 same-written zero (b ∷ bytes) = refl
 same-written (suc n) (b ∷ bytes) = rw (ne_eqb (suc n) 0 (omega arith)) refl
@@ -116,18 +116,18 @@ module _ (side : Side) (log : Log) where
 
   -- ---- reading
 
-  same-read-end : (u : List ℕ) (e : StreamEnd) → at_stream_end log e ≡ plans.read_reply u (nothing_unread (is_open log) e)
+  same-read-end : (u : List ℕ) (e : StreamEnd) → reply_at_end log e ≡ plans.reply_of_read u (nothing_unread (is_open log) e)
   same-read-end u ends.Fin = refl
   same-read-end u (ends.Reset code) = refl
   same-read-end u ends.Running = at (is_open log)
     where
-      at : (o : Bool) → (if o then replies.Pending else replies.ReadFailed reads.NotConnected) ≡ plans.read_reply u (if o then Pending else Ready (Err reads.NotConnected))
+      at : (o : Bool) → (if o then replies.Pending else replies.ReadFailed reads.NotConnected) ≡ plans.reply_of_read u (if o then Pending else Ready (Err reads.NotConnected))
       at true = refl
       at false = refl
 
   same-read-of : (k size : ℕ) (u : List ℕ)
       → (if size == 0 then poll_only side log (replies.Read (Some [])) else read_reply side log k size u)
-      ≡ perform side log (Step [] (plans.read_record k (min size (length u))) (plans.read_reply u (read_answer (is_open log) (record { unread = length u; end = end_of (events_of log) k }) size)))
+      ≡ perform side log (Step [] (plans.read_record k (min size (length u))) (plans.reply_of_read u (read_answer (is_open log) (record { unread = length u; end = end_of (events_of log) k }) size)))
   same-read-of k zero u = let m : min 0 (length u) ≡ 0 = omega arith in rw m refl
   same-read-of k (suc n) [] =
       let m : min (suc n) 0 ≡ 0 = omega arith in

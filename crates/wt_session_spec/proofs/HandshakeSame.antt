@@ -9,7 +9,7 @@ use Rattle.url.specs.declared.error.ParseError.{ParseError}
 use Rattle.wt_proto.specs.ResponseWalk.{response_walk_of}
 use Rattle.wt_proto.specs.declared.response_walk.ResponseWalk.{ResponseWalk}
 use Rattle.wt_seam_spec.specs.Joined.{send_of}
-use Rattle.wt_seam_spec.specs.Outgoing.{credit_left, may_open, next_id, opening}
+use Rattle.wt_seam_spec.specs.Outgoing.{credit_left, may_open, next_id, actions_to_open}
 use Rattle.wt_seam_spec.specs.Reports.{end_of, is_acknowledged, is_connected, stop_of}
 use Rattle.wt_seam_spec.specs.Sent.{is_finished}
 use Rattle.wt_seam_spec.specs.Streams.{contents, local_bi, local_count}
@@ -25,11 +25,11 @@ use Rattle.wt_wire.specs.declared.side.Side.{Side}
 use Rattle.wt_spec.specs.Connect.{address_of, connect, connect_to, outcome_error, port_of, unless_stopped, with_address}
 use Rattle.wt_spec.specs.Driver.{settings_came}
 use Rattle.wt_spec.specs.Effect.{Effect, driver_error, head_left, is_covered, is_empty, poll_only, transport_error}
-use Rattle.wt_spec.specs.Handshake.{Connecting, HandshakeState, Responding, accept_response, await_or_fail, continue_by, continue_connect, continue_handshake, deliver, finish_rejection, incoming, is_refused, handshake_state, has_success, open_request, queued_requests, read_response, reject_response, requested, respond, send_request, start_response, unless_reserved}
+use Rattle.wt_spec.specs.Handshake.{Connecting, HandshakeState, Responding, accept_response, await_or_fail, continue_by, continue_connect, continue_handshake, deliver, finish_rejection, incoming, is_refused, handshake_state, has_success, open_request, queued_requests, read_response, reject_response, requested_stream, respond, send_request, start_response, unless_reserved}
 use Rattle.wt_spec.specs.StreamTable.{Classified}
 use Rattle.wt_session_spec.specs.CallFacts.{facts_of}
 use Rattle.wt_session_spec.specs.ConnectPlans.{connect_plan, dialled_at, dialled_to, dialled_unless}
-use Rattle.wt_session_spec.specs.HandshakePlans.{awaited, continued_by, continued_connect, delivery, handshake_plan, incoming_plan, rejection_out, request_left, request_plan, request_unless, response_left, response_plan, response_read, start_plan}
+use Rattle.wt_session_spec.specs.HandshakePlans.{wait_plan, continued_by, continued_connect, delivery, handshake_plan, incoming_plan, rejection_out, request_left, request_plan, request_unless, response_left, response_plan, response_read, start_plan}
 use Rattle.wt_session_spec.specs.Plan.{Plan, only_reply, perform}
 use Rattle.wt_session_spec.specs.SessionState.{session_state}
 use Rattle.wt_turn.specs.declared.action.Action.TheVariants as actions
@@ -70,11 +70,11 @@ module _ (side : Side) (log : Log) where
   -- ---- a response
 
   same-acceptance : (left : List ℕ) (waiting : CallRecord)
-      → accept_response side log (requested (calls_of log)) left waiting ≡ perform side log (response_left true (facts_of side log) (requested (calls_of log)) left waiting)
+      → accept_response side log (requested_stream (calls_of log)) left waiting ≡ perform side log (response_left true (facts_of side log) (requested_stream (calls_of log)) left waiting)
   same-acceptance left waiting = at (is_open log) refl (is_refused log id left) refl (nat_lt (credit_left log id) (length left)) refl
     where
       id : ℕ
-      id = requested (calls_of log)
+      id = requested_stream (calls_of log)
 
       at : (o : Bool) → is_open log ≡ o → (r : Bool) → is_refused log id left ≡ r → (s : Bool) → nat_lt (credit_left log id) (length left) ≡ s
           → accept_response side log id left waiting ≡ perform side log (response_left true (facts_of side log) id left waiting)
@@ -84,19 +84,19 @@ module _ (side : Side) (log : Log) where
       at true o false r false s = rw (o, r, covered-test log id left, s) refl
 
   same-rejection-out : (left : List ℕ) (waiting : CallRecord)
-      → finish_rejection side log (requested (calls_of log)) left waiting ≡ perform side log (rejection_out (facts_of side log) (requested (calls_of log)) (send_of (requested (calls_of log)) left) waiting)
+      → finish_rejection side log (requested_stream (calls_of log)) left waiting ≡ perform side log (rejection_out (facts_of side log) (requested_stream (calls_of log)) (send_of (requested_stream (calls_of log)) left) waiting)
   same-rejection-out left waiting =
       split (not (is_finished (actions_of log) id)) _ _ _ _ refl (split (is_some (stop_of (events_of log) id) || is_acknowledged (events_of log) id) _ _ _ _ refl refl)
     where
       id : ℕ
-      id = requested (calls_of log)
+      id = requested_stream (calls_of log)
 
   same-rejection : (left : List ℕ) (waiting : CallRecord)
-      → reject_response side log (requested (calls_of log)) left waiting ≡ perform side log (response_left false (facts_of side log) (requested (calls_of log)) left waiting)
+      → reject_response side log (requested_stream (calls_of log)) left waiting ≡ perform side log (response_left false (facts_of side log) (requested_stream (calls_of log)) left waiting)
   same-rejection left waiting = at (is_open log) refl (is_refused log id left) refl (nat_lt (credit_left log id) (length left)) refl
     where
       id : ℕ
-      id = requested (calls_of log)
+      id = requested_stream (calls_of log)
 
       at : (o : Bool) → is_open log ≡ o → (r : Bool) → is_refused log id left ≡ r → (s : Bool) → nat_lt (credit_left log id) (length left) ≡ s
           → reject_response side log id left waiting ≡ perform side log (response_left false (facts_of side log) id left waiting)
@@ -109,8 +109,8 @@ module _ (side : Side) (log : Log) where
           a ∙ same-rejection-out left waiting ∙ b
 
   same-response : (accepts : Bool) (head : List ℕ) (waiting : CallRecord) → respond side log accepts head waiting ≡ perform side log (response_plan (facts_of side log) (session_state log) accepts head waiting)
-  same-response true head waiting = same-acceptance (head_left log (requested (calls_of log)) head) waiting
-  same-response false head waiting = same-rejection (head_left log (requested (calls_of log)) head) waiting
+  same-response true head waiting = same-acceptance (head_left log (requested_stream (calls_of log)) head) waiting
+  same-response false head waiting = same-rejection (head_left log (requested_stream (calls_of log)) head) waiting
 
   pub same-start : (accepts : Bool) (head : List ℕ) → start_response side log accepts head ≡ perform side log (start_plan (facts_of side log) (session_state log) accepts head)
   same-start accepts head = same-response accepts head (ResponseStarted accepts head)
@@ -155,11 +155,11 @@ module _ (side : Side) (log : Log) where
       id = local_bi side
 
       at : (m : Bool) → may_open side log id ≡ m
-          → (if may_open side log id then send_request side log id (opening side log id) (head_left log id head) else poll_only side log replies.Pending)
+          → (if may_open side log id then send_request side log id (actions_to_open side log id) (head_left log id head) else poll_only side log replies.Pending)
           ≡ perform side log (if may_open side log id then request_left (facts_of side log) id (actions.Opened (next_id side log id) ∷ []) (head_left log id head) else only_reply replies.Pending)
       at true m =
           let own : List Action = actions.Opened (next_id side log id) ∷ [] in
-          let a : (if may_open side log id then send_request side log id (opening side log id) (head_left log id head) else poll_only side log replies.Pending) ≡ send_request side log id own (head_left log id head) = rw m refl in
+          let a : (if may_open side log id then send_request side log id (actions_to_open side log id) (head_left log id head) else poll_only side log replies.Pending) ≡ send_request side log id own (head_left log id head) = rw m refl in
           let z : perform side log (request_left (facts_of side log) id own (head_left log id head)) ≡ perform side log (if may_open side log id then request_left (facts_of side log) id own (head_left log id head) else only_reply replies.Pending) = rw m refl in
           a ∙ same-left own (head_left log id head) ∙ z
       at false m = rw m refl
@@ -168,7 +168,7 @@ module _ (side : Side) (log : Log) where
   same-unless (Some name) head = refl
   same-unless None head = same-request head
 
-  same-awaited : (e : ConnectionError) → await_or_fail side log e ≡ perform side log (awaited (facts_of side log) e)
+  same-awaited : (e : ConnectionError) → await_or_fail side log e ≡ perform side log (wait_plan (facts_of side log) e)
   same-awaited e = split (is_open log) _ _ _ _ refl refl
 
   same-connect : (reserved : Option (List ℕ)) (head : List ℕ) → continue_connect side log reserved head ≡ perform side log (continued_connect (facts_of side log) reserved head)

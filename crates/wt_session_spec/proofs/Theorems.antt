@@ -10,7 +10,7 @@ use Rattle.wt_turn.specs.declared.call.Call.{Call}
 use Rattle.wt_wire.specs.declared.side.Side.{Side}
 use Rattle.wt_spec.specs.Answers.{call_effect, in_session, may_call}
 use Rattle.wt_spec.specs.Connection.{accept_stream, close_connection, closed_reply, open_stream, payload_limit, poll_opening, receive_datagram, send_datagram}
-use Rattle.wt_spec.specs.Driver.{established, log_and_flush}
+use Rattle.wt_spec.specs.Driver.{established_session, log_and_flush}
 use Rattle.wt_spec.specs.Effect.{Effect, log_call, poll_only}
 use Rattle.wt_spec.specs.Halves.{finish, has_receiving_half, has_sending_half, on_half, priority, read, read_exact, reset, set_priority, stop_receiving, stopped, write, write_all}
 use Rattle.wt_spec.specs.Handshake.{response_head}
@@ -29,8 +29,8 @@ use Rattle.wt_reply.specs.declared.reply.Reply.TheVariants as replies
 
 module _ (side : Side) (log : Log) where
   -- a call on the established session
-  session-planned : (call : ℕ → Effect) (plan : ℕ → Plan) → ((s : ℕ) → call s ≡ perform side log (plan s)) → in_session side log call (established (calls_of log)) ≡ perform side log (with_session (facts_of side log) plan)
-  session-planned call plan f = at (established (calls_of log))
+  session-planned : (call : ℕ → Effect) (plan : ℕ → Plan) → ((s : ℕ) → call s ≡ perform side log (plan s)) → in_session side log call (established_session (calls_of log)) ≡ perform side log (with_session (facts_of side log) plan)
+  session-planned call plan f = at (established_session (calls_of log))
     where
       at : (o : Option (ℕ × ℕ)) → in_session side log call o ≡ perform side log (in_session_now plan o)
       at None = refl

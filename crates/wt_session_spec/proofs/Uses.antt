@@ -9,7 +9,7 @@ use Rattle.wt_spec.specs.Connection.{accepts_stream, ends_opening, is_opening, s
 use Rattle.wt_spec.specs.Driver.{apply_if, flush, is_moment, log_and_flush, pending_actions}
 use Rattle.wt_spec.specs.Effect.{log_call}
 use Rattle.wt_spec.specs.Halves.{has_receiving_half, has_sending_half}
-use Rattle.wt_session_spec.specs.SessionState.{Given, Giving, NotGiven, Opening, Unopened, session_after, begun, changed_if, failed, giving_after, giving_of, has_receiving_now, has_sending_now, is_in_opening, is_opening_now, session_state, was_given}
+use Rattle.wt_session_spec.specs.SessionState.{Given, Giving, NotGiven, Opening, Unopened, session_after, giving_begun, changed_if, giving_failed, giving_after, giving_of, has_receiving_now, has_sending_now, is_in_opening, is_opening_now, session_state, was_given}
 
 -- the same, of what calls did: an opening began, it ended, the stream was given
 giving_by : Bool → Bool → Bool → Giving
@@ -18,7 +18,7 @@ giving_by s true false = Unopened
 giving_by true false false = Opening
 giving_by false false false = NotGiven
 
-giving-begun : (t s e a : Bool) → changed_if t begun (giving_by s e a) ≡ giving_by (t || s) e a
+giving-begun : (t s e a : Bool) → changed_if t giving_begun (giving_by s e a) ≡ giving_by (t || s) e a
 unfolding giving_by
 giving-begun false s e a = refl
 giving-begun true s e true = refl
@@ -26,7 +26,7 @@ giving-begun true s true false = refl
 giving-begun true true false false = refl
 giving-begun true false false false = refl
 
-giving-failed : (t s e a : Bool) → changed_if t failed (giving_by s e a) ≡ giving_by s (t || e) a
+giving-failed : (t s e a : Bool) → changed_if t giving_failed (giving_by s e a) ≡ giving_by s (t || e) a
 unfolding giving_by
 giving-failed false s e a = refl
 giving-failed true s e true = refl

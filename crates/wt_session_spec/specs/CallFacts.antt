@@ -14,10 +14,10 @@ use Rattle.wt_turn.specs.declared.datagram_fact.DatagramFact.{DatagramFact}
 use Rattle.wt_wire.specs.declared.side.Side.{Side}
 use Rattle.wt_wire.specs.declared.side.StreamEnd.{StreamEnd}
 use Rattle.wt_spec.specs.Answers.{is_first}
-use Rattle.wt_spec.specs.Driver.{established, settings_came, stream_table}
+use Rattle.wt_spec.specs.Driver.{established_session, settings_came, stream_table}
 use Rattle.wt_spec.specs.Effect.{driver_error, transport_error}
 use Rattle.wt_spec.specs.Halves.{unread_body}
-use Rattle.wt_spec.specs.Handshake.{queued_requests, request_end, requested}
+use Rattle.wt_spec.specs.Handshake.{queued_requests, request_end, requested_stream}
 use Rattle.wt_spec.specs.StreamTable.{Classified, verdict_of}
 
 -- what calls ask of the transport and of the driver
@@ -57,10 +57,10 @@ facts_of side log = record {
   datagram_fact = datagram_fact (events_of log);
   settings_came = settings_came side log;
   requests = queued_requests side log;
-  request_end = request_end (verdict_of (requested (calls_of log)) (stream_table side log).classified);
+  request_end = request_end (verdict_of (requested_stream (calls_of log)) (stream_table side log).classified);
   has_request_stream = not (local_count (actions_of log) (local_bi side) == 0);
   response = response_walk_of (contents log (local_bi side)) (end_of (events_of log) (local_bi side));
-  session = established (calls_of log);
+  session = established_session (calls_of log);
   may_open = may_open side log;
   next_id = next_id side log;
   sending = sending_half log;
@@ -70,5 +70,5 @@ facts_of side log = record {
 }
 
 -- a receiving half, as its rules see it
-abbrev pub receiving : CallFacts → ℕ → ReceivingHalf
-receiving f k = record { unread = length (f.unread k); end = f.end k }
+abbrev pub receiving_facts : CallFacts → ℕ → ReceivingHalf
+receiving_facts f k = record { unread = length (f.unread k); end = f.end k }

@@ -18,14 +18,14 @@ use Rattle.wt_error.specs.declared.connecting_error.UrlRefusal.TheVariants as re
 use Rattle.wt_reply.specs.declared.reply.Reply.TheVariants as replies
 
 -- the transport is asked for a connection to this address, with this server name
-abbrev pub dialling : List ℕ → List ℕ → List ℕ → Fields → Addr → Plan
-dialling name authority path headers address =
+abbrev pub dial_plan : List ℕ → List ℕ → List ℕ → Fields → Addr → Plan
+dial_plan name authority path headers address =
     Step (actions.Dial address name ∷ []) (ConnectStarted (reserved_name headers) (request_head authority path headers)) replies.Pending
 
 -- the connection is dialled unless the endpoint hinders it
 abbrev pub dialled_unless : Parts → Fields → Option ConnectingError → Addr → Plan
 dialled_unless url headers (Some e) address = failed_connect [] e
-dialled_unless url headers None address = dialling (server_name (host_or_empty url)) (authority_of url) (path_of url) headers address
+dialled_unless url headers None address = dial_plan (server_name (host_or_empty url)) (authority_of url) (path_of url) headers address
 
 -- it goes on with the address, or fails without one
 abbrev pub dialled_at : Parts → Fields → ConnectOutcome → Result Addr ConnectingError → Plan

@@ -6,7 +6,7 @@ use Rattle.wt_turn.specs.declared.action.Action.{Action}
 use Rattle.wt_turn.specs.declared.datagram_fact.DatagramFact.{DatagramFact}
 use Rattle.wt_spec.specs.Connection.{opened_reply, stream_header}
 use Rattle.wt_session_spec.specs.CallFacts.{CallFacts}
-use Rattle.wt_session_spec.specs.HandshakePlans.{AllOut, Ended, HeadProgress, Refused, Short, actions_of_head, left_of, progress_of}
+use Rattle.wt_session_spec.specs.HandshakePlans.{AllOut, Ended, HeadProgress, Refused, Short, actions_of_head, left_of, head_progress_of}
 use Rattle.wt_session_spec.specs.Plan.{Plan, Step, only_reply, send_and_reply, while_open}
 use Rattle.wt_session_spec.specs.SessionState.{SessionState, is_opening_now}
 use Rattle.wt_turn.specs.declared.action.Action.TheVariants as actions
@@ -34,7 +34,7 @@ header_sent AllOut k own = Step own (StreamAccepted k) (opened_reply k)
 
 -- what is left of a stream's header goes out
 abbrev pub header_left : CallFacts → ℕ → List ℕ → Plan
-header_left f k left = header_sent (progress_of f k left) k (actions_of_head f k left)
+header_left f k left = header_sent (head_progress_of f k left) k (actions_of_head f k left)
 
 -- a poll of a stream that is being opened
 abbrev pub poll_plan : CallFacts → SessionState → ℕ → ℕ → Plan

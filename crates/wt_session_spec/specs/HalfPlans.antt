@@ -12,7 +12,7 @@ use Rattle.wt_error.specs.declared.stream_error.StreamReadError.{StreamReadError
 use Rattle.wt_error.specs.declared.stream_error.StreamReadExactError.{StreamReadExactError}
 use Rattle.wt_error.specs.declared.stream_error.StreamWriteError.{StreamWriteError}
 use Rattle.wt_error.specs.declared.stream_error.WriteAll.{WriteAll}
-use Rattle.wt_session_spec.specs.CallFacts.{CallFacts, receiving}
+use Rattle.wt_session_spec.specs.CallFacts.{CallFacts, receiving_facts}
 use Rattle.wt_session_spec.specs.Plan.{Plan, Step, only_reply, send_and_reply, while_open}
 use Rattle.wt_turn.specs.declared.action.Action.TheVariants as actions
 use Rattle.wt_error.specs.declared.stream_error.StreamReadExactError.TheVariants as exacts
@@ -103,15 +103,15 @@ read_record k zero = Polled
 read_record k (suc n) = BytesRead k (suc n)
 
 -- the reply of a read, with what is unread
-abbrev pub read_reply : List ℕ → Poll (Result (Option ℕ) StreamReadError) → Reply
-read_reply bytes Pending = replies.Pending
-read_reply bytes (Ready (Ok None)) = replies.Read None
-read_reply bytes (Ready (Ok (Some count))) = replies.Read (Some (take count bytes))
-read_reply bytes (Ready (Err e)) = replies.ReadFailed e
+abbrev pub reply_of_read : List ℕ → Poll (Result (Option ℕ) StreamReadError) → Reply
+reply_of_read bytes Pending = replies.Pending
+reply_of_read bytes (Ready (Ok None)) = replies.Read None
+reply_of_read bytes (Ready (Ok (Some count))) = replies.Read (Some (take count bytes))
+reply_of_read bytes (Ready (Err e)) = replies.ReadFailed e
 
 -- at most so many of the unread bytes
 abbrev pub read_plan : CallFacts → ℕ → ℕ → Plan
-read_plan f k size = Step [] (read_record k (read_count (receiving f k) size)) (read_reply (f.unread k) (read_answer f.is_open (receiving f k) size))
+read_plan f k size = Step [] (read_record k (read_count (receiving_facts f k) size)) (reply_of_read (f.unread k) (read_answer f.is_open (receiving_facts f k) size))
 
 -- a read of exactly so many bytes, with what is unread: too few bytes are taken only where no more can come
 abbrev pub exact_plan : ℕ → ℕ → List ℕ → Poll (Result (Unit {0}) StreamReadExactError) → Plan
@@ -122,7 +122,7 @@ exact_plan k size bytes (Ready (Err (exacts.Read e))) = only_reply (replies.Exac
 
 -- exactly so many of the unread bytes
 abbrev pub read_exact_plan : CallFacts → ℕ → ℕ → Plan
-read_exact_plan f k size = exact_plan k size (f.unread k) (read_exact_answer f.is_open (receiving f k) size)
+read_exact_plan f k size = exact_plan k size (f.unread k) (read_exact_answer f.is_open (receiving_facts f k) size)
 
 -- the half is given up
 abbrev pub stop_plan : CallFacts → ℕ → ℕ → Plan

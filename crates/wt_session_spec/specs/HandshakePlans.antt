@@ -51,12 +51,12 @@ abbrev pub left_of : CallFacts → ℕ → List ℕ → List ℕ
 left_of f k head = drop (f.sent k) head
 
 -- how far what is left of a stream's head comes
-abbrev pub progress_of : CallFacts → ℕ → List ℕ → HeadProgress
-progress_of f k left = head_progress f.is_open (f.sending k) left
+abbrev pub head_progress_of : CallFacts → ℕ → List ℕ → HeadProgress
+head_progress_of f k left = head_progress f.is_open (f.sending k) left
 
 -- what of it goes out
 abbrev pub actions_of_head : CallFacts → ℕ → List ℕ → List Action
-actions_of_head f k left = head_actions (progress_of f k left) k (f.sending k) left
+actions_of_head f k left = head_actions (head_progress_of f k left) k (f.sending k) left
 
 -- ---- a server's request
 
@@ -102,8 +102,8 @@ rejection AllOut f id own waiting = rejection_out f id own waiting
 
 -- what is left of a response goes out; a call that leaves it unfinished leaves this record
 abbrev pub response_left : Bool → CallFacts → ℕ → List ℕ → CallRecord → Plan
-response_left true f id left waiting = acceptance (progress_of f id left) f id (actions_of_head f id left) waiting
-response_left false f id left waiting = rejection (progress_of f id left) f id (actions_of_head f id left) waiting
+response_left true f id left waiting = acceptance (head_progress_of f id left) f id (actions_of_head f id left) waiting
+response_left false f id left waiting = rejection (head_progress_of f id left) f id (actions_of_head f id left) waiting
 
 -- the response to the request that was delivered goes on
 abbrev pub response_plan : CallFacts → SessionState → Bool → List ℕ → CallRecord → Plan
@@ -120,8 +120,8 @@ abbrev pub failed_connect : List Action → ConnectingError → Plan
 failed_connect own e = fail_with own (replies.ConnectFailed e)
 
 -- a failure on an open connection closes it
-abbrev pub abandoned : CallFacts → List Action → ConnectingError → Plan
-abandoned f own e = failed_connect (own ++ closing_with f 0) e
+abbrev pub abandon_plan : CallFacts → List Action → ConnectingError → Plan
+abandon_plan f own e = failed_connect (own ++ closing_with f 0) e
 
 -- the failure that the connection's end is to a connect
 abbrev pub lost_connect : CallFacts → ConnectingError
@@ -130,16 +130,16 @@ lost_connect f = connects.ConnectionError f.transport_error
 -- what the walk over the response leads to
 abbrev pub response_read : CallFacts → ℕ → List Action → ResponseWalk → Plan
 response_read f id own (responses.Fault code) = failed_connect (own ++ closing_with f (code_of code)) (connects.ConnectionError (errors.LocalH3Error code))
-response_read f id own responses.Ended = abandoned f own (lost_connect f)
+response_read f id own responses.Ended = abandon_plan f own (lost_connect f)
 response_read f id own responses.Waiting = if f.is_open then send_and_reply own replies.Pending else failed_connect own (lost_connect f)
 response_read f id own (responses.Response fields at) =
-    if not (has_success fields) then abandoned f own connects.SessionRejected else
+    if not (has_success fields) then abandon_plan f own connects.SessionRejected else
     (if f.is_open then Establish own id at else failed_connect own (connects.ConnectionError f.driver_error))
 
 -- the request goes out as far as credit goes; once it is out, its response is awaited
 abbrev pub request_sent : HeadProgress → CallFacts → ℕ → List Action → List Action → Plan
 request_sent Ended f id own out = failed_connect own (lost_connect f)
-request_sent Refused f id own out = abandoned f own connects.SessionRejected
+request_sent Refused f id own out = abandon_plan f own connects.SessionRejected
 request_sent Short f id own out = send_and_reply (own ++ out) replies.Pending
 request_sent AllOut f id own out = response_read f id (own ++ out) f.response
 
@@ -147,7 +147,7 @@ request_sent AllOut f id own out = response_read f id (own ++ out) f.response
 abbrev pub request_left : CallFacts → ℕ → List Action → List ℕ → Plan
 request_left f id own left =
     if is_empty left then response_read f id own f.response
-    else request_sent (progress_of f id left) f id own (actions_of_head f id left)
+    else request_sent (head_progress_of f id left) f id own (actions_of_head f id left)
 
 -- the client's first bidirectional stream is the session's
 abbrev pub request_plan : CallFacts → ℕ → List ℕ → Plan
@@ -158,18 +158,18 @@ request_plan f kind head =
 
 -- a header that only the session layer sets fails the connect
 abbrev pub request_unless : CallFacts → Option (List ℕ) → List ℕ → Plan
-request_unless f (Some name) head = abandoned f [] (connects.ReservedHeader name)
+request_unless f (Some name) head = abandon_plan f [] (connects.ReservedHeader name)
 request_unless f None head = request_plan f (local_bi f.side) head
 
 -- a step waits while the connection is open
-abbrev pub awaited : CallFacts → ConnectionError → Plan
-awaited f e = if f.is_open then only_reply replies.Pending else failed_connect [] (connects.ConnectionError e)
+abbrev pub wait_plan : CallFacts → ConnectionError → Plan
+wait_plan f e = if f.is_open then only_reply replies.Pending else failed_connect [] (connects.ConnectionError e)
 
 -- the connection, then the peer's SETTINGS, then the request and its response
 abbrev pub continued_connect : CallFacts → Option (List ℕ) → List ℕ → Plan
 continued_connect f reserved head =
-    if not f.is_connected then awaited f f.transport_error else
-    (if f.settings_came then request_unless f reserved head else awaited f f.driver_error)
+    if not f.is_connected then wait_plan f f.transport_error else
+    (if f.settings_came then request_unless f reserved head else wait_plan f f.driver_error)
 
 -- ---- a handshake goes on with what it is at
 

@@ -5,7 +5,7 @@ use Rattle.wt_seam_spec.specs.Streams.{local_uni, peer_uni}
 use Rattle.wt_turn.specs.Log.{CallRecord, Log, OpeningFailed, OpeningStarted, StreamAccepted, calls_of}
 use Rattle.wt_wire.specs.declared.side.Side.{Side}
 use Rattle.wt_spec.specs.Halves.{gives_up}
-use Rattle.wt_spec.specs.Handshake.{HandshakeState, Requested, Responding, after_record, handshake_state, requested, requested_by}
+use Rattle.wt_spec.specs.Handshake.{HandshakeState, Requested, Responding, after_record, handshake_state, requested_stream, requested_by}
 
 -- ---- one stream
 
@@ -22,14 +22,14 @@ pub record StreamUse : Type 0 where
   pub given_up : Bool  -- its receiving half
 
 -- an opening begins, once
-abbrev pub begun : Giving → Giving
-begun NotGiven = Opening
-begun g = g
+abbrev pub giving_begun : Giving → Giving
+giving_begun NotGiven = Opening
+giving_begun g = g
 
 -- an opening fails, unless the stream was given
-abbrev pub failed : Giving → Giving
-failed Given = Given
-failed _ = Unopened
+abbrev pub giving_failed : Giving → Giving
+giving_failed Given = Given
+giving_failed _ = Unopened
 
 -- the new where the test holds, else the old
 abbrev pub changed_if : Bool → (Giving → Giving) → Giving → Giving
@@ -38,8 +38,8 @@ changed_if false f g = g
 
 -- whether stream k was given, after a call that recorded this
 abbrev pub giving_after : ℕ → CallRecord → Giving → Giving
-giving_after k (OpeningStarted id session) g = changed_if (id == k) begun g
-giving_after k (OpeningFailed id) g = changed_if (id == k) failed g
+giving_after k (OpeningStarted id session) g = changed_if (id == k) giving_begun g
+giving_after k (OpeningFailed id) g = changed_if (id == k) giving_failed g
 giving_after k (StreamAccepted id) g = changed_if (id == k) (λ before. Given) g
 giving_after k _ g = g
 
@@ -78,7 +78,7 @@ pub record SessionState : Type 0 where
 abbrev pub session_state : Log → SessionState
 session_state log = record {
   handshake = handshake_state (calls_of log);
-  requested = requested (calls_of log);
+  requested = requested_stream (calls_of log);
   streams = λ k. stream_use k (calls_of log);
 }
 

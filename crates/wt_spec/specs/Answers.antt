@@ -3,7 +3,7 @@
 use Rattle.std.specs.Prelude.{[], ◌&&◌, ◌-◌, ◌∷◌, Bool, List, None, Option, Some, codes, false, if◌then◌else◌, length, not, take, true, ℕ}
 use Rattle.wt_message.specs.FixedBytes.{response_bytes}
 use Rattle.wt_seam_spec.specs.Arrivals.{fits, log_turn}
-use Rattle.wt_seam_spec.specs.Joined.{joined}
+use Rattle.wt_seam_spec.specs.Joined.{joined_actions}
 use Rattle.wt_seam_spec.specs.Reports.{datagram_fact}
 use Rattle.wt_seam_spec.specs.Streams.{local_bi, local_uni, peer_bi, peer_uni}
 use Rattle.wt_turn.specs.Log.{Log, Received, actions_of, calls_of, events_of, is_open}
@@ -15,7 +15,7 @@ use Rattle.wt_wire.specs.declared.side.Side.{Side}
 use Rattle.wt_wire.specs.declared.side.Side.TheVariants.{Client, Server}
 use Rattle.wt_spec.specs.Connect.{connect}
 use Rattle.wt_spec.specs.Connection.{accept_stream, close_connection, closed_reply, open_stream, payload_limit, poll_opening, receive_datagram, send_datagram}
-use Rattle.wt_spec.specs.Driver.{established, flush, log_and_flush}
+use Rattle.wt_spec.specs.Driver.{established_session, flush, log_and_flush}
 use Rattle.wt_spec.specs.Effect.{Effect, poll_only, reply_with}
 use Rattle.wt_spec.specs.Halves.{finish, has_receiving_half, has_sending_half, on_half, priority, read, read_exact, reset, set_priority, stop_receiving, stopped, write, write_all}
 use Rattle.wt_spec.specs.Handshake.{awaits_answer, awaits_request, continue_handshake, handshake_state, incoming, is_continuable, response_head, start_response}
@@ -32,7 +32,7 @@ in_session side log call (Some s) = call s.0
 
 -- a call that asks for an established session
 abbrev pub on_session : Side → Log → (ℕ → Effect) → Effect
-on_session side log call = in_session side log call (established (calls_of log))
+on_session side log call = in_session side log call (established_session (calls_of log))
 
 -- a call on the sending half of a stream
 abbrev pub on_sending : Side → Log → ℕ → (ℕ → Effect) → Effect
@@ -89,7 +89,7 @@ turn_effect side log turn = reply_with (flush side (log_turn log turn)) replies.
 
 -- what went out behind a log, oldest first, with the sends on one stream that follow each other joined
 abbrev pub actions_since : Log → Log → List Action
-actions_since log later = joined (take (length (actions_of later) - length (actions_of log)) (actions_of later))
+actions_since log later = joined_actions (take (length (actions_of later) - length (actions_of log)) (actions_of later))
 
 -- the answer to a turn after this log: its reply, and the actions that went out during it
 abbrev pub answer_to : Side → Log → Turn → Answer

@@ -6,7 +6,7 @@ use Rattle.std.specs.List.{list_any}
 use Rattle.wt_message.specs.Datagram.{datagram_bytes, datagram_of}
 use Rattle.wt_proto.specs.declared.verdict.Verdict.{Verdict}
 use Rattle.wt_seam_spec.specs.Joined.{send_of}
-use Rattle.wt_seam_spec.specs.Outgoing.{covered, if_open, may_open, next_id, opening}
+use Rattle.wt_seam_spec.specs.Outgoing.{bytes_within_credit, if_open, may_open, next_id, actions_to_open}
 use Rattle.wt_seam_spec.specs.Reports.{datagram_fact, datagrams_of}
 use Rattle.wt_seam_spec.specs.Streams.{peer_count}
 use Rattle.wt_turn.specs.Log.{CallRecord, DatagramPassed, DatagramReceived, Log, OpeningFailed, OpeningStarted, StreamAccepted, StreamPassed, calls_of, events_of, is_open}
@@ -19,7 +19,7 @@ use Rattle.wt_wire.specs.declared.side.Side.{Side}
 use Rattle.wt_spec.specs.Driver.{call_view, settled_datagrams, stream_table}
 use Rattle.wt_spec.specs.Effect.{Effect, head_left, is_covered, log_call, pending_or_failed, poll_only, poll_sending, reply_with, transport_error}
 use Rattle.wt_spec.specs.Handshake.{is_refused}
-use Rattle.wt_spec.specs.StreamTable.{Classified, dispatched}
+use Rattle.wt_spec.specs.StreamTable.{Classified, dispatched_streams}
 use Rattle.wt_turn.specs.declared.action.Action.TheVariants as actions
 use Rattle.wt_error.specs.declared.stream_error.SendDatagramError.TheVariants as datagrams
 use Rattle.wt_turn.specs.declared.datagram_fact.DatagramFact.TheVariants as facts
@@ -46,7 +46,7 @@ first_of test (c ∷ cs) = if test c then Some c else first_of test cs
 
 -- the stream that an accept looks at
 abbrev pub next_due : Side → Log → ℕ → ℕ → Option Classified
-next_due side log kind s = first_of (is_due (is_open log) kind s) (dispatched (call_view log) (stream_table side log).classified).waiting
+next_due side log kind s = first_of (is_due (is_open log) kind s) (dispatched_streams (call_view log) (stream_table side log).classified).waiting
 
 -- the log with a stream of another session stopped and passed
 abbrev pub pass_stream : Side → Log → ℕ → Log
@@ -114,7 +114,7 @@ abbrev pub open_stream : Side → Log → ℕ → ℕ → Effect
 open_stream side log kind s =
     if not (is_open log) then poll_only side log (replies.Failed (transport_error log)) else
     (if may_open side log kind
-    then reply_with (log_call side log (opening side log kind) (OpeningStarted (next_id side log kind) s)) (replies.Opening (next_id side log kind))
+    then reply_with (log_call side log (actions_to_open side log kind) (OpeningStarted (next_id side log kind) s)) (replies.Opening (next_id side log kind))
     else poll_only side log replies.Pending)
 
 -- the call began to open this stream
@@ -148,7 +148,7 @@ opened_reply k = if is_bidirectional k then replies.BiReady k else replies.SendR
 abbrev pub send_header : Side → Log → ℕ → List ℕ → Effect
 send_header side log k left =
     if is_covered log k left then reply_with (log_call side log (send_of k left) (StreamAccepted k)) (opened_reply k)
-    else poll_sending side log (send_of k (covered log k left)) replies.Pending
+    else poll_sending side log (send_of k (bytes_within_credit log k left)) replies.Pending
 
 -- an opening goes on, unless the connection ended or the peer stopped the stream
 abbrev pub continue_opening : Side → Log → ℕ → List ℕ → Effect

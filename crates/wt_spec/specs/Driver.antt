@@ -14,15 +14,15 @@ use Rattle.wt_turn.specs.declared.action.Action.{Action}
 use Rattle.wt_wire.specs.Codes.{code_of}
 use Rattle.wt_wire.specs.declared.side.Side.{Side}
 use Rattle.wt_spec.specs.Scan.{scan_order}
-use Rattle.wt_spec.specs.StreamTable.{ByFault, BySession, CallView, Ending, Progress, Stopped, StreamTable, TransportView, no_streams}
+use Rattle.wt_spec.specs.StreamTable.{ByFault, BySession, CallView, Ending, DriverProgress, Stopped, StreamTable, TransportView, no_streams}
 use Rattle.wt_turn.specs.declared.action.Action.TheVariants as actions
 use Rattle.wt_wire.specs.declared.error.ErrorCode.TheVariants as h3
 
 -- ---- what a moment looks at
 
 -- this end's SETTINGS are out, or can go out whole: one unidirectional stream is allowed, with credit for all of them
-abbrev pub is_ready : Side → Log → Bool
-is_ready side log =
+abbrev pub settings_ready : Side → Log → Bool
+settings_ready side log =
     is_connected (events_of log) && nat_lt 0 (unis_allowed (events_of log))
     && not (nat_lt (credit (events_of log) (local_uni side)) (length local_control_bytes))
 
@@ -30,7 +30,7 @@ is_ready side log =
 abbrev pub transport_view : Side → Log → TransportView
 transport_view side log = record {
   side = side;
-  ready = is_ready side log;
+  ready = settings_ready side log;
   unis = peer_count side (events_of log) (peer_uni side);
   bis = peer_count side (events_of log) (peer_bi side);
   contents = contents log;
@@ -74,9 +74,9 @@ or_earlier None earlier = earlier
 or_earlier (Some s) earlier = Some s
 
 -- the session that is established, and where its part of the stream begins
-abbrev pub established : List CallRecord → Option (ℕ × ℕ)
-established [] = None
-established (r ∷ earlier) = or_earlier (establishes r) (established earlier)
+abbrev pub established_session : List CallRecord → Option (ℕ × ℕ)
+established_session [] = None
+established_session (r ∷ earlier) = or_earlier (establishes r) (established_session earlier)
 
 -- what the calls did up to the end of the log
 abbrev pub call_view : Log → CallView
@@ -84,7 +84,7 @@ call_view log = record {
   released = λ k. list_any (releases k) (calls_of log);
   delivered = λ k. list_any (delivers k) (calls_of log);
   datagrams = settled_datagrams (calls_of log);
-  session = established (calls_of log);
+  session = established_session (calls_of log);
 }
 
 -- ---- after each moment
@@ -156,14 +156,14 @@ close_actions session (Some (ByFault code)) = actions.Close (code_of code) [] �
 close_actions session (Some (BySession code reason by_capsule)) = reset_if by_capsule session ++ actions.Close (code_of h3.NoError) [] ∷ []
 
 -- what goes out after a moment, in its order
-abbrev pub actions_after : TransportView → ControlSent → Option (ℕ × ℕ) → Progress → List Action
+abbrev pub actions_after : TransportView → ControlSent → Option (ℕ × ℕ) → DriverProgress → List Action
 actions_after t s session p =
     control_actions t.may_open (local_uni t.side) t.credit s ++ stop_actions p.stops ++ close_actions (session_id session) p.ending
 
 -- what the driver sends at the moment that ends the log: its control stream, then the stops by id, then the close
 abbrev pub pending_actions : Side → Log → List Action
 pending_actions side log =
-    actions_after (transport_view side log) (control_sent side log) (established (calls_of log)) (stream_table side log).progress
+    actions_after (transport_view side log) (control_sent side log) (established_session (calls_of log)) (stream_table side log).progress
 
 -- the log with what the driver sends at its newest moment
 unfoldable pub flush : Side → Log → Log

@@ -1,6 +1,6 @@
 -- What a turn leads to, and how an ended connection is told.
 use Rattle.std.specs.Prelude.{[], ◌∷◌, Bool, List, None, Option, Some, drop, false, if◌then◌else◌, length, true, ℕ}
-use Rattle.wt_seam_spec.specs.Outgoing.{covered, if_open}
+use Rattle.wt_seam_spec.specs.Outgoing.{bytes_within_credit, if_open}
 use Rattle.wt_seam_spec.specs.Reports.{loss_of}
 use Rattle.wt_seam_spec.specs.Sent.{sent_on}
 use Rattle.wt_turn.specs.Log.{CallRecord, Called, Log, Polled, actions_of, events_of, is_open, with_actions}
@@ -75,8 +75,8 @@ head_left log k head = drop (length (sent_on (actions_of log) k)) head
 
 -- the credit covers all of these bytes
 abbrev pub is_covered : Log → ℕ → List ℕ → Bool
-is_covered log k bytes = is_empty (drop (length (covered log k bytes)) bytes)
+is_covered log k bytes = is_empty (drop (length (bytes_within_credit log k bytes)) bytes)
 
 -- the connection is closed with this code and no reason, where it is open
-abbrev pub closing : Log → ℕ → List Action
-closing log code = if_open log (actions.Close code [])
+abbrev pub close_when_open : Log → ℕ → List Action
+close_when_open log code = if_open log (actions.Close code [])

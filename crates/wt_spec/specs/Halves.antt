@@ -3,7 +3,7 @@ use Rattle.std.specs.Prelude.{[], ◌%◌, ◌&&◌, ◌+◌, ◌==◌, ◌||◌
 use Rattle.std.specs.List.{list_any}
 use Rattle.wt_proto.specs.declared.verdict.Verdict.{Verdict}
 use Rattle.wt_seam_spec.specs.Joined.{send_of}
-use Rattle.wt_seam_spec.specs.Outgoing.{covered, if_open}
+use Rattle.wt_seam_spec.specs.Outgoing.{bytes_within_credit, if_open}
 use Rattle.wt_seam_spec.specs.Reports.{end_of, is_acknowledged, stop_of}
 use Rattle.wt_seam_spec.specs.Sent.{is_finished, is_reset, priority_of}
 use Rattle.wt_seam_spec.specs.Streams.{contents, local_uni, peer_uni}
@@ -71,7 +71,7 @@ all_written_reply bytes n = if n == length bytes then replies.AllWritten else re
 -- as many bytes as credit is left for
 abbrev pub write_by : (List ℕ → ℕ → Reply) → Side → Log → ℕ → List ℕ → Option StreamWriteError → Effect
 write_by reply side log k bytes (Some e) = poll_only side log (replies.WriteFailed e)
-write_by reply side log k bytes None = poll_sending side log (send_of k (covered log k bytes)) (reply bytes (length (covered log k bytes)))
+write_by reply side log k bytes None = poll_sending side log (send_of k (bytes_within_credit log k bytes)) (reply bytes (length (bytes_within_credit log k bytes)))
 
 -- as many of the bytes as may be sent
 abbrev pub write : Side → Log → ℕ → List ℕ → Effect
@@ -97,15 +97,15 @@ abbrev pub stopped : Side → Log → ℕ → Effect
 stopped side log k = poll_only side log (stopped_reply log k (λ e. replies.StoppedBy e) (replies.StoppedBy writes.Closed) (stop_of (events_of log) k))
 
 -- a finish goes out once, on an open half that the peer didn't stop
-abbrev pub finishing : Log → ℕ → List Action
-finishing log k =
+abbrev pub finish_once : Log → ℕ → List Action
+finish_once log k =
     if is_open log && not (is_finished (actions_of log) k) && not (is_reset log k) && not (is_some (stop_of (events_of log) k))
     then actions.Finish k ∷ [] else []
 
 -- the sending half is finished, where it still may be
 abbrev pub finish : Side → Log → ℕ → Effect
 finish side log k =
-    poll_sending side log (finishing log k) (stopped_reply log k (λ e. replies.WriteFailed e) replies.Finished (stop_of (events_of log) k))
+    poll_sending side log (finish_once log k) (stopped_reply log k (λ e. replies.WriteFailed e) replies.Finished (stop_of (events_of log) k))
 
 -- a reset counts also where it can't go out
 abbrev pub reset : Side → Log → ℕ → ℕ → Effect
@@ -149,14 +149,14 @@ abbrev pub take_bytes : Side → Log → ℕ → List ℕ → Reply → Effect
 take_bytes side log k bytes reply = reply_with (log_call side log [] (BytesRead k (length bytes))) reply
 
 -- with nothing unread
-abbrev pub at_stream_end : Log → StreamEnd → Reply
-at_stream_end log ends.Running = if is_open log then replies.Pending else replies.ReadFailed reads.NotConnected
-at_stream_end log ends.Fin = replies.Read None
-at_stream_end log (ends.Reset code) = replies.ReadFailed (reads.Reset code)
+abbrev pub reply_at_end : Log → StreamEnd → Reply
+reply_at_end log ends.Running = if is_open log then replies.Pending else replies.ReadFailed reads.NotConnected
+reply_at_end log ends.Fin = replies.Read None
+reply_at_end log (ends.Reset code) = replies.ReadFailed (reads.Reset code)
 
 -- what a read of these unread bytes answers
 abbrev pub read_reply : Side → Log → ℕ → ℕ → List ℕ → Effect
-read_reply side log k size [] = poll_only side log (at_stream_end log (end_of (events_of log) k))
+read_reply side log k size [] = poll_only side log (reply_at_end log (end_of (events_of log) k))
 read_reply side log k size (b ∷ bytes) = take_bytes side log k (take size (b ∷ bytes)) (replies.Read (Some (take size (b ∷ bytes))))
 
 -- at most so many of the unread bytes

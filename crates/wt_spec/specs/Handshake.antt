@@ -7,7 +7,7 @@ use Rattle.wt_message.specs.Responses.{status_of}
 use Rattle.wt_proto.specs.declared.response_walk.ResponseWalk.{ResponseWalk}
 use Rattle.wt_proto.specs.declared.verdict.Verdict.{Verdict}
 use Rattle.wt_seam_spec.specs.Joined.{send_of}
-use Rattle.wt_seam_spec.specs.Outgoing.{covered, may_open, opening}
+use Rattle.wt_seam_spec.specs.Outgoing.{bytes_within_credit, may_open, actions_to_open}
 use Rattle.wt_seam_spec.specs.Reports.{end_of, is_acknowledged, is_connected, stop_of}
 use Rattle.wt_seam_spec.specs.Sent.{is_finished}
 use Rattle.wt_seam_spec.specs.Streams.{contents, local_bi, local_count}
@@ -21,8 +21,8 @@ use Rattle.wt_wire.specs.HeaderList.{Fields, with_field}
 use Rattle.wt_wire.specs.Status.{is_successful}
 use Rattle.wt_wire.specs.declared.side.Side.{Side}
 use Rattle.wt_spec.specs.Driver.{call_view, settings_came, stream_table}
-use Rattle.wt_spec.specs.Effect.{Effect, closing, driver_error, head_left, is_covered, is_empty, log_call, poll_only, poll_sending, reply_with, transport_error}
-use Rattle.wt_spec.specs.StreamTable.{Classified, dispatched, verdict_of}
+use Rattle.wt_spec.specs.Effect.{Effect, close_when_open, driver_error, head_left, is_covered, is_empty, log_call, poll_only, poll_sending, reply_with, transport_error}
+use Rattle.wt_spec.specs.StreamTable.{Classified, dispatched_streams, verdict_of}
 use Rattle.wt_turn.specs.declared.action.Action.TheVariants as actions
 use Rattle.wt_error.specs.declared.connecting_error.ConnectingError.TheVariants as connects
 use Rattle.wt_error.specs.declared.connection_error.ConnectionError.TheVariants as errors
@@ -84,7 +84,7 @@ deliver side log [] = if is_open log then poll_only side log replies.Pending els
 -- the queued requests, none of which counts before the peer's SETTINGS came
 abbrev pub queued_requests : Side → Log → List Classified
 queued_requests side log =
-    if settings_came side log then (dispatched (call_view log) (stream_table side log).classified).requests else []
+    if settings_came side log then (dispatched_streams (call_view log) (stream_table side log).classified).requests else []
 
 -- a server's call for a request
 abbrev pub incoming : Side → Log → Effect
@@ -98,9 +98,9 @@ requested_by (RequestDelivered id) = Some id
 requested_by _ = None
 
 -- the stream of the request that was delivered
-abbrev pub requested : List CallRecord → ℕ
-requested [] = 0
-requested (r ∷ earlier) = elim (requested_by r) [ Some id ↦ id | None ↦ requested earlier ]
+abbrev pub requested_stream : List CallRecord → ℕ
+requested_stream [] = 0
+requested_stream (r ∷ earlier) = elim (requested_by r) [ Some id ↦ id | None ↦ requested_stream earlier ]
 
 -- the frame of a response with this status code; a `:status` among the headers is left out
 abbrev pub response_head : List ℕ → Fields → List ℕ
@@ -115,31 +115,31 @@ abbrev pub accept_response : Side → Log → ℕ → List ℕ → CallRecord �
 accept_response side log id left waiting =
     if not (is_open log) then fail_handshake side log [] (replies.Failed (transport_error log)) else
     (if is_refused log id left
-    then fail_handshake side log (closing log (code_of h3.ClosedCriticalStream)) (replies.Failed (errors.LocalH3Error h3.ClosedCriticalStream)) else
+    then fail_handshake side log (close_when_open log (code_of h3.ClosedCriticalStream)) (replies.Failed (errors.LocalH3Error h3.ClosedCriticalStream)) else
     (if is_covered log id left
     then establish side log (send_of id left) id (request_end (verdict_of id (stream_table side log).classified))
-    else reply_with (log_call side log (send_of id (covered log id left)) waiting) replies.Pending))
+    else reply_with (log_call side log (send_of id (bytes_within_credit log id left)) waiting) replies.Pending))
 
 -- a rejection whose response is out waits until the peer has it or doesn't want it
 abbrev pub finish_rejection : Side → Log → ℕ → List ℕ → CallRecord → Effect
 finish_rejection side log id left waiting =
     if not (is_finished (actions_of log) id) then reply_with (log_call side log (send_of id left ++ actions.Finish id ∷ []) waiting) replies.Pending else
     (if is_some (stop_of (events_of log) id) || is_acknowledged (events_of log) id
-    then fail_handshake side log (closing log 0) replies.Rejected
+    then fail_handshake side log (close_when_open log 0) replies.Rejected
     else reply_with (log_call side log [] waiting) replies.Pending)
 
 -- a rejection: its response goes out as far as credit goes, and then the stream is finished
 abbrev pub reject_response : Side → Log → ℕ → List ℕ → CallRecord → Effect
 reject_response side log id left waiting =
     if not (is_open log) then fail_handshake side log [] replies.Rejected else
-    (if is_refused log id left then fail_handshake side log (closing log (code_of h3.ClosedCriticalStream)) replies.Rejected else
+    (if is_refused log id left then fail_handshake side log (close_when_open log (code_of h3.ClosedCriticalStream)) replies.Rejected else
     (if is_covered log id left then finish_rejection side log id left waiting
-    else reply_with (log_call side log (send_of id (covered log id left)) waiting) replies.Pending))
+    else reply_with (log_call side log (send_of id (bytes_within_credit log id left)) waiting) replies.Pending))
 
 -- the response goes on; a call that leaves it unfinished leaves this record
 abbrev pub respond : Side → Log → Bool → List ℕ → CallRecord → Effect
-respond side log true head waiting = accept_response side log (requested (calls_of log)) (head_left log (requested (calls_of log)) head) waiting
-respond side log false head waiting = reject_response side log (requested (calls_of log)) (head_left log (requested (calls_of log)) head) waiting
+respond side log true head waiting = accept_response side log (requested_stream (calls_of log)) (head_left log (requested_stream (calls_of log)) head) waiting
+respond side log false head waiting = reject_response side log (requested_stream (calls_of log)) (head_left log (requested_stream (calls_of log)) head) waiting
 
 -- a response begins, and goes out as far as credit goes
 abbrev pub start_response : Side → Log → Bool → List ℕ → Effect
@@ -153,11 +153,11 @@ fail_connect side log own e = fail_handshake side log own (replies.ConnectFailed
 
 -- a failure on an open connection closes it
 abbrev pub abandon : Side → Log → List Action → ConnectingError → Effect
-abandon side log own e = fail_connect side log (own ++ closing log 0) e
+abandon side log own e = fail_connect side log (own ++ close_when_open log 0) e
 
 -- the failure that the connection's end is to a connect
-abbrev pub lost : Log → ConnectingError
-lost log = connects.ConnectionError (transport_error log)
+abbrev pub loss_to_connect : Log → ConnectingError
+loss_to_connect log = connects.ConnectionError (transport_error log)
 
 -- a status code from 200 to 299 establishes the session
 abbrev pub has_success : Fields → Bool
@@ -166,10 +166,10 @@ has_success fields = elim (status_of fields) [ Some code ↦ is_successful code 
 -- what the walk over the response leads to
 abbrev pub read_response : Side → Log → ℕ → List Action → ResponseWalk → Effect
 read_response side log id own (responses.Fault code) =
-    fail_connect side log (own ++ closing log (code_of code)) (connects.ConnectionError (errors.LocalH3Error code))
-read_response side log id own responses.Ended = abandon side log own (lost log)
+    fail_connect side log (own ++ close_when_open log (code_of code)) (connects.ConnectionError (errors.LocalH3Error code))
+read_response side log id own responses.Ended = abandon side log own (loss_to_connect log)
 read_response side log id own responses.Waiting =
-    if is_open log then poll_sending side log own replies.Pending else fail_connect side log own (lost log)
+    if is_open log then poll_sending side log own replies.Pending else fail_connect side log own (loss_to_connect log)
 read_response side log id own (responses.Response fields at) =
     if not (has_success fields) then abandon side log own connects.SessionRejected else
     (if is_open log then establish side log own id at else fail_connect side log own (connects.ConnectionError (driver_error side log)))
@@ -182,17 +182,17 @@ await_response side log id own = read_response side log id own (response_walk_of
 abbrev pub send_request : Side → Log → ℕ → List Action → List ℕ → Effect
 send_request side log id own left =
     if is_empty left then await_response side log id own else
-    (if not (is_open log) then fail_connect side log own (lost log) else
+    (if not (is_open log) then fail_connect side log own (loss_to_connect log) else
     (if is_some (stop_of (events_of log) id) then abandon side log own connects.SessionRejected else
     (if is_covered log id left then await_response side log id (own ++ send_of id left)
-    else poll_sending side log (own ++ send_of id (covered log id left)) replies.Pending)))
+    else poll_sending side log (own ++ send_of id (bytes_within_credit log id left)) replies.Pending)))
 
 -- the client's first bidirectional stream is the session's
 abbrev pub open_request : Side → Log → List ℕ → Effect
 open_request side log head =
     if not (local_count (actions_of log) (local_bi side) == 0) then send_request side log (local_bi side) [] (head_left log (local_bi side) head) else
-    (if not (is_open log) then fail_connect side log [] (lost log) else
-    (if may_open side log (local_bi side) then send_request side log (local_bi side) (opening side log (local_bi side)) (head_left log (local_bi side) head)
+    (if not (is_open log) then fail_connect side log [] (loss_to_connect log) else
+    (if may_open side log (local_bi side) then send_request side log (local_bi side) (actions_to_open side log (local_bi side)) (head_left log (local_bi side) head)
     else poll_only side log replies.Pending))
 
 -- a header that only the session layer sets fails the connect

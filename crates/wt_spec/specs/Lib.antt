@@ -7,4 +7,3 @@ pub mod Connect
 pub mod Connection
 pub mod Halves
 pub mod Answers
-pub mod Turns

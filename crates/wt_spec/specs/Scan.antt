@@ -13,7 +13,7 @@ use Rattle.wt_seam_spec.specs.Reports.{is_running}
 use Rattle.wt_seam_spec.specs.Streams.{peer_bi, peer_uni}
 use Rattle.wt_wire.specs.declared.error.ErrorCode.{ErrorCode}
 use Rattle.wt_wire.specs.declared.side.StreamEnd.{StreamEnd}
-use Rattle.wt_spec.specs.StreamTable.{ByFault, BySession, CallView, Consequence, Dispatched, Ending, Progress, Stopped, StreamTable, TransportView, bi_consequence, dispatched, uni_consequence, verdict_of}
+use Rattle.wt_spec.specs.StreamTable.{ByFault, BySession, CallView, Consequence, Dispatched, Ending, DriverProgress, Stopped, StreamTable, TransportView, bi_consequence, dispatched_streams, uni_consequence, verdict_of}
 use Rattle.wt_wire.specs.declared.side.StreamEnd.TheVariants as ends
 use Rattle.wt_wire.specs.declared.error.ErrorCode.TheVariants as h3
 use Rattle.wt_proto.specs.declared.verdict.Verdict.TheVariants as verdicts
@@ -58,9 +58,9 @@ occupied true n = n
 occupied false n = suc n
 
 -- the stop, where there is one
-abbrev pub listed : Option Stopped → List Stopped
-listed None = []
-listed (Some stop) = stop ∷ []
+abbrev pub stop_list : Option Stopped → List Stopped
+stop_list None = []
+stop_list (Some stop) = stop ∷ []
 
 -- the ending by this fault, where there is one
 abbrev pub fault_ending : Option ErrorCode → Option Ending
@@ -68,8 +68,8 @@ fault_ending None = None
 fault_ending (Some code) = Some (ByFault code)
 
 -- what is known beside the streams, after one was classified
-abbrev pub with_consequence : Consequence → Progress → Progress
-with_consequence e p = record p { stops = p.stops ++ listed e.stop; ending = fault_ending e.fault }
+abbrev pub with_consequence : Consequence → DriverProgress → DriverProgress
+with_consequence e p = record p { stops = p.stops ++ stop_list e.stop; ending = fault_ending e.fault }
 
 -- the table with one more classified stream, as the last
 abbrev pub with_classified : ℕ → Verdict → Consequence → StreamTable → StreamTable
@@ -88,7 +88,7 @@ abbrev pub classify : Bool → CallView → SlotRule → ℕ → Scan → Scan
 classify false calls rule k s = record s { occupied = suc s.occupied }
 classify true calls rule k s = record {
   occupied = occupied (is_released (calls.released k) (rule.verdict k)) s.occupied;
-  table = with_classified k (rule.verdict k) (rule.consequence (dispatched calls s.table.classified) k (rule.verdict k)) s.table;
+  table = with_classified k (rule.verdict k) (rule.consequence (dispatched_streams calls s.table.classified) k (rule.verdict k)) s.table;
 }
 
 -- a stream that may be dequeued is classified where its verdict is final; another one waits and occupies a slot
@@ -136,65 +136,65 @@ scan_bis t calls table = (scan t.ready calls (bi_rule t) (bi_ids t) (record { oc
 -- ---- the checks behind the streams
 
 -- this ends the connection
-abbrev pub ended_by : Ending → Progress → Progress
+abbrev pub ended_by : Ending → DriverProgress → DriverProgress
 ended_by e p = record p { ending = Some e }
 
 -- the fault ends the connection, where there is one
-abbrev pub with_fault : Option ErrorCode → Progress → Progress
+abbrev pub with_fault : Option ErrorCode → DriverProgress → DriverProgress
 with_fault None p = p
 with_fault (Some code) p = ended_by (ByFault code) p
 
 -- a critical stream must not end (RFC 9114, section 6.2.1; RFC 9204, section 4.2)
-abbrev pub critical_if : Bool → Progress → Progress
+abbrev pub critical_if : Bool → DriverProgress → DriverProgress
 critical_if false p = p
 critical_if true p = ended_by (ByFault h3.ClosedCriticalStream) p
 
 -- a datagram that has no quarter id ends the connection (RFC 9297, section 2.1)
-abbrev pub parsed_datagram : Result (ℕ × List ℕ) ErrorCode → Progress → Progress
+abbrev pub parsed_datagram : Result (ℕ × List ℕ) ErrorCode → DriverProgress → DriverProgress
 parsed_datagram (Ok datagram) p = p
 parsed_datagram (Err code) p = ended_by (ByFault code) p
 
 -- the next datagram, where one came, is dequeued
-abbrev pub dequeued_datagram : Option (List ℕ) → Progress → Progress
+abbrev pub dequeued_datagram : Option (List ℕ) → DriverProgress → DriverProgress
 dequeued_datagram None p = p
 dequeued_datagram (Some piece) p = parsed_datagram (datagram_of piece) (record p { datagrams = suc p.datagrams })
 
 -- one datagram is dequeued at a time; its session is read at once (RFC 9297, section 2.1)
-abbrev pub check_datagram : Bool → TransportView → Progress → Progress
+abbrev pub check_datagram : Bool → TransportView → DriverProgress → DriverProgress
 check_datagram false t p = p
 check_datagram true t p = dequeued_datagram (t.datagram p.datagrams) p
 
 -- the peer's end of the session, or its fault, ends the connection
-abbrev pub session_ends : SessionWalk → Bool → Progress → Progress
+abbrev pub session_ends : SessionWalk → Bool → DriverProgress → DriverProgress
 session_ends walks.Running by_capsule p = p
 session_ends (walks.Closed code reason) by_capsule p = ended_by (BySession code reason by_capsule) p
 session_ends (walks.Fault code) by_capsule p = ended_by (ByFault code) p
 
 -- a capsule closes a session before its stream ends
-abbrev pub session_read : List ℕ → StreamEnd → Progress → Progress
+abbrev pub session_read : List ℕ → StreamEnd → DriverProgress → DriverProgress
 session_read bytes end p = session_ends (session_walk_of bytes end) (is_over (session_walk_of bytes ends.Running)) p
 
 -- the session's stream behind the request or the response (draft-ietf-webtrans-http3, section 5)
-abbrev pub check_session : TransportView → Option (ℕ × ℕ) → Progress → Progress
+abbrev pub check_session : TransportView → Option (ℕ × ℕ) → DriverProgress → DriverProgress
 check_session t None p = p
 check_session t (Some s) p = session_read (drop s.1 (t.contents s.0)) (t.end s.0) p
 
 -- what the walk over the peer's control stream has read
-abbrev pub control_read : ControlWalk → Progress → Progress
+abbrev pub control_read : ControlWalk → DriverProgress → DriverProgress
 control_read walk p = with_fault walk.fault (record p { settings = p.settings || is_some walk.settings })
 
 -- the peer's control stream behind its type
-abbrev pub check_control : TransportView → Option (ℕ × ℕ) → Progress → Progress
+abbrev pub check_control : TransportView → Option (ℕ × ℕ) → DriverProgress → DriverProgress
 check_control t None p = p
 check_control t (Some c) p = control_read (control_walk_of (drop c.1 (t.contents c.0)) (t.end c.0)) p
 
 -- a QPACK stream of the peer must not end
-abbrev pub check_qpack : TransportView → Option (ℕ × ℕ) → Progress → Progress
+abbrev pub check_qpack : TransportView → Option (ℕ × ℕ) → DriverProgress → DriverProgress
 check_qpack t None p = p
 check_qpack t (Some c) p = critical_if (not (is_running (t.end c.0))) p
 
 -- the checks in their order: the next datagram, the session, this end's control stream, the peer's, its QPACK streams
-abbrev pub checks : TransportView → CallView → Dispatched → List (Progress → Progress)
+abbrev pub checks : TransportView → CallView → Dispatched → List (DriverProgress → DriverProgress)
 checks t calls d =
     (λ p. check_datagram (t.ready && calls.datagrams == p.datagrams) t p)
     ∷ check_session t calls.session
@@ -204,7 +204,7 @@ checks t calls d =
     ∷ check_qpack t d.decoder ∷ []
 
 -- one after another, up to the first ending
-abbrev pub in_order : List (Progress → Progress) → Progress → Progress
+abbrev pub in_order : List (DriverProgress → DriverProgress) → DriverProgress → DriverProgress
 in_order [] p = p
 in_order (check ∷ later) p = in_order later (unless_ended p.ending check p)
 
@@ -215,9 +215,9 @@ abbrev pub without_stops : StreamTable → StreamTable
 without_stops table = record table { progress = record table.progress { stops = [] } }
 
 -- the table after the checks
-abbrev pub checked : TransportView → CallView → StreamTable → StreamTable
-checked t calls table = record table { progress = in_order (checks t calls (dispatched calls table.classified)) table.progress }
+abbrev pub table_after_checks : TransportView → CallView → StreamTable → StreamTable
+table_after_checks t calls table = record table { progress = in_order (checks t calls (dispatched_streams calls table.classified)) table.progress }
 
 -- the whole scan, in its order: unidirectional streams by id, bidirectional ones by id, the checks
 abbrev pub scan_order : TransportView → CallView → StreamTable → StreamTable
-scan_order t calls table = checked t calls (scan_bis t calls (scan_unis t calls (without_stops table)))
+scan_order t calls table = table_after_checks t calls (scan_bis t calls (scan_unis t calls (without_stops table)))

@@ -54,7 +54,7 @@ pub record Stopped : Type 0 where
   pub code : ErrorCode
 
 -- what a moment knows beside the streams
-pub record Progress : Type 0 where
+pub record DriverProgress : Type 0 where
   pub datagrams : ℕ  -- so many are dequeued
   pub settings : Bool  -- the peer's SETTINGS came
   pub stops : List Stopped  -- of the streams that were classified at this moment
@@ -64,7 +64,7 @@ pub record Progress : Type 0 where
 pub record StreamTable : Type 0 where
   pub dequeued : List ℕ  -- the streams of which the driver reads the header, and those of which it did
   pub classified : List Classified  -- by moment, then unidirectional ones first, then by id
-  pub progress : Progress
+  pub progress : DriverProgress
 
 -- before the first moment
 abbrev pub no_streams : StreamTable
@@ -103,9 +103,9 @@ is_webtransport (verdicts.WebTransport session at) = true
 is_webtransport _ = false
 
 -- the offset with the stream's id
-abbrev pub paired : ℕ → Option ℕ → Option (ℕ × ℕ)
-paired k None = None
-paired k (Some at) = Some (k, at)
+abbrev pub offset_with_id : ℕ → Option ℕ → Option (ℕ × ℕ)
+offset_with_id k None = None
+offset_with_id k (Some at) = Some (k, at)
 
 -- the first that is there
 abbrev pub or_later : Option (ℕ × ℕ) → Option (ℕ × ℕ) → Option (ℕ × ℕ)
@@ -115,7 +115,7 @@ or_later (Some x) later = Some x
 -- the first classified stream for which the offset is told, and that offset
 abbrev pub first_at : (Verdict → Option ℕ) → List Classified → Option (ℕ × ℕ)
 first_at offset [] = None
-first_at offset (c ∷ cs) = or_later (paired c.id (offset c.verdict)) (first_at offset cs)
+first_at offset (c ∷ cs) = or_later (offset_with_id c.id (offset c.verdict)) (first_at offset cs)
 
 -- the stream, where the test holds
 abbrev pub kept_if : Bool → Classified → List Classified
@@ -144,8 +144,8 @@ pub record Dispatched : Type 0 where
   pub waiting : List Classified  -- the streams of sessions that no accept released
 
 -- the classified streams by their use, after what the calls did
-abbrev pub dispatched : CallView → List Classified → Dispatched
-dispatched calls cs = record {
+abbrev pub dispatched_streams : CallView → List Classified → Dispatched
+dispatched_streams calls cs = record {
   control = first_at control_start cs;
   encoder = first_at encoder_start cs;
   decoder = first_at decoder_start cs;

@@ -13,8 +13,6 @@ is_other (actions.Send id piece) = false
 is_other _ = true
 
 two-other : (b a : Action) → is_other a ≡ true → join_two b a ≡ b ∷ a ∷ []
-two-other (actions.Dial address name) a e = refl
-two-other (actions.Opened id) a e = refl
 two-other (actions.Send i p) (actions.Dial address name) e = refl
 two-other (actions.Send i p) (actions.Opened id) e = refl
 two-other (actions.Send i p) (actions.Send j q) e = absurd (cc)
@@ -23,11 +21,7 @@ two-other (actions.Send i p) (actions.ResetOut id code) e = refl
 two-other (actions.Send i p) (actions.StopOut id code) e = refl
 two-other (actions.Send i p) (actions.DatagramOut piece) e = refl
 two-other (actions.Send i p) (actions.Close code reason) e = refl
-two-other (actions.Finish id) a e = refl
-two-other (actions.ResetOut id code) a e = refl
-two-other (actions.StopOut id code) a e = refl
-two-other (actions.DatagramOut piece) a e = refl
-two-other (actions.Close code reason) a e = refl
+two-other _ a e = refl
 
 -- any other action stands by itself
 pub join_other : (before : List Action) (a : Action) → is_other a ≡ true → join_one before a ≡ before ++ a ∷ []
@@ -36,14 +30,8 @@ join_other (b ∷ []) a e = two-other b a e
 join_other (b ∷ c ∷ later) a e = ap (λ xs. b ∷ xs) (join_other (c ∷ later) a e)
 
 two-elsewhere : (b : Action) (id : ℕ) (p : List ℕ) → is_send b id ≡ false → join_two b (actions.Send id p) ≡ b ∷ actions.Send id p ∷ []
-two-elsewhere (actions.Dial address name) id p e = refl
-two-elsewhere (actions.Opened i) id p e = refl
 two-elsewhere (actions.Send i q) id p e = rw e refl
-two-elsewhere (actions.Finish i) id p e = refl
-two-elsewhere (actions.ResetOut i code) id p e = refl
-two-elsewhere (actions.StopOut i code) id p e = refl
-two-elsewhere (actions.DatagramOut piece) id p e = refl
-two-elsewhere (actions.Close code reason) id p e = refl
+two-elsewhere _ id p e = refl
 
 -- so do bytes for another stream than the last action's
 pub join_elsewhere : (before : List Action) (id : ℕ) (p : List ℕ) → ends_with_send before id ≡ false → join_one before (actions.Send id p) ≡ before ++ actions.Send id p ∷ []
@@ -68,14 +56,8 @@ some_sends [] id e = absurd (cc)
 some_sends (a ∷ later) id e = omega arith
 
 joined-with : (a : Action) (id : ℕ) (p : List ℕ) → is_send a id ≡ true → join_two a (actions.Send id p) ≡ with_more a p ∷ []
-joined-with (actions.Dial address name) id p e = absurd (cc)
-joined-with (actions.Opened i) id p e = absurd (cc)
 joined-with (actions.Send i q) id p e = rw e refl
-joined-with (actions.Finish i) id p e = absurd (cc)
-joined-with (actions.ResetOut i code) id p e = absurd (cc)
-joined-with (actions.StopOut i code) id p e = absurd (cc)
-joined-with (actions.DatagramOut piece) id p e = absurd (cc)
-joined-with (actions.Close code reason) id p e = absurd (cc)
+joined-with _ id p e = absurd (cc)
 
 here-at : (before : List Action) (n id : ℕ) (p : List ℕ) (d : Action) → length before ≡ n + 1 → ends_with_send before id ≡ true
     → join_one before (actions.Send id p) ≡ set before n (with_more (get_or before n d) p)

@@ -5,7 +5,7 @@ use Rattle.std.specs.List.{range_with_len}
 use Rattle.std.proofs.lemmas.List.FromFn.{length-map-range_with_len, get_or-map-range_with_len, map-range_with_len_more}
 use Rattle.std.proofs.lemmas.Bool.Decides.{nat_tests}
 use Rattle.wt_streams.specs.declared.stream.Stream.{Stream}
-use Rattle.wt_streams.specs.StreamState.{fresh, row_at, stream_in, stream_at, has_stream, changed, pushed, row, rows}
+use Rattle.wt_streams.specs.StreamState.{fresh, row_at, stream_in, stream_at, has_stream, with_changed, with_pushed, row, rows}
 
 module _ {X : Type 0} where
   -- two functions that agree on a range
@@ -77,7 +77,7 @@ rows-set f g count id l e =
         ∙ ap (λ s. slice_set (row f count (id % 4)) (id / 4) (g s)) (id-is id)
 
 pub rows-changed : (f g : ℕ → Stream) (count : ℕ → ℕ) (id : ℕ) (u : Stream → Stream) → nat_lt (id / 4) (count (id % 4)) ≡ true
-    → ((k : ℕ) → g k ≡ (if id == k then u (f k) else f k)) → rows g count ≡ changed (rows f count) id u
+    → ((k : ℕ) → g k ≡ (if id == k then u (f k) else f k)) → rows g count ≡ with_changed (rows f count) id u
 rows-changed f g count id u l e =
     let below : id / 4 < count (id % 4) = grind (arith, nat_tests) in
     rows-set f g count id below other
@@ -92,7 +92,7 @@ rows-changed f g count id u l e =
 
 -- one more stream of a kind
 pub rows-pushed : (f : ℕ → Stream) (count more : ℕ → ℕ) (kind : ℕ) (s : Stream) → kind < 4 → more kind ≡ count kind + 1 → ((j : ℕ) → j ≢ kind → more j ≡ count j)
-    → f (4 * count kind + kind) ≡ s → rows f more ≡ pushed (rows f count) kind s
+    → f (4 * count kind + kind) ≡ s → rows f more ≡ with_pushed (rows f count) kind s
 rows-pushed f count more kind s l m o e =
     map-set (row f count) (row f more) 4 kind l (λ j _ d. ap (λ n. map (λ i. f (4 * i + j)) (range_with_len 0 n)) (o j d))
     ∙ ap (slice_set (rows f count) kind) here

@@ -1,6 +1,6 @@
 -- What calls on one half of a stream answer: each a rule over whether the connection is open and what is known of the
 -- half (this repository's rules, after quinn's streams).
-use Rattle.std.specs.Prelude.{ℕ, ℤ, List, [], ◌∷◌, length, take, min, Option, Some, None, option_map, Result, Ok, Err, Bool, true, false, nat_lt, ◌==◌, ◌||◌, ◌&&◌, not, if◌then◌else◌}
+use Rattle.std.specs.Prelude.{ℕ, ℤ, List, [], ◌∷◌, length, take, min, Option, Some, None, option_map, Result, Ok, Err, Bool, nat_lt, ◌==◌, ◌||◌, ◌&&◌, not, if◌then◌else◌}
 use Rattle.wt_wire.specs.declared.side.StreamEnd.{StreamEnd}
 use Rattle.wt_wire.specs.declared.side.StreamEnd.TheVariants as ends
 use Rattle.wt_turn.specs.declared.poll.Poll.{Poll}
@@ -43,14 +43,14 @@ write_refusal open_ half =
     if not open_ then Some write_errors.NotConnected else (if half.finished || half.reset then Some write_errors.Closed else option_map write_errors.Stopped half.stop)
 
 -- what a write of these bytes answers, with so much credit left
-abbrev pub written : ℕ → List ℕ → Poll (Result ℕ StreamWriteError)
-written left [] = Ready (Ok 0)
-written left (byte ∷ later) = if left == 0 then Pending else Ready (Ok (length (take left (byte ∷ later))))
+abbrev pub written_count : ℕ → List ℕ → Poll (Result ℕ StreamWriteError)
+written_count left [] = Ready (Ok 0)
+written_count left (byte ∷ later) = if left == 0 then Pending else Ready (Ok (length (take left (byte ∷ later))))
 
 -- the refusal, else what the write answers
 abbrev pub written_unless : Option StreamWriteError → ℕ → List ℕ → Poll (Result ℕ StreamWriteError)
 written_unless (Some error) left bytes = Ready (Err error)
-written_unless None left bytes = written left bytes
+written_unless None left bytes = written_count left bytes
 
 -- what a write of these bytes answers
 abbrev pub write_answer : Bool → SendingHalf → List ℕ → Poll (Result ℕ StreamWriteError)

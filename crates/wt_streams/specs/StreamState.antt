@@ -51,8 +51,8 @@ receive_unless true bytes s = s
 receive_unless false bytes s = record s { unread = with_piece s.unread bytes }
 
 -- bytes came for the stream
-abbrev pub receive : List ℕ → Stream → Stream
-receive bytes s = receive_unless s.given_up bytes s
+abbrev pub with_bytes : List ℕ → Stream → Stream
+with_bytes bytes s = receive_unless s.given_up bytes s
 
 -- so many bytes of the stream were read
 abbrev pub consume : ℕ → Stream → Stream
@@ -109,20 +109,20 @@ abbrev pub changed_in : List Stream → ℕ → (Stream → Stream) → List Str
 changed_in row index f = slice_set row index (f (stream_in row index))
 
 -- the streams with the one of this id changed
-abbrev pub changed : List (List Stream) → ℕ → (Stream → Stream) → List (List Stream)
-changed streams id f = slice_set streams (id % 4) (changed_in (row_at streams (id % 4)) (id / 4) f)
+abbrev pub with_changed : List (List Stream) → ℕ → (Stream → Stream) → List (List Stream)
+with_changed streams id f = slice_set streams (id % 4) (changed_in (row_at streams (id % 4)) (id / 4) f)
 
 -- the streams with one more of a kind
-abbrev pub pushed : List (List Stream) → ℕ → Stream → List (List Stream)
-pushed streams kind s = slice_set streams kind (row_at streams kind ++ s ∷ [])
+abbrev pub with_pushed : List (List Stream) → ℕ → Stream → List (List Stream)
+with_pushed streams kind s = slice_set streams kind (row_at streams kind ++ s ∷ [])
 
 -- how many pieces have an unread byte
 abbrev pub pieces_in : List Stream → ℕ
 pieces_in row = sum_by (λ (s : Stream). length s.unread) row
 
 -- how many pieces have an unread byte, over all streams
-abbrev pub pieces_of : List (List Stream) → ℕ
-pieces_of streams = sum_by pieces_in streams
+abbrev pub piece_count : List (List Stream) → ℕ
+piece_count streams = sum_by pieces_in streams
 
 -- what a call on the sending half asks
 abbrev pub sending_half_of : Stream → SendingHalf

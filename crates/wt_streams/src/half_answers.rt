@@ -1,6 +1,6 @@
 //! What calls on one half of a stream answer.
 ghost use Rattle.std.specs.Prelude.{◌≡◌, ◌≤◌};
-ghost use Rattle.wt_streams.specs.HalfRules.{all_written, finish_answer, is_closed, nothing_unread, priority_answer, read_answer, read_exact_answer, read_exact_count, reset_answer, stopped_answer, too_few, write_all_answer, write_answer, write_refusal, written};
+ghost use Rattle.wt_streams.specs.HalfRules.{all_written, finish_answer, is_closed, nothing_unread, priority_answer, read_answer, read_exact_answer, read_exact_count, reset_answer, stopped_answer, too_few, write_all_answer, write_answer, write_refusal, written_count};
 ghost use Rattle.wt_streams.specs.StreamState.{sending_half_of};
 
 use crate::stream::Stream;
@@ -49,7 +49,7 @@ pub fn write_answer(
 
 /// What a write with so much credit left answers.
 fn written(left: u64, bytes: &[u8]) -> Poll<Result<usize, StreamWriteError>>
-    ensures { result ≡ written left bytes.now }
+    ensures { result ≡ written_count left bytes.now }
 {
     let count = bytes.len();
     if count == 0 {

@@ -1,7 +1,7 @@
 //! The streams of one kind, in the order of their ids.
 ghost use Rattle.std.specs.Prelude.{◌≡◌, ◌≤◌, ◌<◌, ◌^◌, ◌-◌, ◌++◌, ◌∷◌, [], length, min, OnErr, OnOk};
 ghost use Rattle.std.specs.List.{concat};
-ghost use Rattle.wt_streams.specs.StreamState.{changed_in, consume, credit_of, fresh, give_up, pieces_in, receive, signal, stream_in, with_ack, with_credit, with_end, with_finish, with_priority, with_reset, with_sent, with_stop};
+ghost use Rattle.wt_streams.specs.StreamState.{changed_in, consume, credit_of, fresh, give_up, pieces_in, with_bytes, signal, stream_in, with_ack, with_credit, with_end, with_finish, with_priority, with_reset, with_sent, with_stop};
 
 use crate::stream::Stream;
 use std::alloc::Global;
@@ -62,7 +62,7 @@ impl Row {
     /// Bytes came for a stream. Where no memory is there for them, nothing changes.
     pub fn receive(&mut self, index: usize, alloc: Global, bytes: &[u8]) -> Result<(), OutOfMemory>
         requires { index < length self.old }
-        ensures ok { OnOk result (self.new ≡ changed_in self.old index (receive bytes.now)) }
+        ensures ok { OnOk result (self.new ≡ changed_in self.old index (with_bytes bytes.now)) }
         ensures err { OnErr result (self.new ≡ self.old) }
     {
         let stream = &mut self.streams[index];

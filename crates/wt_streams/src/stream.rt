@@ -1,7 +1,7 @@
 //! What is kept of one stream.
 ghost use Rattle.std.specs.Prelude.{◌≡◌, ◌&&◌, not, is_some, OnErr, OnOk};
 ghost use Rattle.wt_seam_spec.specs.Reports.{is_running};
-ghost use Rattle.wt_streams.specs.StreamState.{credit_of, fresh, give_up, no_signals, receive, signal, with_ack, with_end, with_stop};
+ghost use Rattle.wt_streams.specs.StreamState.{credit_of, fresh, give_up, no_signals, with_bytes, signal, with_ack, with_end, with_stop};
 
 use crate::unread::Unread;
 use bytes::Bytes;
@@ -76,7 +76,7 @@ impl Stream {
 
     /// Bytes came.
     pub fn receive(&mut self, alloc: Global, bytes: &[u8]) -> Result<(), OutOfMemory>
-        ensures ok { OnOk result (self.new ≡ receive bytes.now self.old) }
+        ensures ok { OnOk result (self.new ≡ with_bytes bytes.now self.old) }
         ensures err { OnErr result (self.new ≡ self.old) }
     {
         if self.given_up {

@@ -2,8 +2,8 @@
 use Rattle.std.specs.Prelude.{◌==◌, ◌∷◌, ◌≡◌, Bool, List, None, false, if◌then◌else◌, true, unwrap_or, ℕ}
 use Rattle.std.proofs.Common.{◌∙◌, ap, refl, sym}
 use Rattle.std.proofs.lemmas.Bool.{eq-eqb, eqb-true}
-use Rattle.wt_session_spec.specs.SessionState.{StreamUse, Given, begun, failed, stream_use_after}
-use Rattle.wt_spec.specs.Handshake.{after_record, handshake_state, requested, requested_by}
+use Rattle.wt_session_spec.specs.SessionState.{StreamUse, Given, giving_begun, giving_failed, stream_use_after}
+use Rattle.wt_spec.specs.Handshake.{after_record, handshake_state, requested_stream, requested_by}
 use Rattle.wt_turn.specs.Log.{CallRecord, OpeningFailed, OpeningStarted, Polled, StreamAccepted, StreamGivenUp}
 use Rattle.wt_table.specs.Table.{HasNoted, HasSet, KeepsCalls, TableValue, use_as, use_now}
 use Rattle.wt_table.specs.declared.session_table.StreamUse as table
@@ -12,7 +12,7 @@ state-next : (r : CallRecord) (cs : List CallRecord) → handshake_state (r ∷ 
 state-next Polled cs = refl
 state-next _ cs = refl
 
-requested-next : (r : CallRecord) (cs : List CallRecord) → requested (r ∷ cs) ≡ unwrap_or (requested_by r) (requested cs)
+requested-next : (r : CallRecord) (cs : List CallRecord) → requested_stream (r ∷ cs) ≡ unwrap_or (requested_by r) (requested_stream cs)
 requested-next Polled cs = refl
 requested-next _ cs = refl
 
@@ -40,10 +40,10 @@ set-noted t u r id to s h q e o = record {
 pub accepted_noted : (t u : TableValue) (id : ℕ) (to : table.StreamUse) → HasSet t u id to → use_as to ≡ record (use_as (use_now t id)) { giving = Given } → HasNoted t u (StreamAccepted id)
 accepted_noted t u id to s e = set-noted t u (StreamAccepted id) id to s refl refl (rw (eq-eqb id id refl) e) (λ k v m. rw m refl)
 
-pub started_noted : (t u : TableValue) (id session : ℕ) (to : table.StreamUse) → HasSet t u id to → use_as to ≡ record (use_as (use_now t id)) { giving = begun (use_as (use_now t id)).giving } → HasNoted t u (OpeningStarted id session)
+pub started_noted : (t u : TableValue) (id session : ℕ) (to : table.StreamUse) → HasSet t u id to → use_as to ≡ record (use_as (use_now t id)) { giving = giving_begun (use_as (use_now t id)).giving } → HasNoted t u (OpeningStarted id session)
 started_noted t u id session to s e = set-noted t u (OpeningStarted id session) id to s refl refl (rw (eq-eqb id id refl) e) (λ k v m. rw m refl)
 
-pub failed_noted : (t u : TableValue) (id : ℕ) (to : table.StreamUse) → HasSet t u id to → use_as to ≡ record (use_as (use_now t id)) { giving = failed (use_as (use_now t id)).giving } → HasNoted t u (OpeningFailed id)
+pub failed_noted : (t u : TableValue) (id : ℕ) (to : table.StreamUse) → HasSet t u id to → use_as to ≡ record (use_as (use_now t id)) { giving = giving_failed (use_as (use_now t id)).giving } → HasNoted t u (OpeningFailed id)
 failed_noted t u id to s e = set-noted t u (OpeningFailed id) id to s refl refl (rw (eq-eqb id id refl) e) (λ k v m. rw m refl)
 
 pub given_up_noted : (t u : TableValue) (id : ℕ) (to : table.StreamUse) → HasSet t u id to → use_as to ≡ record (use_as (use_now t id)) { given_up = true } → HasNoted t u (StreamGivenUp id)

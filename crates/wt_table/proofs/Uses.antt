@@ -3,11 +3,11 @@ use Rattle.std.specs.Prelude.{[], ◌%◌, ◌++◌, ◌/◌, ◌==◌, ◌∷�
 use Rattle.std.proofs.Common.{arith, inl, inr, refl, sym}
 use Rattle.std.proofs.lemmas.Bool.{cases_eq, eq-eqb, ne_eqb}
 use Rattle.std.proofs.lemmas.List.{get_or-set_other, get_or-set_same}
-use Rattle.wt_table.specs.Table.{IsSet, KeepsCalls, TableValue, row_of, untouched, use_in}
+use Rattle.wt_table.specs.Table.{IsSet, KeepsCalls, TableValue, row_of, untouched_use, use_in}
 use Rattle.wt_spec.specs.Handshake.{AwaitingRequest}
 use Rattle.wt_table.specs.declared.session_table.StreamUse.{StreamUse}
 
-pub push_same : (row : List StreamUse) (k : ℕ) → use_in (row ++ untouched ∷ []) k ≡ use_in row k
+pub push_same : (row : List StreamUse) (k : ℕ) → use_in (row ++ untouched_use ∷ []) k ≡ use_in row k
 push_same [] zero = refl
 push_same [] (suc k) = refl
 push_same (u ∷ row) zero = refl

@@ -30,12 +30,12 @@ handshake_as (handshakes.Established id) = handshake.Established id
 handshake_as handshakes.Over = handshake.Over
 
 -- nothing was done with a stream
-abbrev pub untouched : StreamUse
-untouched = record { giving = givings.NotGiven; is_given_up = false }
+abbrev pub untouched_use : StreamUse
+untouched_use = record { giving = givings.NotGiven; is_given_up = false }
 
 -- the use of a stream of a kind
 abbrev pub use_in : List StreamUse → ℕ → StreamUse
-use_in row index = slice_index_or row index untouched
+use_in row index = slice_index_or row index untouched_use
 
 -- the rows with another use of one stream of a kind
 pub record IsSet (old new : List StreamUse) (index : ℕ) (to : StreamUse) : Type 0 where
@@ -60,7 +60,7 @@ use_now t k = use_in (row_of t.rows (k % 4)) (k / 4)
 -- the table keeps what these calls did
 pub record KeepsCalls (t : TableValue) (calls : List CallRecord) : Type 0 where
   pub handshake_is : t.handshake ≡ handshake.handshake_state calls
-  pub requested_is : t.requested ≡ handshake.requested calls
+  pub requested_is : t.requested ≡ handshake.requested_stream calls
   pub uses : (k : ℕ) → use_as (use_now t k) ≡ session.stream_use k calls
 
 -- the table with another use of one stream

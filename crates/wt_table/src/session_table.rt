@@ -1,9 +1,9 @@
 //! What a session keeps: how far the handshake is, and what the application has of each stream.
 ghost use Rattle.std.specs.Prelude.{◌≡◌, ◌<◌, ◌+◌, ◌∷◌, [], List, OnOk, length, true, ℕ};
-ghost use Rattle.wt_table.specs.Table.{HasNoted, HasSet, IsSet, KeepsCalls, handshake_as, untouched, use_as, use_in, use_now};
+ghost use Rattle.wt_table.specs.Table.{HasNoted, HasSet, IsSet, KeepsCalls, handshake_as, untouched_use, use_as, use_in, use_now};
 ghost use Rattle.wt_turn.specs.Records.{record_of};
 ghost use Rattle.wt_turn.specs.Log.{CallRecord, OpeningFailed, OpeningStarted, StreamAccepted, StreamGivenUp};
-ghost use Rattle.wt_session_spec.specs.SessionState.{begun, failed, is_in_opening, was_given};
+ghost use Rattle.wt_session_spec.specs.SessionState.{giving_begun, giving_failed, is_in_opening, was_given};
 
 use std::alloc::Global;
 use std::marker::Model;
@@ -65,7 +65,7 @@ impl StreamUse {
 
     /// An opening begins, once.
     pub fn begun(self) -> StreamUse
-        ensures { use_as result ≡ record (use_as self) { giving = begun (use_as self).giving } }
+        ensures { use_as result ≡ record (use_as self) { giving = giving_begun (use_as self).giving } }
     {
         match self.giving {
             Giving::NotGiven => self.with(Giving::Opening),
@@ -75,7 +75,7 @@ impl StreamUse {
 
     /// An opening fails, unless the stream was given.
     pub fn failed(self) -> StreamUse
-        ensures { use_as result ≡ record (use_as self) { giving = failed (use_as self).giving } }
+        ensures { use_as result ≡ record (use_as self) { giving = giving_failed (use_as self).giving } }
     {
         match self.giving {
             Giving::Given => self,
@@ -125,7 +125,7 @@ impl Model for UseRow {
 
 /// Nothing was done with a stream.
 fn untouched() -> StreamUse
-    ensures { result ≡ untouched }
+    ensures { result ≡ untouched_use }
 {
     StreamUse {
         giving: Giving::NotGiven,

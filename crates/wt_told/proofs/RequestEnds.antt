@@ -14,8 +14,8 @@ use Rattle.wt_laws.specs.Laws.{GoesOnFrom}
 use Rattle.wt_laws.specs.Reachable.{AfterTurn, IsReachable}
 use Rattle.wt_laws.specs.RecordCauses.{RecordCause}
 use Rattle.wt_laws.specs.ReplyCauses.{ReplyCause}
-use Rattle.wt_spec.specs.Turns.{is_call}
-use Rattle.wt_laws.specs.Told.{Logged, NoRecord, OneRecord, Tells, ThenPolled, request_told}
+use Rattle.wt_turn.specs.Turns.{is_call}
+use Rattle.wt_laws.specs.Told.{Logged, NoRecord, OneRecord, TellsOf, ThenPolled, request_told}
 use Rattle.wt_plan.proofs.AnswersSame.{delivered_end, request_end_kept}
 use Rattle.wt_plan.specs.Tells.{KeepsRequestEnd}
 use Rattle.wt_proto.specs.declared.verdict.Verdict.{Verdict}
@@ -29,8 +29,8 @@ use Rattle.wt_spec.specs.Answers.{call_effect, is_first, is_lawful, log_after, m
 use Rattle.wt_spec.specs.Connection.{first_of}
 use Rattle.wt_spec.specs.Driver.{call_view, delivers, settings_came, stream_table}
 use Rattle.wt_spec.specs.Effect.{Effect, log_call}
-use Rattle.wt_spec.specs.Handshake.{HandshakeState, Requested, Responding, handshake_state, queued_requests, requested}
-use Rattle.wt_spec.specs.StreamTable.{Classified, awaits_delivery, dispatched, is_request, verdict_of}
+use Rattle.wt_spec.specs.Handshake.{HandshakeState, Requested, Responding, handshake_state, queued_requests, requested_stream}
+use Rattle.wt_spec.specs.StreamTable.{Classified, awaits_delivery, dispatched_streams, is_request, verdict_of}
 use Rattle.wt_told.proofs.Serving.{PlansServe, Serves, pass-calls, plans_serve}
 use Rattle.wt_told.proofs.Turns.{entry-first, goes-on, same_calls}
 use Rattle.wt_told.specs.Delivering.{DeliversFirst, delivers_request}
@@ -50,14 +50,14 @@ use Rattle.wt_wire.specs.declared.side.Side.{Side}
 -- where a request is still answered, it was answered before, and it is the same
 record StaysAnswering (now before : List CallRecord) : Type 0 where
   pub back : is_answering (handshake_state now) ≡ true → is_answering (handshake_state before) ≡ true
-  pub same : is_answering (handshake_state now) ≡ true → requested now ≡ requested before
+  pub same : is_answering (handshake_state now) ≡ true → requested_stream now ≡ requested_stream before
 
 kept-from : (side : Side) (log later : Log) (end : ℕ) → GoesOnFrom log later → IsReachable side log → StaysAnswering (calls_of later) (calls_of log) → KeepsRequestEnd side log end → KeepsRequestEnd side later end
 kept-from side log later end x r s k a =
-    subst (λ (g : Log). KeepsRequestEnd side g end) (sym x.1) (request_end_kept side x.0 log end r k (s.back a) (ap (λ (g : Log). requested (calls_of g)) (sym x.1) ∙ s.same a)) a
+    subst (λ (g : Log). KeepsRequestEnd side g end) (sym x.1) (request_end_kept side x.0 log end r k (s.back a) (ap (λ (g : Log). requested_stream (calls_of g)) (sym x.1) ∙ s.same a)) a
 
 same-answering : (now before : List CallRecord) → now ≡ before → StaysAnswering now before
-same-answering now before e = record { back = λ a. ap (λ cs. is_answering (handshake_state cs)) (sym e) ∙ a; same = λ a. ap requested e }
+same-answering now before e = record { back = λ a. ap (λ cs. is_answering (handshake_state cs)) (sym e) ∙ a; same = λ a. ap requested_stream e }
 
 -- a turn of the transport keeps the end
 pub turn_end : (side : Side) (log : Log) (turn : Turn) (end : ℕ) → IsReachable side log → is_lawful side log turn ≡ true → is_call turn ≡ false → KeepsRequestEnd side log end → KeepsRequestEnd side (log_after side log turn) end
@@ -104,22 +104,22 @@ record-stays _ own reply before d s = record { back = λ a. a; same = λ a. refl
 -- the handshake and the request are these
 record HandshakeIs (h : HandshakeState) (k : ℕ) (log : Log) : Type 0 where
   pub state : handshake_state (calls_of log) ≡ h
-  pub request : requested (calls_of log) ≡ k
+  pub request : requested_stream (calls_of log) ≡ k
 
 handshake-serves : (side : Side) (h : HandshakeState) (k : ℕ) → Serves side (HandshakeIs h k) (HandshakeIs h k)
 handshake-serves side h k = record {
-  passed = λ log id p. let c = pass-calls side log id in record { state = ap handshake_state c ∙ p.state; request = ap requested c ∙ p.request };
-  given = λ log id p. let c = calls-logged side log [] (StreamAccepted id) in record { state = ap handshake_state c ∙ p.state; request = ap requested c ∙ p.request };
-  skipped = λ log p. let c = calls-logged side log [] DatagramPassed in record { state = ap handshake_state c ∙ p.state; request = ap requested c ∙ p.request };
-  taken = λ log p. let c = calls-logged side log [] DatagramReceived in record { state = ap handshake_state c ∙ p.state; request = ap requested c ∙ p.request };
-  polled = λ log p. let c = calls-logged side log [] Polled in record { state = ap handshake_state c ∙ p.state; request = ap requested c ∙ p.request };
+  passed = λ log id p. let c = pass-calls side log id in record { state = ap handshake_state c ∙ p.state; request = ap requested_stream c ∙ p.request };
+  given = λ log id p. let c = calls-logged side log [] (StreamAccepted id) in record { state = ap handshake_state c ∙ p.state; request = ap requested_stream c ∙ p.request };
+  skipped = λ log p. let c = calls-logged side log [] DatagramPassed in record { state = ap handshake_state c ∙ p.state; request = ap requested_stream c ∙ p.request };
+  taken = λ log p. let c = calls-logged side log [] DatagramReceived in record { state = ap handshake_state c ∙ p.state; request = ap requested_stream c ∙ p.request };
+  polled = λ log p. let c = calls-logged side log [] Polled in record { state = ap handshake_state c ∙ p.state; request = ap requested_stream c ∙ p.request };
 }
 
-is-answering : (log later : Log) → HandshakeIs (handshake_state (calls_of log)) (requested (calls_of log)) later → StaysAnswering (calls_of later) (calls_of log)
+is-answering : (log later : Log) → HandshakeIs (handshake_state (calls_of log)) (requested_stream (calls_of log)) later → StaysAnswering (calls_of later) (calls_of log)
 is-answering log later i = record { back = λ a. ap is_answering (sym i.state) ∙ a; same = λ a. i.request }
 
-serve-handshake : (side : Side) (log : Log) → PlansServe side log (HandshakeIs (handshake_state (calls_of log)) (requested (calls_of log)))
-serve-handshake side log = plans_serve (handshake-serves side (handshake_state (calls_of log)) (requested (calls_of log))) log (record { state = refl; request = refl })
+serve-handshake : (side : Side) (log : Log) → PlansServe side log (HandshakeIs (handshake_state (calls_of log)) (requested_stream (calls_of log)))
+serve-handshake side log = plans_serve (handshake-serves side (handshake_state (calls_of log)) (requested_stream (calls_of log))) log (record { state = refl; request = refl })
 
 establish-over : (id at : ℕ) (cs before : List CallRecord) → cs ≡ Polled ∷ SessionEstablished id at ∷ before → StaysAnswering cs before
 establish-over id at cs before e = subst (λ rs. StaysAnswering rs before) (sym e) (record { back = λ a. absurd (cc); same = λ a. refl })
@@ -148,7 +148,7 @@ call_end side log call end r l d k =
 longer : (r : CallRecord) (cs : List CallRecord) → cs ≡ r ∷ cs → ⊥
 longer r cs e = let n : length cs ≡ length (r ∷ cs) = ap length e in omega arith
 
-same-record : (turn : Turn) (reply : Reply) (k : ℕ) (r : CallRecord) (before : List CallRecord) → r ∷ before ≡ RequestDelivered k ∷ before → Tells turn r reply → request_told reply ≡ Some k
+same-record : (turn : Turn) (reply : Reply) (k : ℕ) (r : CallRecord) (before : List CallRecord) → r ∷ before ≡ RequestDelivered k ∷ before → TellsOf turn r reply → request_told reply ≡ Some k
 same-record turn reply k (RequestDelivered j) before e t = let i : j ≡ k = cc in t ∙ ap Some i
 same-record turn reply k _ before e t = absurd (cc)
 
@@ -166,7 +166,7 @@ first-queued : (side : Side) (log : Log) (queued : Classified) (later : List Cla
     → (is_request queued.verdict ≡ true) × (verdict_of queued.id (stream_table side log).classified ≡ Some queued.verdict)
 first-queued side log queued later f = at (settings_came side log) f
   where
-    at : (b : Bool) → (if b then (dispatched (call_view log) (stream_table side log).classified).requests else []) ≡ queued ∷ later
+    at : (b : Bool) → (if b then (dispatched_streams (call_view log) (stream_table side log).classified).requests else []) ≡ queued ∷ later
         → (is_request queued.verdict ≡ true) × (verdict_of queued.id (stream_table side log).classified ≡ Some queued.verdict)
     at true e =
         let p = first-picked (awaits_delivery (call_view log).delivered) (λ x. true) (stream_table side log).classified queued (once side log) (ap (first_of (λ x. true)) e) in
@@ -217,7 +217,7 @@ module _ (side : Side) (log : Log) (own : List Action) (k : ℕ) (reply : Reply)
       let i : queued.id ≡ k = first-id w.queued queued w.later later (sym w.first ∙ f) ∙ w.same in
       let x = extend (actions-extend own log) (flush-extends side (Called (RequestDelivered k)) (with_actions own log)) in
       let u = subst (λ (j : ℕ). verdict_of j (stream_table side log).classified ≡ Some queued.verdict) i (first-queued side log queued later f).1 in
-      let q : requested (calls_of (x.0 ++ log)) ≡ k = ap (λ (g : Log). requested (calls_of g)) (sym x.1) ∙ ap requested (calls-logged side log own (RequestDelivered k)) in
+      let q : requested_stream (calls_of (x.0 ++ log)) ≡ k = ap (λ (g : Log). requested_stream (calls_of g)) (sym x.1) ∙ ap requested_stream (calls-logged side log own (RequestDelivered k)) in
       subst (λ (g : Log). KeepsRequestEnd side g at) (sym (delivered-calls call e ∙ x.1)) (delivered_end side x.0 log k headers at (u ∙ ap Some v) q)
     where
       first-id : (c d : Classified) (cs ds : List Classified) → c ∷ cs ≡ d ∷ ds → d.id ≡ c.id

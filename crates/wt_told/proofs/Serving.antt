@@ -1,6 +1,6 @@
 -- What calls that give streams and datagrams keep, moment by moment, and what each plan leads to keeps.
 use Rattle.std.specs.Prelude.{[], ◌*◌, ◌==◌, ◌∷◌, ◌≡◌, Bool, List, None, Option, Some, false, length, suc, true, zero, ℕ}
-use Rattle.wt_driver_spec.specs.Due.{passing}
+use Rattle.wt_driver_spec.specs.Due.{passing_stop}
 use Rattle.wt_laws.proofs.Steps.{calls-logged}
 use Rattle.wt_seam_spec.specs.Reports.{datagrams_of}
 use Rattle.wt_seam_spec.specs.Streams.{peer_count}
@@ -13,7 +13,7 @@ use Rattle.wt_wire.specs.declared.side.Side.{Side}
 
 -- a stream that is passed adds its record
 pub pass-calls : (side : Side) (log : Log) (id : ℕ) → calls_of (pass_stream side log id) ≡ StreamPassed id ∷ calls_of log
-pass-calls side log id = calls-logged side log (passing id ∷ []) (StreamPassed id)
+pass-calls side log id = calls-logged side log (passing_stop id ∷ []) (StreamPassed id)
 
 -- a stream or a datagram that is given or passed keeps the one, and the poll at the end leads from it to the other
 pub record Serves (side : Side) (P R : Log → Type 0) : Type 0 where

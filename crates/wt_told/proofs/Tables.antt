@@ -1,7 +1,7 @@
 -- What a table keeps of the calls, over the records of accepts, receives and polls.
 use Rattle.std.specs.Prelude.{[], ◌∷◌, ◌≡◌, Bool, List, None, Option, Some, false, length, suc, true, zero, ℕ}
 use Rattle.std.proofs.Common.{subst, sym}
-use Rattle.wt_driver_spec.specs.Due.{Due, DueRule, accepted, give_or_pass_due, log_datagrams, log_streams, received, take_due, take_next}
+use Rattle.wt_driver_spec.specs.Due.{Due, DueRule, accept_outcome, give_or_pass_due, log_datagrams, log_streams, receive_outcome, take_due, take_next}
 use Rattle.wt_laws.proofs.Steps.{calls-logged}
 use Rattle.wt_table.specs.Table.{KeepsCalls, TableValue}
 use Rattle.wt_seam_spec.specs.Reports.{datagrams_of}
@@ -69,20 +69,20 @@ datagrams-go side session t = record {
 }
 
 -- an accept that gives nothing leaves what a table keeps
-pub accept_passes : (side : Side) (log : Log) (kind session : ℕ) (t : TableValue) → KeepsCalls t (calls_of log) → (accepted side kind log session).given ≡ None → KeepsCalls t (calls_of (accepted side kind log session).state)
+pub accept_passes : (side : Side) (log : Log) (kind session : ℕ) (t : TableValue) → KeepsCalls t (calls_of log) → (accept_outcome side kind log session).given ≡ None → KeepsCalls t (calls_of (accept_outcome side kind log session).state)
 accept_passes side log kind session t k e =
-    subst (λ (o : Option ℕ). After (KeepsLog t) (GaveBehind t) o (accepted side kind log session).state) e (goes-due (streams-go side kind session t) (suc (peer_count side (events_of log) kind)) log k)
+    subst (λ (o : Option ℕ). After (KeepsLog t) (GaveBehind t) o (accept_outcome side kind log session).state) e (goes-due (streams-go side kind session t) (suc (peer_count side (events_of log) kind)) log k)
 
 -- an accept that gives a stream leads to what a table keeps that noted it
 pub accept_gives : (side : Side) (log : Log) (kind session id : ℕ) (old new : TableValue) → KeepsCalls old (calls_of log) → ((calls : List CallRecord) → KeepsCalls old calls → KeepsCalls new (StreamAccepted id ∷ calls))
-    → (accepted side kind log session).given ≡ Some id → KeepsCalls new (calls_of (accepted side kind log session).state)
+    → (accept_outcome side kind log session).given ≡ Some id → KeepsCalls new (calls_of (accept_outcome side kind log session).state)
 accept_gives side log kind session id old new k f e =
-    let g : GaveBehind old id (accepted side kind log session).state = subst (λ (o : Option ℕ). After (KeepsLog old) (GaveBehind old) o (accepted side kind log session).state) e (goes-due (streams-go side kind session old) (suc (peer_count side (events_of log) kind)) log k) in
+    let g : GaveBehind old id (accept_outcome side kind log session).state = subst (λ (o : Option ℕ). After (KeepsLog old) (GaveBehind old) o (accept_outcome side kind log session).state) e (goes-due (streams-go side kind session old) (suc (peer_count side (events_of log) kind)) log k) in
     subst (KeepsCalls new) (sym g.calls) (f g.before g.kept)
 
 -- a receive leaves what a table keeps
-pub receive_keeps : (side : Side) (log : Log) (session : ℕ) (t : TableValue) → KeepsCalls t (calls_of log) → KeepsCalls t (calls_of (received side log session).state)
-receive_keeps side log session t k = both (received side log session).given (received side log session).state (goes-due (datagrams-go side session t) (suc (length (datagrams_of (events_of log)))) log k)
+pub receive_keeps : (side : Side) (log : Log) (session : ℕ) (t : TableValue) → KeepsCalls t (calls_of log) → KeepsCalls t (calls_of (receive_outcome side log session).state)
+receive_keeps side log session t k = both (receive_outcome side log session).given (receive_outcome side log session).state (goes-due (datagrams-go side session t) (suc (length (datagrams_of (events_of log)))) log k)
   where
     both : (o : Option (List ℕ)) (g : Log) → After (KeepsLog t) (λ (payload : List ℕ) (h : Log). KeepsCalls t (calls_of h)) o g → KeepsCalls t (calls_of g)
     both None g a = a

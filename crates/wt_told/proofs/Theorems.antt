@@ -1,10 +1,10 @@
 -- The laws, as the functions' contracts say them.
 use Rattle.std.specs.Prelude.{◌∷◌, ◌≡◌, List, None, Some, false, true, ℕ}
 use Rattle.std.proofs.Common.{refl}
-use Rattle.wt_driver_spec.specs.Due.{accepted, received}
+use Rattle.wt_driver_spec.specs.Due.{accept_outcome, receive_outcome}
 use Rattle.wt_laws.proofs.Steps.{calls-logged}
 use Rattle.wt_laws.specs.Reachable.{AfterTurn, IsReachable}
-use Rattle.wt_spec.specs.Turns.{is_call}
+use Rattle.wt_turn.specs.Turns.{is_call}
 use Rattle.wt_table.specs.Table.{KeepsCalls, TableValue}
 use Rattle.wt_plan.specs.Tells.{KeepsRequestEnd}
 use Rattle.wt_proto.specs.declared.verdict.Verdict.TheVariants as verdicts
@@ -78,12 +78,12 @@ logged_theorem = calls-logged
 pub polled_theorem : (t : TableValue) (calls : List CallRecord) → KeepsCalls t calls → KeepsCalls t (Polled ∷ calls)
 polled_theorem = polled_spares
 
-pub passed_theorem : (side : Side) (log : Log) (kind session : ℕ) (t : TableValue) → KeepsCalls t (calls_of log) → (accepted side kind log session).given ≡ None → KeepsCalls t (calls_of (accepted side kind log session).state)
+pub passed_theorem : (side : Side) (log : Log) (kind session : ℕ) (t : TableValue) → KeepsCalls t (calls_of log) → (accept_outcome side kind log session).given ≡ None → KeepsCalls t (calls_of (accept_outcome side kind log session).state)
 passed_theorem = accept_passes
 
 pub given_theorem : (side : Side) (log : Log) (kind session id : ℕ) (old new : TableValue) → KeepsCalls old (calls_of log) → ((calls : List CallRecord) → KeepsCalls old calls → KeepsCalls new (StreamAccepted id ∷ calls))
-    → (accepted side kind log session).given ≡ Some id → KeepsCalls new (calls_of (accepted side kind log session).state)
+    → (accept_outcome side kind log session).given ≡ Some id → KeepsCalls new (calls_of (accept_outcome side kind log session).state)
 given_theorem = accept_gives
 
-pub received_theorem : (side : Side) (log : Log) (session : ℕ) (t : TableValue) → KeepsCalls t (calls_of log) → KeepsCalls t (calls_of (received side log session).state)
+pub received_theorem : (side : Side) (log : Log) (session : ℕ) (t : TableValue) → KeepsCalls t (calls_of log) → KeepsCalls t (calls_of (receive_outcome side log session).state)
 received_theorem = receive_keeps

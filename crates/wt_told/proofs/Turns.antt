@@ -5,13 +5,13 @@ use Rattle.std.proofs.lemmas.Bool.{and_parts}
 use Rattle.wt_laws.proofs.During.{decided-during, extend}
 use Rattle.wt_laws.proofs.Steps.{blind-flush, kept-flush}
 use Rattle.wt_laws.specs.Laws.{GoesOnFrom}
-use Rattle.wt_spec.specs.Turns.{is_call}
+use Rattle.wt_turn.specs.Turns.{is_call}
 use Rattle.wt_seam_spec.specs.Arrivals.{event_entry, fits, may_come}
 use Rattle.wt_seam_spec.specs.Reports.{end_of, is_connected, is_running, loss_of}
 use Rattle.wt_seam_spec.specs.Streams.{can_receive}
 use Rattle.wt_spec.specs.Answers.{is_first, is_lawful, log_after, receive}
 use Rattle.wt_spec.specs.Driver.{flush, log_and_flush}
-use Rattle.wt_turn.specs.Log.{Acked, Connected, Datagram, DatagramLimit, End, Entry, Event, Log, Loss, MaxBi, MaxData, MaxUni, PeerBi, PeerUni, Received, Reported, ReportedLate, Reset, Stop, all_events_of, calls_of, is_open}
+use Rattle.wt_turn.specs.Log.{Entry, Event, Log, Received, Reported, ReportedLate, all_events_of, calls_of, is_open}
 use Rattle.wt_turn.specs.declared.turn.Turn.{Turn}
 use Rattle.wt_turn.specs.declared.turn.Turn.TheVariants as turns
 use Rattle.wt_wire.specs.declared.side.Side.{Side}
@@ -38,19 +38,7 @@ bytes-calls side log id (b ∷ piece) = bytes-calls side (if is_open log then lo
 pub same_calls : (side : Side) (log : Log) (turn : Turn) → is_call turn ≡ false → calls_of (log_after side log turn) ≡ calls_of log
 same_calls side log (turns.Call call) n = absurd (cc)
 same_calls side log (turns.Bytes id piece) n = bytes-calls side log id piece
-same_calls side log (turns.Connected uni bi credit fact) n = event-calls side log (is_open log) (Connected uni bi credit fact)
-same_calls side log turns.PeerUni n = event-calls side log (is_open log) PeerUni
-same_calls side log turns.PeerBi n = event-calls side log (is_open log) PeerBi
-same_calls side log (turns.End id) n = event-calls side log (is_open log) (End id)
-same_calls side log (turns.Reset id code) n = event-calls side log (is_open log) (Reset id code)
-same_calls side log (turns.Stop id code) n = event-calls side log (is_open log) (Stop id code)
-same_calls side log (turns.Acked id) n = event-calls side log (is_open log) (Acked id)
-same_calls side log (turns.Datagram piece) n = event-calls side log (is_open log) (Datagram piece)
-same_calls side log (turns.MaxUni total) n = event-calls side log (is_open log) (MaxUni total)
-same_calls side log (turns.MaxBi total) n = event-calls side log (is_open log) (MaxBi total)
-same_calls side log (turns.MaxData id total) n = event-calls side log (is_open log) (MaxData id total)
-same_calls side log (turns.DatagramLimit fact) n = event-calls side log (is_open log) (DatagramLimit fact)
-same_calls side log (turns.Loss reason) n = event-calls side log (is_open log) (Loss reason)
+same_calls side log _ n = event-calls side log (is_open log) _
 
 -- ---- something happened
 
@@ -81,16 +69,4 @@ bytes-connected side log id piece l =
 pub turn_first : (side : Side) (log : Log) (turn : Turn) → is_lawful side log turn ≡ true → is_call turn ≡ false → is_first (log_after side log turn) ≡ false
 turn_first side log (turns.Call call) l n = absurd (cc)
 turn_first side log (turns.Bytes id piece) l n = bytes-first side log id piece (connected-first log (bytes-connected side log id piece l))
-turn_first side log (turns.Connected uni bi credit fact) l n = entry-first side (event_entry (is_open log) (Connected uni bi credit fact)) log
-turn_first side log turns.PeerUni l n = entry-first side (event_entry (is_open log) PeerUni) log
-turn_first side log turns.PeerBi l n = entry-first side (event_entry (is_open log) PeerBi) log
-turn_first side log (turns.End id) l n = entry-first side (event_entry (is_open log) (End id)) log
-turn_first side log (turns.Reset id code) l n = entry-first side (event_entry (is_open log) (Reset id code)) log
-turn_first side log (turns.Stop id code) l n = entry-first side (event_entry (is_open log) (Stop id code)) log
-turn_first side log (turns.Acked id) l n = entry-first side (event_entry (is_open log) (Acked id)) log
-turn_first side log (turns.Datagram piece) l n = entry-first side (event_entry (is_open log) (Datagram piece)) log
-turn_first side log (turns.MaxUni total) l n = entry-first side (event_entry (is_open log) (MaxUni total)) log
-turn_first side log (turns.MaxBi total) l n = entry-first side (event_entry (is_open log) (MaxBi total)) log
-turn_first side log (turns.MaxData id total) l n = entry-first side (event_entry (is_open log) (MaxData id total)) log
-turn_first side log (turns.DatagramLimit fact) l n = entry-first side (event_entry (is_open log) (DatagramLimit fact)) log
-turn_first side log (turns.Loss reason) l n = entry-first side (event_entry (is_open log) (Loss reason)) log
+turn_first side log _ l n = entry-first side (event_entry (is_open log) _) log

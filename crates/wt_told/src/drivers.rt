@@ -4,7 +4,7 @@ ghost use Rattle.std.specs.Prelude.{◌≡◌, [], Bool, List, Option, Some, fal
 ghost use Rattle.wt_driver_state.specs.DriverValue.{DriverValue};
 ghost use Rattle.wt_driver_state.specs.Stages.{is_let_go, is_unwanted};
 ghost use Rattle.wt_driver_spec.specs.DriverState.{requests_now};
-ghost use Rattle.wt_driver_spec.specs.Moment.{is_local};
+ghost use Rattle.wt_driver_spec.specs.Moment.{has_local_kind};
 ghost use Rattle.wt_driver_spec.specs.Uses.{classified_of, use_of};
 ghost use Rattle.wt_dispatch.specs.Requests.{first_request};
 ghost use Rattle.wt_driver_state.specs.Tie.{Refines};
@@ -59,5 +59,5 @@ pub fn requests_end_where_drivers_tell()
 pub fn drivers_let_streams_go()
     ensures let_go { (side : Side) (d : DriverValue) (log : Log) (untaken : List Action) (k : ℕ) → Refines side d log untaken → is_let_go side log k ≡ true → unread_now d.inbox.transport k ≡ [] }
     ensures unwanted { (side : Side) (d : DriverValue) (log : Log) (untaken : List Action) (k : ℕ) → Refines side d log untaken → is_unwanted (classified_of k (stream_table side log).classified) ≡ true → unread_now d.inbox.transport k ≡ [] }
-    ensures peers { (side : Side) (log : Log) (k : ℕ) → is_local side k ≡ false → (use_of k (calls_of log)).is_dropped ≡ true → is_let_go side log k ≡ true }
+    ensures peers { (side : Side) (log : Log) (k : ℕ) → has_local_kind side k ≡ false → (use_of k (calls_of log)).is_dropped ≡ true → is_let_go side log k ≡ true }
 {}

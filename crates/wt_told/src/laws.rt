@@ -1,9 +1,9 @@
 //! What turns and calls leave of what a session keeps beside its driver: functions with empty
 //! bodies, whose contracts are the laws.
 ghost use Rattle.std.specs.Prelude.{◌∷◌, ◌≡◌, List, None, Some, false, true, ℕ};
-ghost use Rattle.wt_driver_spec.specs.Due.{accepted, received};
+ghost use Rattle.wt_driver_spec.specs.Due.{accept_outcome, receive_outcome};
 ghost use Rattle.wt_laws.specs.Reachable.{IsReachable};
-ghost use Rattle.wt_spec.specs.Turns.{is_call};
+ghost use Rattle.wt_turn.specs.Turns.{is_call};
 ghost use Rattle.wt_table.specs.Table.{KeepsCalls, TableValue};
 ghost use Rattle.wt_plan.specs.Tells.{KeepsRequestEnd};
 ghost use Rattle.wt_proto.specs.declared.verdict.Verdict.TheVariants as verdicts;
@@ -58,7 +58,7 @@ pub fn lawful_turns_lead_on()
 pub fn tables_keep_calls()
     ensures step { (side : Side) (log : Log) (own : List Action) (r : CallRecord) → calls_of (log_call side log own r) ≡ r ∷ calls_of log }
     ensures polled { (t : TableValue) (calls : List CallRecord) → KeepsCalls t calls → KeepsCalls t (Polled ∷ calls) }
-    ensures passed { (side : Side) (log : Log) (kind session : ℕ) (t : TableValue) → KeepsCalls t (calls_of log) → (accepted side kind log session).given ≡ None → KeepsCalls t (calls_of (accepted side kind log session).state) }
-    ensures given { (side : Side) (log : Log) (kind session id : ℕ) (old new : TableValue) → KeepsCalls old (calls_of log) → ((calls : List CallRecord) → KeepsCalls old calls → KeepsCalls new (StreamAccepted id ∷ calls)) → (accepted side kind log session).given ≡ Some id → KeepsCalls new (calls_of (accepted side kind log session).state) }
-    ensures received { (side : Side) (log : Log) (session : ℕ) (t : TableValue) → KeepsCalls t (calls_of log) → KeepsCalls t (calls_of (received side log session).state) }
+    ensures passed { (side : Side) (log : Log) (kind session : ℕ) (t : TableValue) → KeepsCalls t (calls_of log) → (accept_outcome side kind log session).given ≡ None → KeepsCalls t (calls_of (accept_outcome side kind log session).state) }
+    ensures given { (side : Side) (log : Log) (kind session id : ℕ) (old new : TableValue) → KeepsCalls old (calls_of log) → ((calls : List CallRecord) → KeepsCalls old calls → KeepsCalls new (StreamAccepted id ∷ calls)) → (accept_outcome side kind log session).given ≡ Some id → KeepsCalls new (calls_of (accept_outcome side kind log session).state) }
+    ensures received { (side : Side) (log : Log) (session : ℕ) (t : TableValue) → KeepsCalls t (calls_of log) → KeepsCalls t (calls_of (receive_outcome side log session).state) }
 {}

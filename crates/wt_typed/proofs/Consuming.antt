@@ -7,7 +7,7 @@ use Rattle.std.proofs.lemmas.Bool.{cases_lt}
 use Rattle.std.proofs.lemmas.List.{get_or-set_same, get_or_past, length-drop, length-set, drop-drop}
 use Rattle.wt_streams.specs.declared.stream.Stream.{Stream}
 use Rattle.wt_streams.specs.Pieces.{skip}
-use Rattle.wt_streams.specs.StreamState.{fresh, row_at, stream_in, stream_at, has_stream, changed, changed_in, consume}
+use Rattle.wt_streams.specs.StreamState.{fresh, row_at, stream_in, stream_at, has_stream, with_changed, changed_in, consume}
 use Rattle.wt_streams.proofs.PieceLaws.{concat_skip}
 use Rattle.wt_seam.specs.State.{TransportState}
 use Rattle.wt_seam.specs.Step.{can_receive_now, after_consume, unread_now, with_change}
@@ -61,25 +61,25 @@ kind-below streams id has =
 index-below : (streams : List (List Stream)) (id : ℕ) → has_stream streams id ≡ true → id / 4 < length (row_at streams (id % 4))
 index-below streams id has = grind (arith, nat_tests)
 
-row-changed : (streams : List (List Stream)) (id : ℕ) (f : Stream → Stream) → has_stream streams id ≡ true → row_at (changed streams id f) (id % 4) ≡ changed_in (row_at streams (id % 4)) (id / 4) f
+row-changed : (streams : List (List Stream)) (id : ℕ) (f : Stream → Stream) → has_stream streams id ≡ true → row_at (with_changed streams id f) (id % 4) ≡ changed_in (row_at streams (id % 4)) (id / 4) f
 row-changed streams id f has = get_or-set_same streams (id % 4) (changed_in (row_at streams (id % 4)) (id / 4) f) [] (kind-below streams id has)
 
-pub stream-changed : (streams : List (List Stream)) (id : ℕ) (f : Stream → Stream) → has_stream streams id ≡ true → stream_at (changed streams id f) id ≡ f (stream_at streams id)
+pub stream-changed : (streams : List (List Stream)) (id : ℕ) (f : Stream → Stream) → has_stream streams id ≡ true → stream_at (with_changed streams id f) id ≡ f (stream_at streams id)
 stream-changed streams id f has =
     ap (λ r. stream_in r (id / 4)) (row-changed streams id f has)
     ∙ get_or-set_same (row_at streams (id % 4)) (id / 4) (f (stream_at streams id)) (fresh 0) (index-below streams id has)
 
-pub still-there : (streams : List (List Stream)) (id : ℕ) (f : Stream → Stream) → has_stream streams id ≡ true → has_stream (changed streams id f) id ≡ true
+pub still-there : (streams : List (List Stream)) (id : ℕ) (f : Stream → Stream) → has_stream streams id ≡ true → has_stream (with_changed streams id f) id ≡ true
 still-there streams id f has =
     ap (λ r. nat_lt (id / 4) (length r)) (row-changed streams id f has)
     ∙ (ap (nat_lt (id / 4)) (length-set (row_at streams (id % 4)) (id / 4) (f (stream_at streams id))) ∙ has)
 
-changed-again : (streams : List (List Stream)) (id : ℕ) (f g : Stream → Stream) → has_stream streams id ≡ true → changed (changed streams id f) id g ≡ changed streams id (λ s. g (f s))
+changed-again : (streams : List (List Stream)) (id : ℕ) (f g : Stream → Stream) → has_stream streams id ≡ true → with_changed (with_changed streams id f) id g ≡ with_changed streams id (λ s. g (f s))
 changed-again streams id f g has =
-    ap (λ r. slice_set (changed streams id f) (id % 4) (slice_set r (id / 4) (g (stream_in r (id / 4))))) (row-changed streams id f has)
-    ∙ (ap (λ s. slice_set (changed streams id f) (id % 4) (slice_set (changed_in (row_at streams (id % 4)) (id / 4) f) (id / 4) (g s)))
+    ap (λ r. slice_set (with_changed streams id f) (id % 4) (slice_set r (id / 4) (g (stream_in r (id / 4))))) (row-changed streams id f has)
+    ∙ (ap (λ s. slice_set (with_changed streams id f) (id % 4) (slice_set (changed_in (row_at streams (id % 4)) (id / 4) f) (id / 4) (g s)))
     (get_or-set_same (row_at streams (id % 4)) (id / 4) (f (stream_at streams id)) (fresh 0) (index-below streams id has))
-    ∙ (ap (λ r. slice_set (changed streams id f) (id % 4) r) (set-again (row_at streams (id % 4)) (id / 4) (f (stream_at streams id)) (g (f (stream_at streams id))))
+    ∙ (ap (λ r. slice_set (with_changed streams id f) (id % 4) r) (set-again (row_at streams (id % 4)) (id / 4) (f (stream_at streams id)) (g (f (stream_at streams id))))
     ∙ set-again streams (id % 4) (changed_in (row_at streams (id % 4)) (id / 4) f) (changed_in (row_at streams (id % 4)) (id / 4) (λ s. g (f s)))))
 
 -- ---- a transport

@@ -4,13 +4,13 @@ use Rattle.wt_wire.specs.Frames.{is_exercise}
 use Rattle.wt_proto.specs.Steady.{IsSteady}
 use Rattle.wt_proto.proofs.FrameLaws.{IsEffect, IsReader, items-steady}
 use Rattle.wt_proto.proofs.TypedHeaders.{Chooses, IsTyped, alone, by, goes-on, header-reader}
-use Rattle.wt_typed.specs.UniHeader.{header_at, header_decides, header_effect, header_of_type, header_with_type, session_header, with_session}
+use Rattle.wt_typed.specs.UniHeader.{header_at, header_decides, header_effect, header_of_type, header_with_type, session_header, with_session_id}
 
 of_type-chooses : (kind at : ℕ) → Chooses at (header_of_type kind at)
 of_type-chooses kind at =
     by at (kind == 0x00) (alone at _) (by at (kind == 0x02) (alone at _) (by at (kind == 0x03) (alone at _) (by at (kind == 0x54) (goes-on at) (by at (is_exercise kind) (alone at _) (alone at _)))))
 
-header-typed : IsTyped with_session header_of_type header_with_type
+header-typed : IsTyped with_session_id header_of_type header_with_type
 header-typed = record {
   made = λ at s. session_header s.0;
   no-session = λ at. refl;
@@ -22,7 +22,7 @@ header-typed = record {
 
 reader : IsReader header_at
 unfolding header_at
-reader = header-reader with_session header_of_type header_with_type header-typed
+reader = header-reader with_session_id header_of_type header_with_type header-typed
 
 header-effect : IsEffect header_effect
 header-effect = record { takes = λ s n h. refl }

@@ -7,36 +7,32 @@ use Rattle.wt_wire.specs.Frames as frames
 use Rattle.wt_wire.specs.Varint.{varint_at}
 use Rattle.wt_proto.specs.declared.walk.Step.{Step}
 use Rattle.wt_proto.specs.declared.walk.Step.TheVariants.{Cut, Goes, Stops}
-use Rattle.wt_proto.specs.FrameSteps.{decided}
+use Rattle.wt_proto.specs.FrameSteps.{step_of_item}
 use Rattle.wt_proto.specs.Progress.{Progress, progress_over}
-use Rattle.wt_proto.specs.Steady.{taken, IsSteady}
-use Rattle.wt_proto.specs.Walk.{led}
+use Rattle.wt_proto.specs.Steady.{size_of_step, IsSteady}
+use Rattle.wt_proto.specs.Walk.{step_on}
 use Rattle.wt_proto.proofs.FrameLaws.{IsEffect, frames-steady, session_id_ignored-on, varint-on}
 use Rattle.wt_typed.specs.declared.next_frame.FrameSource.{FrameSource}
 use Rattle.wt_typed.specs.declared.next_frame.FrameSource.TheVariants.{Request, Control, Other}
-use Rattle.wt_typed.specs.NextFrame.{frame_decides, frame_effect, given, id_at}
+use Rattle.wt_typed.specs.NextFrame.{frame_decides, frame_effect, given_frame, id_at}
 
-skipped-taken : (b : Bool) (n kind : ℕ) → taken (cond b (Stops (given (kinds.Exercise kind) []) n) (Goes Control n)) ≡ Some n
+skipped-taken : (b : Bool) (n kind : ℕ) → size_of_step (cond b (Stops (given_frame (kinds.Exercise kind) []) n) (Goes Control n)) ≡ Some n
 skipped-taken true n kind = refl
 skipped-taken false n kind = refl
 
 pub frame-effect : IsEffect frame_effect
 frame-effect = record { takes = takes }
   where
-    takes : (s : FrameSource) (n : ℕ) (f : frames.Frame) → taken (frame_effect s n f) ≡ Some n
-    takes s n (frames.Data payload) = refl
-    takes s n (frames.Headers payload) = refl
-    takes s n (frames.Settings payload) = refl
-    takes s n frames.TooLong = refl
-    takes s n (frames.Signal id) = refl
+    takes : (s : FrameSource) (n : ℕ) (f : frames.Frame) → size_of_step (frame_effect s n f) ≡ Some n
     takes Request n (frames.Skipped kind) = refl
     takes Control n (frames.Skipped kind) = skipped-taken (frames.is_exercise kind) n kind
     takes Other n (frames.Skipped kind) = refl
+    takes s n _ = refl
 
-with-id : IsSteady (λ (s : FrameSource) bytes. decided (frame_effect s) (frames.frame_at varint_at bytes))
+with-id : IsSteady (λ (s : FrameSource) bytes. step_of_item (frame_effect s) (frames.frame_at varint_at bytes))
 with-id = frames-steady varint_at varint-on frame_effect frame-effect
 
-without-id : IsSteady (λ (s : FrameSource) bytes. decided (frame_effect s) (frames.frame_at frames.session_id_ignored bytes))
+without-id : IsSteady (λ (s : FrameSource) bytes. step_of_item (frame_effect s) (frames.frame_at frames.session_id_ignored bytes))
 without-id = frames-steady frames.session_id_ignored session_id_ignored-on frame_effect frame-effect
 
 pub frame_steady : IsSteady frame_decides
@@ -48,38 +44,34 @@ frame_steady = record { nothing = nothing; more = more; front = front; some = so
     nothing Control = without-id.nothing Control
     nothing Other = without-id.nothing Other
 
-    more : (s : FrameSource) (xs ys : List ℕ) (n : ℕ) → taken (frame_decides s xs) ≡ Some n → frame_decides s (xs ++ ys) ≡ frame_decides s xs
+    more : (s : FrameSource) (xs ys : List ℕ) (n : ℕ) → size_of_step (frame_decides s xs) ≡ Some n → frame_decides s (xs ++ ys) ≡ frame_decides s xs
     more Request = with-id.more Request
     more Control = without-id.more Control
     more Other = without-id.more Other
 
-    front : (s : FrameSource) (xs ys : List ℕ) (n : ℕ) → taken (frame_decides s (xs ++ ys)) ≡ Some n → n ≤ length xs → frame_decides s xs ≡ frame_decides s (xs ++ ys)
+    front : (s : FrameSource) (xs ys : List ℕ) (n : ℕ) → size_of_step (frame_decides s (xs ++ ys)) ≡ Some n → n ≤ length xs → frame_decides s xs ≡ frame_decides s (xs ++ ys)
     front Request = with-id.front Request
     front Control = without-id.front Control
     front Other = without-id.front Other
 
-    some : (s : FrameSource) (xs : List ℕ) (n : ℕ) → taken (frame_decides s xs) ≡ Some n → 1 ≤ n
+    some : (s : FrameSource) (xs : List ℕ) (n : ℕ) → size_of_step (frame_decides s xs) ≡ Some n → 1 ≤ n
     some Request = with-id.some Request
     some Control = without-id.some Control
     some Other = without-id.some Other
 
 -- ---- no frame changes where the frames stand
 
-control-same : (b : Bool) (t : FrameSource) (m n kind : ℕ) → cond b (Stops (given (kinds.Exercise kind) []) m) (Goes Control m) ≡ Goes t n → t ≡ Control
+control-same : (b : Bool) (t : FrameSource) (m n kind : ℕ) → cond b (Stops (given_frame (kinds.Exercise kind) []) m) (Goes Control m) ≡ Goes t n → t ≡ Control
 control-same true t m n kind e = absurd cc
 control-same false t m n kind e = cc
 
 effect-same : (s t : FrameSource) (m n : ℕ) (f : frames.Frame) → frame_effect s m f ≡ Goes t n → t ≡ s
-effect-same s t m n (frames.Data payload) e = absurd cc
-effect-same s t m n (frames.Headers payload) e = absurd cc
-effect-same s t m n (frames.Settings payload) e = absurd cc
-effect-same s t m n frames.TooLong e = absurd cc
-effect-same s t m n (frames.Signal id) e = absurd cc
 effect-same Request t m n (frames.Skipped kind) e = cc
 effect-same Control t m n (frames.Skipped kind) e = control-same (frames.is_exercise kind) t m n kind e
 effect-same Other t m n (frames.Skipped kind) e = cc
+effect-same s t m n _ e = absurd cc
 
-decided-same : (s t : FrameSource) (n : ℕ) (item : Option (frames.Frame × ℕ)) → decided (frame_effect s) item ≡ Goes t n → t ≡ s
+decided-same : (s t : FrameSource) (n : ℕ) (item : Option (frames.Frame × ℕ)) → step_of_item (frame_effect s) item ≡ Goes t n → t ≡ s
 decided-same s t n None e = absurd cc
 decided-same s t n (Some f) e = effect-same s t f.1 n f.0 e
 
@@ -92,7 +84,7 @@ source_in p = p.state
 
 led-same : (s : FrameSource) (b : ℕ) (xs : List ℕ) → ((t : FrameSource) (stop : Option (Result FrameParts ErrorCode)) (n : ℕ) → source_in (progress_over frame_decides t stop n xs) ≡ t)
     → (d : Step FrameSource (Result FrameParts ErrorCode)) → frame_decides s (b ∷ xs) ≡ d
-    → source_in (led (record { state = s; stop = None; skip = 0; kept = b ∷ xs }) (λ t stop n. progress_over frame_decides t stop (n - 1) xs) s d) ≡ s
+    → source_in (step_on (record { state = s; stop = None; skip = 0; kept = b ∷ xs }) (λ t stop n. progress_over frame_decides t stop (n - 1) xs) s d) ≡ s
 led-same s b xs again Cut e = refl
 led-same s b xs again (Goes t n) e = again t None (n - 1) ∙ goes-same s t (b ∷ xs) n e
 led-same s b xs again (Stops o n) e = again s (Some o) (n - 1)

@@ -6,8 +6,8 @@ use Rattle.std.proofs.lemmas.Bool.{cases_lt}
 use Rattle.std.proofs.lemmas.List.{append-nil, length-append, take-append-drop, take_all}
 use Rattle.wt_proto.specs.declared.walk.Step.{Step}
 use Rattle.wt_proto.specs.declared.walk.Step.TheVariants.{Cut, Goes, Stops}
-use Rattle.wt_proto.specs.Progress.{Progress, progress_over, fed, reached, reached_at, IsProper, Advances, passed}
-use Rattle.wt_proto.specs.Steady.{taken, IsSteady}
+use Rattle.wt_proto.specs.Progress.{Progress, progress_over, progress_after, reached_in, reached_at, IsProper, Advances, progress_past}
+use Rattle.wt_proto.specs.Steady.{size_of_step, IsSteady}
 use Rattle.wt_proto.proofs.ProgressLaws.{progress-cut, progress-goes, progress-stops, fed-fed, kept-open}
 use Rattle.wt_streams.specs.Pieces.{first_piece}
 use Rattle.wt_seam.specs.State.{TransportState}
@@ -16,27 +16,27 @@ use Rattle.wt_typed.specs.Reading.{TookFirst, after_taking}
 
 module _ {S O : Type 0} (decide : S → List ℕ → Step S O) (steady : IsSteady decide) (s : S) (kept : List ℕ) (byte : ℕ) (waits : decide s kept ≡ Cut) where
   -- bytes of which all but the last decide nothing are no more than an item
-  pub byte-long : (items : List ℕ) (m : ℕ) → items ≡ kept ++ byte ∷ [] → taken (decide s items) ≡ Some m → length items ≤ m
+  pub byte-long : (items : List ℕ) (m : ℕ) → items ≡ kept ++ byte ∷ [] → size_of_step (decide s items) ≡ Some m → length items ≤ m
   byte-long items m is e =
       elim (cases_lt m (length items)) [
         | inl lt ↦
             let short : m ≤ length kept = omega (arith, ap length is, length-append kept (byte ∷ [])) in
-            let front = steady.front s kept (byte ∷ []) m (ap (λ (xs : List ℕ). taken (decide s xs)) (sym is) ∙ e) short in
-            let none : taken (decide s items) ≡ None = ap (λ (xs : List ℕ). taken (decide s xs)) is ∙ (ap (λ d. taken d) (sym front) ∙ ap (λ d. taken d) waits) in
+            let front = steady.front s kept (byte ∷ []) m (ap (λ (xs : List ℕ). size_of_step (decide s xs)) (sym is) ∙ e) short in
+            let none : size_of_step (decide s items) ≡ None = ap (λ (xs : List ℕ). size_of_step (decide s xs)) is ∙ (ap (λ d. size_of_step d) (sym front) ∙ ap (λ d. size_of_step d) waits) in
             absurd cc
         | inr le ↦ le
       ]
 
-  byte-passes : (items : List ℕ) (d : Step S O) → items ≡ kept ++ byte ∷ [] → decide s items ≡ d → progress_over decide s None 0 items ≡ passed s d (length items) items
+  byte-passes : (items : List ℕ) (d : Step S O) → items ≡ kept ++ byte ∷ [] → decide s items ≡ d → progress_over decide s None 0 items ≡ progress_past s d (length items) items
   byte-passes items Cut is e = progress-cut decide s items e
-  byte-passes items (Goes t m) is e = progress-goes decide steady s t m items e (byte-long items m is (ap (λ d. taken d) e))
-  byte-passes items (Stops o m) is e = progress-stops decide steady s o m items e (byte-long items m is (ap (λ d. taken d) e))
+  byte-passes items (Goes t m) is e = progress-goes decide steady s t m items e (byte-long items m is (ap (λ d. size_of_step d) e))
+  byte-passes items (Stops o m) is e = progress-stops decide steady s o m items e (byte-long items m is (ap (λ d. size_of_step d) e))
 
-  not-yet : (k : ℕ) (later : List ℕ) → k < 1 → (reached (progress_over decide s None 0 (kept ++ take k (byte ∷ later)))).stop ≡ None
-  not-yet zero later lt = ap (λ (xs : List ℕ). (reached (progress_over decide s None 0 xs)).stop) (append-nil kept) ∙ (ap (λ (p : Progress S O). (reached p).stop) (progress-cut decide s kept waits) ∙ kept-open decide steady s kept)
+  not-yet : (k : ℕ) (later : List ℕ) → k < 1 → (reached_in (progress_over decide s None 0 (kept ++ take k (byte ∷ later)))).stop ≡ None
+  not-yet zero later lt = ap (λ (xs : List ℕ). (reached_in (progress_over decide s None 0 xs)).stop) (append-nil kept) ∙ (ap (λ (p : Progress S O). (reached_in p).stop) (progress-cut decide s kept waits) ∙ kept-open decide steady s kept)
   not-yet (suc k) later lt = absurd (omega arith)
 
-  byte-advances : (items : List ℕ) (new : Progress S O) → items ≡ kept ++ byte ∷ [] → new ≡ passed s (decide s items) (length items) items → (later : List ℕ) →
+  byte-advances : (items : List ℕ) (new : Progress S O) → items ≡ kept ++ byte ∷ [] → new ≡ progress_past s (decide s items) (length items) items → (later : List ℕ) →
       Advances decide (record { state = s; stop = None; skip = 0; kept = kept }) new (byte ∷ later) 1
   byte-advances items new is e later = record {
     within = omega arith;
@@ -47,7 +47,7 @@ module _ {S O : Type 0} (decide : S → List ℕ → Step S O) (steady : IsStead
 -- a byte that is kept, judged with those before it
 pub kept-byte : {S O : Type 0} (decide : S → List ℕ → Step S O) → IsSteady decide → (s : S) (stop : Option O) (skip : ℕ) (kept items : List ℕ) (byte : ℕ) (new : Progress S O) →
     IsProper decide (record { state = s; stop = stop; skip = skip; kept = kept }) → skip ≡ 0 → is_some stop ≡ false → items ≡ kept ++ byte ∷ [] →
-    new ≡ passed s (decide s items) (length items) items → (later : List ℕ) →
+    new ≡ progress_past s (decide s items) (length items) items → (later : List ℕ) →
     Advances decide (record { state = s; stop = stop; skip = skip; kept = kept }) new (byte ∷ later) 1
 kept-byte decide steady s (Some o) skip kept items byte new proper none goes is e later = absurd cc
 kept-byte decide steady s None skip kept items byte new proper none goes is e later =
@@ -55,7 +55,7 @@ kept-byte decide steady s None skip kept items byte new proper none goes is e la
     record {
       within = same.within;
       taken = same.taken ∙ ap (λ (n : ℕ). progress_over decide s None n (kept ++ byte ∷ [])) (sym none);
-      running = λ k lt. ap (λ (n : ℕ). (reached (progress_over decide s None n (kept ++ take k (byte ∷ later)))).stop) none ∙ same.running k lt;
+      running = λ k lt. ap (λ (n : ℕ). (reached_in (progress_over decide s None n (kept ++ take k (byte ∷ later)))).stop) none ∙ same.running k lt;
     }
 
 -- the same, by what it decides
@@ -83,15 +83,15 @@ module _ {S O : Type 0} (decide : S → List ℕ → Step S O) (steady : IsStead
   over-stays s stop zero (b ∷ kept) more e = absurd cc
   over-stays s stop (suc skip) kept more e = absurd cc
 
-  pub took-all : (old new : Progress S O) (bytes : List ℕ) (n : ℕ) → new ≡ fed decide old (take n bytes) → n ≤ length bytes → (n < length bytes → is_some (reached new).stop ≡ true) → fed decide old bytes ≡ new
+  pub took-all : (old new : Progress S O) (bytes : List ℕ) (n : ℕ) → new ≡ progress_after decide old (take n bytes) → n ≤ length bytes → (n < length bytes → is_some (reached_in new).stop ≡ true) → progress_after decide old bytes ≡ new
   took-all old new bytes n e le all =
       elim (cases_lt n (length bytes)) [
         | inl lt ↦
-            ap (λ (xs : List ℕ). fed decide old xs) (sym (take-append-drop n bytes))
+            ap (λ (xs : List ℕ). progress_after decide old xs) (sym (take-append-drop n bytes))
             ∙ (sym (fed-fed decide steady old (take n bytes) (drop n bytes))
-            ∙ (ap (λ (p : Progress S O). fed decide p (drop n bytes)) (sym e)
+            ∙ (ap (λ (p : Progress S O). progress_after decide p (drop n bytes)) (sym e)
             ∙ over-stays new.state new.stop new.skip new.kept (drop n bytes) (all lt)))
-        | inr whole ↦ ap (λ (xs : List ℕ). fed decide old xs) (sym (take_all n bytes whole)) ∙ sym e
+        | inr whole ↦ ap (λ (xs : List ℕ). progress_after decide old xs) (sym (take_all n bytes whole)) ∙ sym e
       ]
 
 -- where memory ran out, the bytes in front of the one that wasn't kept are taken

@@ -9,7 +9,7 @@ use Rattle.wt_error.specs.declared.proto_error.IoReadError.TheVariants as ends
 use Rattle.wt_error.specs.declared.proto_error.ProtoReadError.{ProtoReadError}
 use Rattle.wt_error.specs.declared.proto_error.ProtoReadError.TheVariants.{H3, IO}
 use Rattle.wt_proto.specs.declared.walk.Step.{Step}
-use Rattle.wt_proto.specs.Progress.{Progress, IsProper, at_item, fed, progress_over, reached}
+use Rattle.wt_proto.specs.Progress.{Progress, IsProper, at_item, progress_after, progress_over, reached_in}
 use Rattle.wt_proto.specs.Steady.{IsSteady}
 use Rattle.wt_proto.specs.Walk.{Reached}
 use Rattle.wt_seam.specs.State.{TransportState}
@@ -31,34 +31,34 @@ after_taking t id n = if n == 0 then t else after_consume t id n
 -- The reader took the first n unread bytes of a stream: all of them, or up to the first item that stopped it.
 pub record Took {S O : Type 0} (decide : S → List ℕ → Step S O) (old new : Progress S O) (t u : TransportState) (id n : ℕ) : Type 0 where
   pub within : n ≤ length (unread_now t id)
-  pub reading : new ≡ fed decide old (take n (unread_now t id))
-  pub running : (k : ℕ) → k < n → (reached (fed decide old (take k (unread_now t id)))).stop ≡ None
-  pub all : n < length (unread_now t id) → is_some (reached new).stop ≡ true
+  pub reading : new ≡ progress_after decide old (take n (unread_now t id))
+  pub running : (k : ℕ) → k < n → (reached_in (progress_after decide old (take k (unread_now t id)))).stop ≡ None
+  pub all : n < length (unread_now t id) → is_some (reached_in new).stop ≡ true
   pub state : u ≡ after_taking t id n
 
 -- The reader took the first n unread bytes of a stream, and none behind an item that stopped it.
 pub record TookFirst {S O : Type 0} (decide : S → List ℕ → Step S O) (old new : Progress S O) (t u : TransportState) (id n : ℕ) : Type 0 where
   pub within : n ≤ length (unread_now t id)
-  pub reading : new ≡ fed decide old (take n (unread_now t id))
-  pub running : (k : ℕ) → k < n → (reached (fed decide old (take k (unread_now t id)))).stop ≡ None
+  pub reading : new ≡ progress_after decide old (take n (unread_now t id))
+  pub running : (k : ℕ) → k < n → (reached_in (progress_after decide old (take k (unread_now t id)))).stop ≡ None
   pub state : u ≡ after_taking t id n
 
 -- what is answered where the bytes end before an item is whole
-abbrev pub ended : {G : Type 0} → Bool → StreamEnd → Bool → Poll (Result G ProtoReadError)
-ended open_ Running between = if open_ then polls.Pending else polls.Ready (Err (IO ends.NotConnected))
-ended open_ Fin true = polls.Ready (Err (IO ends.ImmediateFin))
-ended open_ Fin false = polls.Ready (Err (IO ends.UnexpectedFin))
-ended open_ (Reset code) between = polls.Ready (Err (IO ends.Reset))
+abbrev pub answer_at_end : {G : Type 0} → Bool → StreamEnd → Bool → Poll (Result G ProtoReadError)
+answer_at_end open_ Running between = if open_ then polls.Pending else polls.Ready (Err (IO ends.NotConnected))
+answer_at_end open_ Fin true = polls.Ready (Err (IO ends.ImmediateFin))
+answer_at_end open_ Fin false = polls.Ready (Err (IO ends.UnexpectedFin))
+answer_at_end open_ (Reset code) between = polls.Ready (Err (IO ends.Reset))
 
 -- the item that stopped a reader or its fault, else the end
 abbrev pub stopped_or_ended : {G : Type 0} → Bool → StreamEnd → Bool → Option (Result G ErrorCode) → Poll (Result G ProtoReadError)
 stopped_or_ended open_ end between (Some (Ok item)) = polls.Ready (Ok item)
 stopped_or_ended open_ end between (Some (Err fault)) = polls.Ready (Err (H3 fault))
-stopped_or_ended open_ end between None = ended open_ end between
+stopped_or_ended open_ end between None = answer_at_end open_ end between
 
 -- what a read answers that reached so far
-abbrev pub read_answer : {S G : Type 0} → Bool → StreamEnd → Reached S (Result G ErrorCode) → Poll (Result G ProtoReadError)
-read_answer open_ end r = stopped_or_ended open_ end r.between r.stop
+abbrev pub reached_answer : {S G : Type 0} → Bool → StreamEnd → Reached S (Result G ErrorCode) → Poll (Result G ProtoReadError)
+reached_answer open_ end r = stopped_or_ended open_ end r.between r.stop
 
 -- an item is handed out, and the next one follows; a fault stays
 abbrev pub handed_out : {S G : Type 0} → Option (Result G ErrorCode) → Progress S (Result G ErrorCode) → Progress S (Result G ErrorCode)
@@ -68,7 +68,7 @@ handed_out None p = p
 
 -- where a read leaves its reader
 abbrev pub after_read : {S G : Type 0} → Progress S (Result G ErrorCode) → Progress S (Result G ErrorCode)
-after_read p = handed_out (reached p).stop p
+after_read p = handed_out (reached_in p).stop p
 
 -- the bytes since the last item that was handed out, behind a read that answers so
 abbrev pub since_item : {G : Type 0} → Poll (Result G ProtoReadError) → List ℕ → List ℕ

@@ -21,11 +21,11 @@ pub record Typed (S P : Type 0) : Type 0 where
   pub stage : P
 
 -- both halves of a bidirectional stream
-abbrev pub Pair : Type 0
-Pair = QuicSendStream × QuicRecvStream
+abbrev pub StreamPair : Type 0
+StreamPair = QuicSendStream × QuicRecvStream
 
 -- both halves of the stream with this id
-abbrev pub both : ℕ → Pair
+abbrev pub both : ℕ → StreamPair
 both id = (record { id = id }, record { id = id })
 
 -- a stream that is there, in this stage
@@ -34,7 +34,7 @@ in_stage halves stage None = None
 in_stage halves stage (Some id) = Some (record { halves = halves id; stage = stage })
 
 -- the stream has both halves in the transport
-abbrev pub has_both : TransportState → Pair → Bool
+abbrev pub has_both : TransportState → StreamPair → Bool
 has_both t halves = can_send_now t halves.0.id && can_receive_now t halves.1.id
 
 -- the sending half is in the transport, and a write isn't closed
@@ -42,10 +42,10 @@ abbrev pub can_write_now : TransportState → ℕ → Bool
 can_write_now t id = can_send_now t id && may_write_now t id
 
 -- what a poll answers, with something made of what it gives
-abbrev pub made : {A B E : Type 0} → (A → B) → Poll (Result A E) → Poll (Result B E)
-made f (polls.Ready (Ok a)) = polls.Ready (Ok (f a))
-made f (polls.Ready (Err error)) = polls.Ready (Err error)
-made f polls.Pending = polls.Pending
+abbrev pub map_poll : {A B E : Type 0} → (A → B) → Poll (Result A E) → Poll (Result B E)
+map_poll f (polls.Ready (Ok a)) = polls.Ready (Ok (f a))
+map_poll f (polls.Ready (Err error)) = polls.Ready (Err error)
+map_poll f polls.Pending = polls.Pending
 
 -- the poll gives what it is made for
 abbrev pub is_through : {A E : Type 0} → Poll (Result A E) → Bool

@@ -9,7 +9,7 @@ use Rattle.wt_proto.specs.declared.stream_header.StreamKind.{StreamKind}
 use Rattle.wt_proto.specs.declared.stream_header.StreamKind.TheVariants as kinds
 use Rattle.wt_proto.specs.declared.walk.Step.{Step}
 use Rattle.wt_proto.specs.declared.walk.Step.TheVariants.{Stops}
-use Rattle.wt_proto.specs.FrameSteps.{decided}
+use Rattle.wt_proto.specs.FrameSteps.{step_of_item}
 use Rattle.wt_typed.specs.declared.uni_header.UniHeader.{UniHeader}
 use Rattle.wt_typed.specs.declared.uni_header.UniHeader.TheVariants.{Control, QPackEncoder, QPackDecoder, WebTransport, Exercise}
 
@@ -26,9 +26,9 @@ abbrev pub session_header : ℕ → Result UniHeader ErrorCode
 session_header id = if id % 4 == 0 then Ok (WebTransport id) else Err Id
 
 -- a session's id after a type of so many bytes, and how many bytes the header has
-abbrev pub with_session : ℕ → Option (ℕ × ℕ) → Option (Result UniHeader ErrorCode × ℕ)
-with_session at None = None
-with_session at (Some s) = Some (session_header s.0, at + s.1)
+abbrev pub with_session_id : ℕ → Option (ℕ × ℕ) → Option (Result UniHeader ErrorCode × ℕ)
+with_session_id at None = None
+with_session_id at (Some s) = Some (session_header s.0, at + s.1)
 
 -- a header by its type, which so many bytes encode; a type that is neither known nor reserved is a fault
 abbrev pub header_of_type : ℕ → ℕ → Option (Result UniHeader ErrorCode × ℕ) → Option (Result UniHeader ErrorCode × ℕ)
@@ -42,7 +42,7 @@ header_of_type kind at session =
 -- a header after its type, where that is whole
 abbrev pub header_with_type : List ℕ → Option (ℕ × ℕ) → Option (Result UniHeader ErrorCode × ℕ)
 header_with_type bytes None = None
-header_with_type bytes (Some t) = header_of_type t.0 t.1 (with_session t.1 (varint_at (drop t.1 bytes)))
+header_with_type bytes (Some t) = header_of_type t.0 t.1 (with_session_id t.1 (varint_at (drop t.1 bytes)))
 
 -- the header at the front, and how many bytes it has; None where the bytes end inside it
 unfoldable pub header_at : List ℕ → Option (Result UniHeader ErrorCode × ℕ)
@@ -54,4 +54,4 @@ header_effect state size header = Stops header size
 
 -- what a reader of a header decides
 unfoldable pub header_decides : Unit {0} → List ℕ → Step (Unit {0}) (Result UniHeader ErrorCode)
-header_decides state bytes = decided (header_effect state) (header_at bytes)
+header_decides state bytes = step_of_item (header_effect state) (header_at bytes)

@@ -5,7 +5,7 @@ ghost use Rattle.wt_seam_spec.specs.Streams.{local_bi};
 ghost use Rattle.wt_seam.specs.Rules.{after_write, sending_half_now};
 ghost use Rattle.wt_seam.specs.Step.{after_opening, opened_id_now};
 ghost use Rattle.wt_typed.specs.declared.next_frame.FrameSource.TheVariants as sources;
-ghost use Rattle.wt_typed.specs.Typed.{both, can_write_now, in_stage, is_through, made, signal_bytes};
+ghost use Rattle.wt_typed.specs.Typed.{both, can_write_now, in_stage, is_through, map_poll, signal_bytes};
 ghost use Rattle.wt_typed.specs.Writing.{Continues, WritesPrefix, after_pending, is_begun, nothing_begun, pending_answer, rest, write_of};
 
 use crate::next_frame::{FrameReader, FrameSource};
@@ -75,7 +75,7 @@ impl Stream<Pair, BiLocalH3> {
         requires unspent { self.old.stage.is_spent ≡ false }
         requires can { IsTrue (can_write_now t.old self.old.halves.0.id) }
         requires same { Continues self.old.stage.writing (signal_bytes session) }
-        ensures answer { IfOk result (λ a. a ≡ made (λ through. record { halves = self.old.halves; stage = record {} }) (pending_answer t.old.is_open (sending_half_now t.old self.old.halves.0.id) (rest (write_of self.old.stage.writing (signal_bytes session))))) }
+        ensures answer { IfOk result (λ a. a ≡ map_poll (λ through. record { halves = self.old.halves; stage = record {} }) (pending_answer t.old.is_open (sending_half_now t.old self.old.halves.0.id) (rest (write_of self.old.stage.writing (signal_bytes session))))) }
         ensures state { OnOk result (t.new ≡ after_write t.old self.old.halves.0.id (rest (write_of self.old.stage.writing (signal_bytes session)))) }
         ensures goes_on { Continues self.new.stage.writing (signal_bytes session) }
         ensures prefix { OnOk result (WritesPrefix t.old.is_open (sending_half_now t.old self.old.halves.0.id) self.old.stage.writing self.new.stage.writing (signal_bytes session)) }

@@ -3,10 +3,10 @@ ghost use Rattle.std.specs.Prelude.{◌≡◌, ◌<◌, ◌≤◌, ◌&&◌, ◌
 ghost use Rattle.std.specs.Prelude.{Result};
 ghost use Rattle.wt_wire.specs.declared.error.ErrorCode.{ErrorCode};
 ghost use Rattle.wt_proto.specs.declared.walk.Step.{Step};
-ghost use Rattle.wt_proto.specs.Progress.{Advances, at_item, progress_over, reached};
+ghost use Rattle.wt_proto.specs.Progress.{Advances, at_item, progress_over, reached_in};
 ghost use Rattle.wt_proto.specs.Steady.{IsSteady};
 ghost use Rattle.wt_seam.specs.Step.{can_receive_now, unread_now};
-ghost use Rattle.wt_typed.specs.Reading.{Took, after_read, ended, is_over, read_answer};
+ghost use Rattle.wt_typed.specs.Reading.{Took, after_read, answer_at_end, is_over, reached_answer};
 ghost use Rattle.wt_typed.specs.Reads.{FailedReadTakes, ReadAnswers, ReadAnswersSince, ReadLeaves, ReadTakes};
 
 use std::alloc::Global;
@@ -65,7 +65,7 @@ impl<G: Grammar> Model for ItemReader<G> {
 
 /// What is answered where the bytes end before an item is whole.
 fn ended<T>(is_open: bool, end: StreamEnd, between: bool) -> Poll<Result<T, ProtoReadError>>
-    ensures { result ≡ ended is_open end between }
+    ensures { result ≡ answer_at_end is_open end between }
 {
     let error = match end {
         StreamEnd::Running if is_open => return Poll::Pending,
@@ -182,7 +182,7 @@ impl<G: Grammar> ItemReader<G> {
 
     /// What the reader has to give, and otherwise why it has nothing. What is given is handed out.
     fn answer(&mut self, is_open: bool, end: StreamEnd) -> Poll<Result<G::Given, ProtoReadError>>
-        ensures answer { result ≡ read_answer is_open end (reached self.old) }
+        ensures answer { result ≡ reached_answer is_open end (reached_in self.old) }
         ensures left { self.new ≡ after_read self.old }
     {
         if !self.is_over() {

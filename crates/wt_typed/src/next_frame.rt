@@ -2,10 +2,10 @@
 ghost use Rattle.std.specs.Prelude.{◌≡◌, ◌≤◌, IfOk, [], None, drop, length};
 ghost use Rattle.wt_wire.specs.Frames.{signal_with_id};
 ghost use Rattle.wt_wire.specs.Varint.{varint_at};
-ghost use Rattle.wt_proto.specs.FrameSteps.{decided};
+ghost use Rattle.wt_proto.specs.FrameSteps.{step_of_item};
 ghost use Rattle.wt_wire.specs.declared.frame.FrameKind.TheVariants as kinds;
 ghost use Rattle.wt_proto.specs.Progress.{at_item};
-ghost use Rattle.wt_typed.specs.NextFrame.{frame_decides, frame_effect, given, given_signal, id_at, is_signal_type, on_skipped, session_reading};
+ghost use Rattle.wt_typed.specs.NextFrame.{frame_decides, frame_effect, given_frame, given_signal, id_at, is_signal_type, on_unknown_frame, session_reading};
 
 use crate::item_reader::{Grammar, ItemReader};
 use std::alloc::Global;
@@ -44,7 +44,7 @@ fn signal(alloc: Global, id: VarInt) -> Result<Frame, ErrorCode>
 fn signal_step(alloc: Global, source: FrameSource, bytes: &[u8], at: usize) -> FrameStep
     requires within { at ≤ length bytes.now }
     requires few { at ≤ 8 }
-    ensures { result ≡ decided (frame_effect source) (signal_with_id at (id_at source (drop at bytes.now))) }
+    ensures { result ≡ step_of_item (frame_effect source) (signal_with_id at (id_at source (drop at bytes.now))) }
 {
     match source {
         FrameSource::Request => match read_varint(&bytes[at..]) {
@@ -64,7 +64,7 @@ fn skipped_step(
     kind: VarInt,
     size: u64,
 ) -> Result<FrameStep, OutOfMemory>
-    ensures { IfOk result (λ step. step ≡ on_skipped source size kind) }
+    ensures { IfOk result (λ step. step ≡ on_unknown_frame source size kind) }
 {
     match source {
         FrameSource::Control if is_exercise(kind.into_inner()) => {

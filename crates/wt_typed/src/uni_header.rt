@@ -2,7 +2,7 @@
 ghost use Rattle.std.specs.Prelude.{◌≡◌, ◌≤◌, Some};
 ghost use Rattle.wt_wire.specs.Varint.{varint_at};
 ghost use Rattle.wt_proto.specs.Progress.{at_item};
-ghost use Rattle.wt_typed.specs.UniHeader.{header_at, kind_of, session_header, with_session};
+ghost use Rattle.wt_typed.specs.UniHeader.{header_at, kind_of, session_header, with_session_id};
 
 use crate::item_reader::{Grammar, ItemReader};
 use std::alloc::Global;
@@ -56,7 +56,7 @@ fn of_session(id: VarInt) -> Result<UniHeader, ErrorCode>
 /// The id of a session, behind a type of so many bytes.
 fn with_session(bytes: &[u8], at: usize) -> Option<(Result<UniHeader, ErrorCode>, usize)>
     requires { at ≤ 8 }
-    ensures { result ≡ with_session at (varint_at bytes.now) }
+    ensures { result ≡ with_session_id at (varint_at bytes.now) }
 {
     let (id, length) = read_varint(bytes)?;
     Some((of_session(id), at + length))

@@ -7,7 +7,7 @@ ghost use Rattle.wt_seam_spec.specs.Streams.{local_uni};
 ghost use Rattle.wt_streams.specs.HalfRules.{stopped_answer};
 ghost use Rattle.wt_seam.specs.Rules.{after_write, sending_half_now};
 ghost use Rattle.wt_seam.specs.Step.{after_opening, can_send_now, opened_id_now};
-ghost use Rattle.wt_typed.specs.Typed.{can_write_now, in_stage, is_through, made};
+ghost use Rattle.wt_typed.specs.Typed.{can_write_now, in_stage, is_through, map_poll};
 ghost use Rattle.wt_typed.specs.Writing.{Continues, WritesPrefix, after_pending, is_begun, nothing_begun, pending_answer, rest, write_of};
 
 use crate::outgoing::Outgoing;
@@ -54,7 +54,7 @@ impl Stream<QuicSendStream, UniLocalQuic> {
         requires unspent { self.old.stage.is_spent ≡ false }
         requires can { IsTrue (can_write_now t.old self.old.halves.id) }
         requires same { Continues self.old.stage.writing (header_bytes header) }
-        ensures answer { IfOk result (λ a. a ≡ made (λ through. record { halves = self.old.halves; stage = record { kind = header_kind header; writing = nothing_begun } }) (pending_answer t.old.is_open (sending_half_now t.old self.old.halves.id) (rest (write_of self.old.stage.writing (header_bytes header))))) }
+        ensures answer { IfOk result (λ a. a ≡ map_poll (λ through. record { halves = self.old.halves; stage = record { kind = header_kind header; writing = nothing_begun } }) (pending_answer t.old.is_open (sending_half_now t.old self.old.halves.id) (rest (write_of self.old.stage.writing (header_bytes header))))) }
         ensures state { OnOk result (t.new ≡ after_write t.old self.old.halves.id (rest (write_of self.old.stage.writing (header_bytes header)))) }
         ensures goes_on { Continues self.new.stage.writing (header_bytes header) }
         ensures prefix { OnOk result (WritesPrefix t.old.is_open (sending_half_now t.old self.old.halves.id) self.old.stage.writing self.new.stage.writing (header_bytes header)) }

@@ -1,17 +1,17 @@
 //! Unidirectional streams that the peer opened.
 ghost use Rattle.std.specs.Prelude.{◌≡◌, ◌++◌, IfOk, IfSome, IsTrue, List, OnErr, false, true, ℕ};
 ghost use Rattle.std.specs.Borrow.{sem};
-ghost use Rattle.wt_proto.specs.Progress.{at_item, fed, reached};
-ghost use Rattle.wt_proto.specs.Walk.{walked};
+ghost use Rattle.wt_proto.specs.Progress.{at_item, progress_after, reached_in};
+ghost use Rattle.wt_proto.specs.Walk.{whole_walk};
 ghost use Rattle.wt_proto.specs.declared.stream_header.StreamKind.TheVariants as kinds;
 ghost use Rattle.wt_seam.specs.Step.{can_receive_now, end_now, unread_now};
 ghost use Rattle.wt_typed.specs.declared.uni_header.UniHeader.TheVariants as headers;
 ghost use Rattle.wt_typed.specs.Accepting.{accepted_uni, next_uni};
 ghost use Rattle.wt_typed.specs.Lending.{LendsHalf};
 ghost use Rattle.wt_typed.specs.NextFrame.{frame_decides};
-ghost use Rattle.wt_typed.specs.Reading.{HasBegun, read_answer};
+ghost use Rattle.wt_typed.specs.Reading.{HasBegun, reached_answer};
 ghost use Rattle.wt_typed.specs.Reads.{FailedReadTakes, ReadAnswers, ReadAnswersSince, ReadLeaves, ReadLeavesBegun, ReadTakes};
-ghost use Rattle.wt_typed.specs.Typed.{in_stage, is_through, made, source_of};
+ghost use Rattle.wt_typed.specs.Typed.{in_stage, is_through, map_poll, source_of};
 ghost use Rattle.wt_typed.specs.UniHeader.{header_decides, kind_of};
 
 use crate::accepted::Accepted;
@@ -91,8 +91,8 @@ impl Stream<QuicRecvStream, UniRemoteQuic> {
     ) -> Result<Poll<Result<StreamUniRemoteH3, ProtoReadError>>, OutOfMemory>
         requires unspent { self.old.stage.is_spent ≡ false }
         requires can { IsTrue (can_receive_now t.old self.old.halves.id) }
-        ensures answer { IfOk result (λ a. a ≡ made (λ header. record { halves = self.old.halves; stage = record { header = header; frames = at_item (source_of header) } }) (read_answer t.old.is_open (end_now t.old self.old.halves.id) (reached (fed header_decides self.old.stage.header (unread_now t.old self.old.halves.id))))) }
-        ensures header { (bytes : List ℕ) → HasBegun header_decides tt self.old.stage.header bytes → IfOk result (λ a. a ≡ made (λ header. record { halves = self.old.halves; stage = record { header = header; frames = at_item (source_of header) } }) (read_answer t.old.is_open (end_now t.old self.old.halves.id) (walked header_decides tt (bytes ++ unread_now t.old self.old.halves.id)))) }
+        ensures answer { IfOk result (λ a. a ≡ map_poll (λ header. record { halves = self.old.halves; stage = record { header = header; frames = at_item (source_of header) } }) (reached_answer t.old.is_open (end_now t.old self.old.halves.id) (reached_in (progress_after header_decides self.old.stage.header (unread_now t.old self.old.halves.id))))) }
+        ensures header { (bytes : List ℕ) → HasBegun header_decides tt self.old.stage.header bytes → IfOk result (λ a. a ≡ map_poll (λ header. record { halves = self.old.halves; stage = record { header = header; frames = at_item (source_of header) } }) (reached_answer t.old.is_open (end_now t.old self.old.halves.id) (whole_walk header_decides tt (bytes ++ unread_now t.old self.old.halves.id)))) }
         ensures begun { ReadLeavesBegun header_decides tt self.old.stage.header self.new.stage.header t.old self.old.halves.id result }
         ensures halves { self.new.halves ≡ self.old.halves }
         ensures left { ReadLeaves header_decides self.old.stage.header self.new.stage.header t.old self.old.halves.id result }

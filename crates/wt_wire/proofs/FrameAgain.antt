@@ -89,7 +89,4 @@ frame_again f more is number session short readable = by f.kind f.session f.payl
     by kinds.Settings None p is number session short readable = header_again 4 p more varint_at number refl (short refl) ∙ known_again 4 p more readable refl
     by (kinds.Exercise n) None p is number session short readable =
         header_again n p more varint_at number (exercise_plain n is).0 (short refl) ∙ skipped_again n p more (exercise_plain n is).1
-    by kinds.Data (Some s) p is number session short readable = absurd is
-    by kinds.Headers (Some s) p is number session short readable = absurd is
-    by kinds.Settings (Some s) p is number session short readable = absurd is
-    by (kinds.Exercise n) (Some s) p is number session short readable = absurd is
+    by _ (Some s) p is number session short readable = absurd is

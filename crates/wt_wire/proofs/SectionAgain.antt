@@ -12,7 +12,7 @@ use Rattle.wt_wire.specs.declared.error.ErrorCode.TheVariants.{Decompression}
 use Rattle.wt_wire.specs.Utf8.{is_text}
 use Rattle.wt_wire.specs.HeaderList.{Fields, sort_key, compare_names, with_field, IsAhead, IsHeaderList}
 use Rattle.wt_wire.specs.PrefixedInteger.{continuation_at, continuation_bytes, after_full_prefix, prefixed_at, prefixed_bytes, seven_bits}
-use Rattle.wt_wire.specs.FieldSection.{headers_of, string_at, string_with_size, line_at, lines_from, begins_line, begins_value, name_and_value_at, section_bytes, literal_bytes, line_bytes, AreShort}
+use Rattle.wt_wire.specs.FieldSection.{headers_of, string_at, string_with_size, line_at, field_lines_from, begins_line, begins_value, name_and_value_at, section_bytes, literal_bytes, line_bytes, AreShort}
 use Rattle.wt_wire.proofs.LineLaws.{line_in_front}
 use Rattle.wt_wire.proofs.TextLaws.{is_text_yes}
 
@@ -155,8 +155,8 @@ texts_of (e ∷ done) f todo h = texts_of done f todo h.3
 line_not_empty : (f : List ℕ × List ℕ) → 1 ≤ length (line_bytes f)
 line_not_empty f = let b = string_begins 32 7 f.0 (literal_bytes 0 127 f.1) in omega (arith, ap length b.is)
 
-lines_again : (done todo : Fields) → IsHeaderList (done ++ todo) → AreShort todo → lines_from done 0 (flat_map line_bytes todo) ≡ Some (done ++ todo)
-unfolding lines_from
+lines_again : (done todo : Fields) → IsHeaderList (done ++ todo) → AreShort todo → field_lines_from done 0 (flat_map line_bytes todo) ≡ Some (done ++ todo)
+unfolding field_lines_from
 lines_again done [] h short = ap (λ fs. Some fs) (sym (append-nil done))
 lines_again done (f ∷ todo) h short =
     let line : List ℕ = line_bytes f in
@@ -165,8 +165,8 @@ lines_again done (f ∷ todo) h short =
     let regrouped : (done ++ f ∷ []) ++ todo ≡ done ++ f ∷ todo = append_assoc done (f ∷ []) todo in
     line_in_front done (line ++ rest) (record { name = f.0; value = f.1; len = length line })
     (sym (line_again f rest texts.0 texts.1 short.0 short.1)) (line_not_empty f) (omega (arith, length-append line rest))
-    ∙ ap (λ bs. lines_from (with_field f.0 f.1 done) 0 bs) (drop_at line rest (length line) refl)
-    ∙ ap (λ fs. lines_from fs 0 rest) (with_field_last done f todo h)
+    ∙ ap (λ bs. field_lines_from (with_field f.0 f.1 done) 0 bs) (drop_at line rest (length line) refl)
+    ∙ ap (λ fs. field_lines_from fs 0 rest) (with_field_last done f todo h)
     ∙ lines_again (done ++ f ∷ []) todo (subst IsHeaderList (sym regrouped) h) short.2
     ∙ ap (λ fs. Some fs) regrouped
 

@@ -9,8 +9,8 @@ abbrev pub hexadecimal : ℕ → List ℕ
 hexadecimal n = digits 16 false n
 
 -- four numbers with dots, the highest byte first
-abbrev pub dotted : ℕ → List ℕ
-dotted ip = decimal (ip / 2 ^ 24) ++ codes "." ++ decimal (ip / 2 ^ 16 % 256) ++ codes "." ++ decimal (ip / 2 ^ 8 % 256) ++ codes "." ++ decimal (ip % 256)
+abbrev pub dotted_quad : ℕ → List ℕ
+dotted_quad ip = decimal (ip / 2 ^ 24) ++ codes "." ++ decimal (ip / 2 ^ 16 % 256) ++ codes "." ++ decimal (ip / 2 ^ 8 % 256) ++ codes "." ++ decimal (ip % 256)
 
 -- four groups of sixteen bits with colons, the highest first
 abbrev pub four_groups : ℕ → List ℕ
@@ -23,5 +23,5 @@ eight_groups ip = four_groups (ip / 2 ^ 64) ++ codes ":" ++ four_groups (ip % 2 
 
 -- an address and its port
 abbrev pub address_text : Addr → List ℕ
-address_text (V4 ip port) = dotted ip ++ codes ":" ++ decimal port
+address_text (V4 ip port) = dotted_quad ip ++ codes ":" ++ decimal port
 address_text (V6 ip port) = codes "[" ++ eight_groups ip ++ codes "]:" ++ decimal port

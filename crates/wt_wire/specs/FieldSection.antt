@@ -56,18 +56,18 @@ line_at [] = None
 line_at (b ∷ bytes) = if begins_line b then name_and_value_at (b ∷ bytes) else None
 
 -- the fields of the lines up to the end, after lines with these fields and so many bytes that were read
-unfoldable pub lines_from : Fields → ℕ → List ℕ → Option Fields
-lines_from fields zero [] = Some fields
-lines_from fields (suc k) [] = None
-lines_from fields (suc k) (b ∷ bytes) = lines_from fields k bytes
-lines_from fields zero (b ∷ bytes) = do
+unfoldable pub field_lines_from : Fields → ℕ → List ℕ → Option Fields
+field_lines_from fields zero [] = Some fields
+field_lines_from fields (suc k) [] = None
+field_lines_from fields (suc k) (b ∷ bytes) = field_lines_from fields k bytes
+field_lines_from fields zero (b ∷ bytes) = do
   line ← line_at (b ∷ bytes)
-  lines_from (with_field line.name line.value fields) (line.len - 1) bytes
+  field_lines_from (with_field line.name line.value fields) (line.len - 1) bytes
 
 -- a field section: 00 00, which says that no table is used (RFC 9204 section 4.5.1), and lines; a repeated name keeps the last value
 -- (this repository's rule; RFC 9110, section 5.3, combines the values of a repeated name in their order, and RFC 9204, section 4.5, also has lines that name entries of tables, and Huffman code)
 abbrev pub section_at : List ℕ → Option Fields
-section_at (zero ∷ zero ∷ lines) = lines_from [] 0 lines
+section_at (zero ∷ zero ∷ lines) = field_lines_from [] 0 lines
 section_at _ = None
 
 -- the fields of a payload; what is no such section is the error QPACK_DECOMPRESSION_FAILED (RFC 9204, section 8.3)

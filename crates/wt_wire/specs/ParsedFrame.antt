@@ -19,11 +19,11 @@ abbrev pub IsPayload : ℕ → ℕ → ℕ → Type 0
 IsPayload count header size = (1 ≤ header) × (header + size ≤ count) × (size ≤ longest_payload)
 
 -- the answer lies within so many bytes
-abbrev pub IsWithin : ℕ → ParsedFrame → Type 0
-IsWithin count parsed.Incomplete = Unit {0}
-IsWithin count (parsed.Signal at) = (1 ≤ at) × (at ≤ count) × (at ≤ 8)
-IsWithin count (parsed.TooLong header) = (1 ≤ header) × (header ≤ count)
-IsWithin count (parsed.Data header size) = IsPayload count header size
-IsWithin count (parsed.Headers header size) = IsPayload count header size
-IsWithin count (parsed.Settings header size) = IsPayload count header size
-IsWithin count (parsed.Skipped kind size) = (1 ≤ size) × (size < 2 ^ 63)
+abbrev pub LiesWithin : ℕ → ParsedFrame → Type 0
+LiesWithin count parsed.Incomplete = Unit {0}
+LiesWithin count (parsed.Signal at) = (1 ≤ at) × (at ≤ count) × (at ≤ 8)
+LiesWithin count (parsed.TooLong header) = (1 ≤ header) × (header ≤ count)
+LiesWithin count (parsed.Data header size) = IsPayload count header size
+LiesWithin count (parsed.Headers header size) = IsPayload count header size
+LiesWithin count (parsed.Settings header size) = IsPayload count header size
+LiesWithin count (parsed.Skipped kind size) = (1 ≤ size) × (size < 2 ^ 63)

@@ -28,9 +28,9 @@ struct Dotted(u32);
 
 impl fmt::Display for Dotted {
     ghost use Rattle.std.specs.Prelude.{Some};
-    ghost use Rattle.wt_wire.specs.Addresses.{dotted};
+    ghost use Rattle.wt_wire.specs.Addresses.{dotted_quad};
 
-    ghost output = { λ d. Some (dotted d.0) };
+    ghost output = { λ d. Some (dotted_quad d.0) };
 
     fn fmt<W: fmt::Write>(&self, f: &mut fmt::Formatter<W>) -> fmt::Result {
         let (a, b) = (self.0 / 0x100_0000, self.0 / 0x1_0000 % 0x100);

@@ -1,7 +1,7 @@
 //! Field sections of literal field lines with literal names (RFC 9204, section 4.5).
 ghost use Rattle.std.specs.Prelude.{◌≡◌, ◌<◌, ◌≤◌, ◌+◌, ◌++◌, length, IfSome, IfOk, OnOk};
 ghost use Rattle.std.specs.Option.{option_map};
-ghost use Rattle.wt_wire.specs.FieldSection.{line_at, line_bytes, lines_from, section_at, section_bytes, string_at, literal_bytes};
+ghost use Rattle.wt_wire.specs.FieldSection.{line_at, line_bytes, field_lines_from, section_at, section_bytes, string_at, literal_bytes};
 
 use crate::error::OutOfMemory;
 use crate::header_list::HeaderList;
@@ -63,7 +63,7 @@ fn read_line(bytes: &[u8]) -> Option<FieldLine<'_>>
 
 #[tactic(auto, using(crate::proofs::LineLaws::lines_end, crate::proofs::LineLaws::lines_none, crate::proofs::LineLaws::lines_step))]
 fn read_lines(mut list: HeaderList, bytes: &[u8]) -> Result<Option<HeaderList>, OutOfMemory>
-    ensures { IfOk result (λ r. r ≡ lines_from list 0 bytes.now) }
+    ensures { IfOk result (λ r. r ≡ field_lines_from list 0 bytes.now) }
 {
     let mut at = 0;
     while at < bytes.len() {

@@ -1,7 +1,7 @@
 //! The frame at the front of some bytes (RFC 9114, section 7.1).
 ghost use Rattle.std.specs.Prelude.{◌≡◌, ◌≤◌, ◌<◌, ◌^◌, List, ℕ, Option, length};
 ghost use Rattle.wt_wire.specs.Frames.{frame_at, frame_with_header};
-ghost use Rattle.wt_wire.specs.ParsedFrame.{IsWithin, parsed_value};
+ghost use Rattle.wt_wire.specs.ParsedFrame.{LiesWithin, parsed_value};
 
 use crate::frame::{DATA, HEADERS, SETTINGS, WEBTRANSPORT};
 use crate::varint::{VarInt, read_varint};
@@ -36,7 +36,7 @@ fn frame_after_header(bytes: &[u8], kind: VarInt, header: usize, size: VarInt) -
     requires few { header ≤ 16 }
     requires within { header ≤ length bytes.now }
     ensures frame { (id_at : List ℕ → Option (ℕ × ℕ)) → parsed_value id_at bytes.now result ≡ frame_with_header bytes.now kind header size }
-    ensures within { IsWithin (length bytes.now) result }
+    ensures within { LiesWithin (length bytes.now) result }
 {
     let number = kind.into_inner();
     let size = size.into_inner();
@@ -61,7 +61,7 @@ fn frame_after_header(bytes: &[u8], kind: VarInt, header: usize, size: VarInt) -
 #[tactic(auto, unfolding(crate::specs::Frames::frame_at))]
 pub fn parse_frame(bytes: &[u8]) -> ParsedFrame
     ensures frame { (id_at : List ℕ → Option (ℕ × ℕ)) → parsed_value id_at bytes.now result ≡ frame_at id_at bytes.now }
-    ensures within { IsWithin (length bytes.now) result }
+    ensures within { LiesWithin (length bytes.now) result }
 {
     let Some((kind, at)) = read_varint(bytes) else {
         return ParsedFrame::Incomplete;

@@ -1,8 +1,8 @@
 //! The plans of the calls on receiving halves: a call on a half that the application doesn't have answers NoStream.
 ghost use Rattle.std.specs.Prelude.{◌≡◌, IfOk};
 ghost use Rattle.wt_plan.specs.FactsNow.{DriverAnswers, facts_now};
-ghost use Rattle.wt_plan.specs.Planned.{planned};
-ghost use Rattle.wt_plan.specs.Tells.{session_now};
+ghost use Rattle.wt_plan.specs.Planned.{defined_plan};
+ghost use Rattle.wt_plan.specs.Tells.{session_of_table};
 ghost use Rattle.wt_session_spec.specs.Plans.{plan_of};
 ghost use Rattle.wt_turn.specs.declared.call.Call.TheVariants as calls;
 
@@ -26,7 +26,7 @@ pub fn read(
     id: StreamId,
     size: u64,
 ) -> Result<Plan, OutOfMemory>
-    ensures { (d : DriverAnswers) → IfOk result (λ p. planned p ≡ plan_of (facts_now t.now d) (session_now s.now) (calls.Read id size)) }
+    ensures { (d : DriverAnswers) → IfOk result (λ p. defined_plan p ≡ plan_of (facts_now t.now d) (session_of_table s.now) (calls.Read id size)) }
 {
     if !has_receiving(s, t.side(), id) {
         return Ok(Plan::only_reply(alloc, Reply::NoStream));
@@ -43,7 +43,7 @@ pub fn read_exact(
     id: StreamId,
     size: u64,
 ) -> Result<Plan, OutOfMemory>
-    ensures { (d : DriverAnswers) → IfOk result (λ p. planned p ≡ plan_of (facts_now t.now d) (session_now s.now) (calls.ReadExact id size)) }
+    ensures { (d : DriverAnswers) → IfOk result (λ p. defined_plan p ≡ plan_of (facts_now t.now d) (session_of_table s.now) (calls.ReadExact id size)) }
 {
     if !has_receiving(s, t.side(), id) {
         return Ok(Plan::only_reply(alloc, Reply::NoStream));
@@ -60,7 +60,7 @@ pub fn stop(
     id: StreamId,
     code: VarInt,
 ) -> Result<Plan, OutOfMemory>
-    ensures { (d : DriverAnswers) → IfOk result (λ p. planned p ≡ plan_of (facts_now t.now d) (session_now s.now) (calls.StopRecv id code)) }
+    ensures { (d : DriverAnswers) → IfOk result (λ p. defined_plan p ≡ plan_of (facts_now t.now d) (session_of_table s.now) (calls.StopRecv id code)) }
 {
     if !has_receiving(s, t.side(), id) {
         return Ok(Plan::only_reply(alloc, Reply::NoStream));

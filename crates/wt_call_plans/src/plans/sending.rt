@@ -1,8 +1,8 @@
 //! The plans of the calls on sending halves: a call on a half that the application doesn't have answers NoStream.
 ghost use Rattle.std.specs.Prelude.{◌≡◌, IfOk, true};
 ghost use Rattle.wt_plan.specs.FactsNow.{DriverAnswers, facts_now};
-ghost use Rattle.wt_plan.specs.Planned.{planned};
-ghost use Rattle.wt_plan.specs.Tells.{session_now};
+ghost use Rattle.wt_plan.specs.Planned.{defined_plan};
+ghost use Rattle.wt_plan.specs.Tells.{session_of_table};
 ghost use Rattle.wt_seam.specs.Step.{can_send_now};
 ghost use Rattle.wt_call_plans.specs.Kept.{SendingThere};
 ghost use Rattle.wt_session_spec.specs.Plans.{plan_of};
@@ -24,7 +24,7 @@ use wt_wire::varint::VarInt;
 /// The application has the stream's sending half, and the stream is there.
 fn may_send(t: &Transport, s: &SessionTable, id: StreamId) -> bool
     ensures there { result ≡ true → can_send_now t.now id ≡ true }
-    ensures has { SendingThere t.now s.now → result ≡ has_sending_now t.now.side (session_now s.now) id }
+    ensures has { SendingThere t.now s.now → result ≡ has_sending_now t.now.side (session_of_table s.now) id }
 {
     t.can_send(id) && has_sending(s, t.side(), id)
 }
@@ -38,7 +38,7 @@ pub fn write(
     id: StreamId,
     bytes: &Piece,
 ) -> Result<Plan, OutOfMemory>
-    ensures { (d : DriverAnswers) → SendingThere t.now s.now → IfOk result (λ p. planned p ≡ plan_of (facts_now t.now d) (session_now s.now) (calls.Write id bytes.now)) }
+    ensures { (d : DriverAnswers) → SendingThere t.now s.now → IfOk result (λ p. defined_plan p ≡ plan_of (facts_now t.now d) (session_of_table s.now) (calls.Write id bytes.now)) }
 {
     if !may_send(t, s, id) {
         return Ok(Plan::only_reply(alloc, Reply::NoStream));
@@ -55,7 +55,7 @@ pub fn write_all(
     id: StreamId,
     bytes: &Piece,
 ) -> Result<Plan, OutOfMemory>
-    ensures { (d : DriverAnswers) → SendingThere t.now s.now → IfOk result (λ p. planned p ≡ plan_of (facts_now t.now d) (session_now s.now) (calls.WriteAll id bytes.now)) }
+    ensures { (d : DriverAnswers) → SendingThere t.now s.now → IfOk result (λ p. defined_plan p ≡ plan_of (facts_now t.now d) (session_of_table s.now) (calls.WriteAll id bytes.now)) }
 {
     if !may_send(t, s, id) {
         return Ok(Plan::only_reply(alloc, Reply::NoStream));
@@ -71,7 +71,7 @@ pub fn finish(
     s: &SessionTable,
     id: StreamId,
 ) -> Result<Plan, OutOfMemory>
-    ensures { (d : DriverAnswers) → SendingThere t.now s.now → IfOk result (λ p. planned p ≡ plan_of (facts_now t.now d) (session_now s.now) (calls.Finish id)) }
+    ensures { (d : DriverAnswers) → SendingThere t.now s.now → IfOk result (λ p. defined_plan p ≡ plan_of (facts_now t.now d) (session_of_table s.now) (calls.Finish id)) }
 {
     if !may_send(t, s, id) {
         return Ok(Plan::only_reply(alloc, Reply::NoStream));
@@ -82,7 +82,7 @@ pub fn finish(
 /// Whether the peer stopped the sending half, or has all of it.
 #[tactic(auto, unfolding(wt_session_spec::specs::Plans::plan_of))]
 pub fn stopped(alloc: Global, t: &Transport, s: &SessionTable, id: StreamId) -> Plan
-    ensures { (d : DriverAnswers) → SendingThere t.now s.now → planned result ≡ plan_of (facts_now t.now d) (session_now s.now) (calls.Stopped id) }
+    ensures { (d : DriverAnswers) → SendingThere t.now s.now → defined_plan result ≡ plan_of (facts_now t.now d) (session_of_table s.now) (calls.Stopped id) }
 {
     if !may_send(t, s, id) {
         return Plan::only_reply(alloc, Reply::NoStream);
@@ -93,7 +93,7 @@ pub fn stopped(alloc: Global, t: &Transport, s: &SessionTable, id: StreamId) -> 
 /// The priority of the sending half.
 #[tactic(auto, unfolding(wt_session_spec::specs::Plans::plan_of))]
 pub fn priority(alloc: Global, t: &Transport, s: &SessionTable, id: StreamId) -> Plan
-    ensures { (d : DriverAnswers) → SendingThere t.now s.now → planned result ≡ plan_of (facts_now t.now d) (session_now s.now) (calls.Priority id) }
+    ensures { (d : DriverAnswers) → SendingThere t.now s.now → defined_plan result ≡ plan_of (facts_now t.now d) (session_of_table s.now) (calls.Priority id) }
 {
     if !may_send(t, s, id) {
         return Plan::only_reply(alloc, Reply::NoStream);
@@ -110,7 +110,7 @@ pub fn set_priority(
     id: StreamId,
     priority: i32,
 ) -> Plan
-    ensures { (d : DriverAnswers) → SendingThere t.now s.now → planned result ≡ plan_of (facts_now t.now d) (session_now s.now) (calls.SetPriority id priority) }
+    ensures { (d : DriverAnswers) → SendingThere t.now s.now → defined_plan result ≡ plan_of (facts_now t.now d) (session_of_table s.now) (calls.SetPriority id priority) }
 {
     if !may_send(t, s, id) {
         return Plan::only_reply(alloc, Reply::NoStream);
@@ -127,7 +127,7 @@ pub fn reset(
     id: StreamId,
     code: VarInt,
 ) -> Result<Plan, OutOfMemory>
-    ensures { (d : DriverAnswers) → SendingThere t.now s.now → IfOk result (λ p. planned p ≡ plan_of (facts_now t.now d) (session_now s.now) (calls.ResetSend id code)) }
+    ensures { (d : DriverAnswers) → SendingThere t.now s.now → IfOk result (λ p. defined_plan p ≡ plan_of (facts_now t.now d) (session_of_table s.now) (calls.ResetSend id code)) }
 {
     if !may_send(t, s, id) {
         return Ok(Plan::only_reply(alloc, Reply::NoStream));

@@ -9,7 +9,7 @@ ghost use Rattle.wt_driver_state.specs.Results.{result_of};
 ghost use Rattle.wt_scan.specs.Scanning.{unless_given_up};
 ghost use Rattle.wt_driver_state.specs.Tie.{Follows};
 ghost use Rattle.wt_driver_spec.specs.Asking.{MayBeCalled};
-ghost use Rattle.wt_driver_spec.specs.Due.{accepted, due_stream, log_streams, passing, received, state_next_due, take_due};
+ghost use Rattle.wt_driver_spec.specs.Due.{accept_outcome, due_stream, log_streams, passing_stop, receive_outcome, state_next_due, take_due};
 ghost use Rattle.wt_driver_spec.specs.Step.{release, without_slot};
 ghost use Rattle.wt_inbox.specs.Stage.{Refines, Stage, with_stage};
 ghost use Rattle.wt_seam_spec.specs.Acting.{MayAct};
@@ -101,7 +101,7 @@ impl Driver {
 
     /// A stream of another session is stopped and passed, and the work of that moment is done.
     fn pass_stream(&mut self, id: StreamId) -> Result<(), OutOfMemory>
-        ensures log { OfEachLog self.old (λ side log taken. MayAct side log (passing id) → MayBeCalled side (Sent (passing id) ∷ log) (StreamPassed id)
+        ensures log { OfEachLog self.old (λ side log taken. MayAct side log (passing_stop id) → MayBeCalled side (Sent (passing_stop id) ∷ log) (StreamPassed id)
             → OnOk result (Follows side self.new (pass_stream side log id) taken)) }
         ensures has_given { OnOk result (self.new.has_given_settings ≡ self.old.has_given_settings) }
     {
@@ -190,8 +190,8 @@ impl Driver {
         &mut self,
         session: SessionId,
     ) -> Result<Poll<Result<StreamId, DriverError>>, OutOfMemory>
-        ensures log { FollowsIfOk result self.old self.new (λ side log. (accepted side (peer_uni side) log session).state) }
-        ensures given { Tells self.old (λ side log. IfOk result (λ p. given_by p ≡ (accepted side (peer_uni side) log session).given)) }
+        ensures log { FollowsIfOk result self.old self.new (λ side log. (accept_outcome side (peer_uni side) log session).state) }
+        ensures given { Tells self.old (λ side log. IfOk result (λ p. given_by p ≡ (accept_outcome side (peer_uni side) log session).given)) }
         ensures nothing { IfOk result (λ p. given_by p ≡ None → p ≡ ended_or_pending (result_of self.new.state.is_open self.new.state.progress.ending)) }
         ensures has_given { OnOk result (self.new.has_given_settings ≡ self.old.has_given_settings) }
     {
@@ -205,8 +205,8 @@ impl Driver {
         &mut self,
         session: SessionId,
     ) -> Result<Poll<Result<StreamId, DriverError>>, OutOfMemory>
-        ensures log { FollowsIfOk result self.old self.new (λ side log. (accepted side (peer_bi side) log session).state) }
-        ensures given { Tells self.old (λ side log. IfOk result (λ p. given_by p ≡ (accepted side (peer_bi side) log session).given)) }
+        ensures log { FollowsIfOk result self.old self.new (λ side log. (accept_outcome side (peer_bi side) log session).state) }
+        ensures given { Tells self.old (λ side log. IfOk result (λ p. given_by p ≡ (accept_outcome side (peer_bi side) log session).given)) }
         ensures nothing { IfOk result (λ p. given_by p ≡ None → p ≡ ended_or_pending (result_of self.new.state.is_open self.new.state.progress.ending)) }
         ensures has_given { OnOk result (self.new.has_given_settings ≡ self.old.has_given_settings) }
     {
@@ -265,8 +265,8 @@ impl Driver {
 
     /// The session's next datagram, whole: those of other sessions in front of it are passed.
     fn receive(&mut self, session: SessionId) -> Result<Option<Piece>, OutOfMemory>
-        ensures log { FollowsIfOk result self.old self.new (λ side log. (received side log session).state) }
-        ensures given { Tells self.old (λ side log. IfOk result (λ piece. payload_in (read_datagram piece) ≡ (received side log session).given)) }
+        ensures log { FollowsIfOk result self.old self.new (λ side log. (receive_outcome side log session).state) }
+        ensures given { Tells self.old (λ side log. IfOk result (λ piece. payload_in (read_datagram piece) ≡ (receive_outcome side log session).given)) }
         ensures nothing { IfOk result (λ piece. payload_in (read_datagram piece) ≡ None → piece ≡ None) }
         ensures own { IfOk result (λ given. (piece : List ℕ) → given ≡ Some piece → is_own session (read_datagram given) ≡ Some true) }
         ensures has_given { OnOk result (self.new.has_given_settings ≡ self.old.has_given_settings) }
@@ -292,8 +292,8 @@ impl Driver {
         &mut self,
         session: SessionId,
     ) -> Result<Poll<Result<Piece, DriverError>>, OutOfMemory>
-        ensures log { FollowsIfOk result self.old self.new (λ side log. (received side log session).state) }
-        ensures given { Tells self.old (λ side log. IfOk result (λ p. payload_by p ≡ (received side log session).given)) }
+        ensures log { FollowsIfOk result self.old self.new (λ side log. (receive_outcome side log session).state) }
+        ensures given { Tells self.old (λ side log. IfOk result (λ p. payload_by p ≡ (receive_outcome side log session).given)) }
         ensures nothing { IfOk result (λ p. payload_by p ≡ None → p ≡ ended_or_pending (result_of self.new.state.is_open self.new.state.progress.ending)) }
         ensures own { IfOk result (λ p. (piece : List ℕ) → given_by p ≡ Some piece → is_own session (read_datagram (given_by p)) ≡ Some true) }
         ensures has_given { OnOk result (self.new.has_given_settings ≡ self.old.has_given_settings) }

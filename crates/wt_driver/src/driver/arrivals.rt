@@ -1,8 +1,8 @@
 //! Turns of the transport.
 ghost use Rattle.std.specs.Prelude.{◌≡◌, ◌*◌, ◌+◌, ◌++◌, ◌∷◌, [], IfOk, IsTrue, List, OnOk, Some, false, true, ℕ};
 ghost use Rattle.wt_driver_state.specs.OfLog.{OfEachLog, Tells};
-ghost use Rattle.wt_driver_state.specs.Arriving.{EventTaken, arrived};
-ghost use Rattle.wt_spec.specs.Turns.{event_of, is_call};
+ghost use Rattle.wt_driver_state.specs.Arriving.{EventTaken, after_arrival};
+ghost use Rattle.wt_turn.specs.Turns.{event_of, is_call};
 ghost use Rattle.wt_driver_state.specs.Tie.{Follows};
 ghost use Rattle.wt_inbox.specs.Stage.{Refines, Stage};
 ghost use Rattle.wt_seam_spec.specs.Arrivals.{fits, log_turn};
@@ -92,7 +92,7 @@ impl Driver {
     fn note_arrival(&mut self, turn: &Turn) -> Result<(), OutOfMemory>
         ensures inbox { OnOk result (self.new.inbox ≡ self.old.inbox) }
         ensures log { (side : Side) (log : Log) (stage : ℕ → Stage) (untaken : List Action) → Refines side self.old.inbox log stage untaken → is_open log ≡ true
-            → OnOk result (self.new ≡ arrived (transport_view side log) (event_of turn.now) self.old) }
+            → OnOk result (self.new ≡ after_arrival (transport_view side log) (event_of turn.now) self.old) }
         ensures has_given { OnOk result (self.new.has_given_settings ≡ self.old.has_given_settings) }
     {
         match turn {
@@ -106,7 +106,7 @@ impl Driver {
     fn note_arrival_while_open(&mut self, turn: &Turn) -> Result<(), OutOfMemory>
         ensures inbox { OnOk result (self.new.inbox ≡ self.old.inbox) }
         ensures log { (side : Side) (log : Log) (stage : ℕ → Stage) (untaken : List Action) → Refines side self.old.inbox log stage untaken → is_open log ≡ true
-            → OnOk result (self.new ≡ arrived (transport_view side log) (event_of turn.now) self.old) }
+            → OnOk result (self.new ≡ after_arrival (transport_view side log) (event_of turn.now) self.old) }
         ensures late { OnOk result (self.old.state.is_open ≡ false → self.new ≡ self.old) }
         ensures has_given { OnOk result (self.new.has_given_settings ≡ self.old.has_given_settings) }
     {

@@ -10,7 +10,7 @@ ghost use Rattle.wt_driver_state.specs.Tie.{Follows, TakenIn, untaken_since};
 ghost use Rattle.wt_inbox.specs.Stage.{Body, Refines, ResponseHead, Stage, awaits_response, body_offset, with_stage};
 ghost use Rattle.wt_proto.specs.ResponseWalk.{response_offset, response_walk_of};
 ghost use Rattle.wt_seam_spec.specs.Reports.{end_of};
-ghost use Rattle.wt_seam_spec.specs.Joined.{joined, newest_first};
+ghost use Rattle.wt_seam_spec.specs.Joined.{joined_actions, newest_first};
 ghost use Rattle.wt_seam_spec.specs.Outgoing.{if_open};
 ghost use Rattle.wt_seam_spec.specs.Streams.{can_send, contents};
 ghost use Rattle.wt_spec.specs.Connection.{close_connection};
@@ -112,7 +112,7 @@ impl Driver {
 
     /// The actions since the last such call.
     pub fn take_actions(&mut self) -> Actions
-        ensures actions { OfEachLog self.old (λ side log taken. result ≡ joined (untaken_since taken log)) }
+        ensures actions { OfEachLog self.old (λ side log taken. result ≡ joined_actions (untaken_since taken log)) }
         ensures log { Tells self.old (λ side log. Follows side self.new log (length (actions_of log))) }
         ensures has_given { self.new.has_given_settings ≡ self.old.has_given_settings }
     {

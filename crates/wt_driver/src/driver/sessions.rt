@@ -5,12 +5,12 @@ ghost use Rattle.wt_dispatch.specs.Requests.{first_request};
 ghost use Rattle.wt_driver_state.specs.OfLog.{FollowsIfOk, OfEachLog, Tells};
 ghost use Rattle.wt_driver_state.specs.Given.{ended_or_pending, given_by};
 ghost use Rattle.wt_driver_state.specs.Results.{result_of};
-ghost use Rattle.wt_driver_state.specs.Sessions.{first_given, may_register, opened_answer, queued, registered, registered_answer};
+ghost use Rattle.wt_driver_state.specs.Sessions.{first_given, may_register, opened_answer, waiting_requests, log_once_registered, registered_answer};
 ghost use Rattle.wt_driver_state.specs.Tie.{Follows};
 ghost use Rattle.wt_driver_spec.specs.Asking.{MayBeCalled};
 ghost use Rattle.wt_inbox.specs.Stage.{Refines, Stage};
 ghost use Rattle.wt_seam_spec.specs.Joined.{newest_first};
-ghost use Rattle.wt_seam_spec.specs.Outgoing.{opened_id, opening};
+ghost use Rattle.wt_seam_spec.specs.Outgoing.{opened_id, actions_to_open};
 ghost use Rattle.wt_seam_spec.specs.Streams.{local_bi};
 ghost use Rattle.wt_turn.specs.Log.{Log, SessionEstablished, is_open, with_actions};
 ghost use Rattle.wt_turn.specs.declared.action.Action.{Action};
@@ -47,7 +47,7 @@ impl Driver {
     ) -> Result<Poll<Result<(StreamId, HeaderList, usize), DriverError>>, OutOfMemory>
         ensures given { IfOk result (λ p. given_by p ≡ first_request self.old.state.dispatched.requests) }
         ensures nothing { IfOk result (λ p. given_by p ≡ None → p ≡ ended_or_pending (result_of self.old.state.is_open self.old.state.progress.ending)) }
-        ensures log { FollowsIfOk result self.old self.new (λ side log. first_given side log (queued side log)) }
+        ensures log { FollowsIfOk result self.old self.new (λ side log. first_given side log (waiting_requests side log)) }
         ensures has_given { OnOk result (self.new.has_given_settings ≡ self.old.has_given_settings) }
     {
         match self.copied_request()? {
@@ -64,7 +64,7 @@ impl Driver {
     fn open_bi(&mut self) -> Result<Option<StreamId>, OutOfMemory>
         ensures id { (side : Side) (log : Log) (stage : ℕ → Stage) (untaken : List Action) → Refines side self.old.inbox log stage untaken → IfOk result (λ id. id ≡ opened_id side log (local_bi side)) }
         ensures log { (side : Side) (log : Log) (stage : ℕ → Stage) (untaken : List Action) → Refines side self.old.inbox log stage untaken
-            → OnOk result (Refines side self.new.inbox (with_actions (opening side log (local_bi side)) log) stage (newest_first (opening side log (local_bi side)) untaken)) }
+            → OnOk result (Refines side self.new.inbox (with_actions (actions_to_open side log (local_bi side)) log) stage (newest_first (actions_to_open side log (local_bi side)) untaken)) }
         ensures state { OnOk result (self.new.state ≡ record self.old.state { is_open = self.new.inbox.transport.is_open }) }
         ensures queue { OnOk result (self.new.queue ≡ self.old.queue) }
         ensures settings { OnOk result (self.new.settings ≡ self.old.settings) }
@@ -77,7 +77,7 @@ impl Driver {
     /// bidirectional streams may be opened; an error exactly where it isn't open. The moment of the call comes after it.
     pub fn open_session(&mut self) -> Result<Result<Option<StreamId>, DriverError>, OutOfMemory>
         ensures answer { Tells self.old (λ side log. IfOk result (λ r. r ≡ opened_answer (is_open log) (opened_id side log (local_bi side)))) }
-        ensures log { FollowsIfOk result self.old self.new (λ side log. with_actions (opening side log (local_bi side)) log) }
+        ensures log { FollowsIfOk result self.old self.new (λ side log. with_actions (actions_to_open side log (local_bi side)) log) }
         ensures has_given { OnOk result (self.new.has_given_settings ≡ self.old.has_given_settings) }
     {
         let is_open = self.is_open();
@@ -94,7 +94,7 @@ impl Driver {
     /// Registers a session where none was registered.
     fn register(&mut self, id: StreamId, at: usize) -> Result<(), OutOfMemory>
         ensures log { OfEachLog self.old (λ side log taken. is_open log ≡ true → (may_register log ≡ true → MayBeCalled side log (SessionEstablished id at))
-            → OnOk result (Follows side self.new (registered side log id at) taken)) }
+            → OnOk result (Follows side self.new (log_once_registered side log id at) taken)) }
         ensures further { OnOk result (is_some self.old.state.session ≡ true → self.new ≡ self.old) }
         ensures has_given { OnOk result (self.new.has_given_settings ≡ self.old.has_given_settings) }
     {
@@ -112,7 +112,7 @@ impl Driver {
         at: usize,
     ) -> Result<Result<(), DriverError>, OutOfMemory>
         ensures answer { IfOk result (λ r. r ≡ registered_answer (result_of self.old.state.is_open self.old.state.progress.ending)) }
-        ensures log { OfEachLog self.old (λ side log taken. (may_register log ≡ true → MayBeCalled side log (SessionEstablished id at)) → OnOk result (Follows side self.new (registered side log id at) taken)) }
+        ensures log { OfEachLog self.old (λ side log taken. (may_register log ≡ true → MayBeCalled side log (SessionEstablished id at)) → OnOk result (Follows side self.new (log_once_registered side log id at) taken)) }
         ensures further { OnOk result (is_some self.old.state.session ≡ true → self.new ≡ self.old) }
         ensures late { OnOk result (self.old.state.is_open ≡ false → self.new ≡ self.old) }
         ensures has_given { OnOk result (self.new.has_given_settings ≡ self.old.has_given_settings) }

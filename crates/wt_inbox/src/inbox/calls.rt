@@ -3,8 +3,8 @@ ghost use Rattle.std.specs.Prelude.{◌≡◌, ◌==◌, ◌≤◌, ◌+◌, ◌
 ghost use Rattle.wt_turn.specs.Log.{Called, PrioritySet};
 ghost use Rattle.wt_turn.specs.declared.action.Action.{Action};
 ghost use Rattle.wt_seam_spec.specs.Arrivals.{log_turn};
-ghost use Rattle.wt_seam_spec.specs.Joined.{joined, newest_first};
-ghost use Rattle.wt_seam_spec.specs.Outgoing.{credit_left, if_open, opened_id, opening, reset_entry, sending};
+ghost use Rattle.wt_seam_spec.specs.Joined.{joined_actions, newest_first};
+ghost use Rattle.wt_seam_spec.specs.Outgoing.{credit_left, if_open, opened_id, actions_to_open, reset_entry, actions_to_send};
 ghost use Rattle.wt_seam_spec.specs.Streams.{local_bi, local_uni};
 ghost use Rattle.wt_seam.specs.Step.{after_bytes, after_close, after_consume, after_dial, after_finish, after_give_up, after_opening, after_priority, after_reset, after_send, after_stop, after_turn, can_receive_now, can_send_now, covered_now, fits_now, may_receive_now, may_send_now, opened_id_now, unread_now, with_action};
 ghost use Rattle.wt_inbox.specs.OfLog.{OfEachLog, SendsIfOk, Tells, TellsAt};
@@ -80,7 +80,7 @@ impl Inbox {
         ensures log_id { Tells self.old (λ side log. IfOk result (λ id. id ≡ opened_id side log (local_uni side))) }
         ensures now { OnOk result (self.new ≡ with_transport self.old (after_opening self.old.transport (local_uni self.old.transport.side))) }
         ensures err { OnErr result (self.new ≡ self.old) }
-        ensures log { SendsIfOk result self.old self.new (λ side log. opening side log (local_uni side)) }
+        ensures log { SendsIfOk result self.old self.new (λ side log. actions_to_open side log (local_uni side)) }
     {
         self.transport.open_uni()
     }
@@ -92,7 +92,7 @@ impl Inbox {
         ensures log_id { Tells self.old (λ side log. IfOk result (λ id. id ≡ opened_id side log (local_bi side))) }
         ensures now { OnOk result (self.new ≡ with_transport self.old (after_opening self.old.transport (local_bi self.old.transport.side))) }
         ensures err { OnErr result (self.new ≡ self.old) }
-        ensures log { SendsIfOk result self.old self.new (λ side log. opening side log (local_bi side)) }
+        ensures log { SendsIfOk result self.old self.new (λ side log. actions_to_open side log (local_bi side)) }
     {
         self.transport.open_bi()
     }
@@ -104,7 +104,7 @@ impl Inbox {
         ensures log_count { Tells self.old (λ side log. IfOk result (λ n. n ≡ min (length bytes.now) (credit_left log id))) }
         ensures now { OnOk result (self.new ≡ with_transport self.old (after_send self.old.transport id bytes.now)) }
         ensures err { OnErr result (self.new ≡ self.old) }
-        ensures log { SendsIfOk result self.old self.new (λ side log. sending log id bytes.now) }
+        ensures log { SendsIfOk result self.old self.new (λ side log. actions_to_send log id bytes.now) }
     {
         self.transport.send(id, bytes)
     }
@@ -154,7 +154,7 @@ impl Inbox {
     pub fn take_actions(&mut self) -> Actions
         ensures actions { result ≡ self.old.transport.actions }
         ensures now { self.new ≡ with_transport self.old (record self.old.transport { actions = [] }) }
-        ensures log_actions { OfEachLog self.old (λ side log stage untaken. result ≡ joined untaken) }
+        ensures log_actions { OfEachLog self.old (λ side log stage untaken. result ≡ joined_actions untaken) }
         ensures log { TellsAt self.old (λ side log stage. Refines side self.new log stage []) }
     {
         self.transport.take_actions()

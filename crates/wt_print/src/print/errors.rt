@@ -1,6 +1,6 @@
 //! The words of a printed line for each error.
 ghost use Rattle.std.specs.Prelude.{◌≡◌, ◌++◌, OnOk, string_bytes};
-ghost use Rattle.wt_print.specs.PrintErrors.{address_text, coded_text, proto_text, connection_text, connecting_text, opening_text, write_text, read_error_text, exact_text, datagram_text};
+ghost use Rattle.wt_print.specs.PrintErrors.{versioned_address_text, coded_text, proto_text, connection_text, connecting_text, opening_text, write_text, read_error_text, exact_text, datagram_text};
 
 use crate::print::texts::{
     push_address, push_coded, push_named_bytes, push_named_text, push_numbered, push_optional,
@@ -76,7 +76,7 @@ fn push_named_address(
     name: &str,
     address: Addr,
 ) -> Result<(), OutOfMemory>
-    ensures { OnOk result (string_bytes out.new ≡ string_bytes out.old ++ (name.now ++ address_text address)) }
+    ensures { OnOk result (string_bytes out.new ≡ string_bytes out.old ++ (name.now ++ versioned_address_text address)) }
 {
     push_text(out, name)?;
     push_address(alloc, out, address)

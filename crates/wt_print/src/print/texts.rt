@@ -2,7 +2,7 @@
 ghost use Rattle.std.specs.Prelude.{◌≡◌, ◌++◌, OnOk, string_bytes};
 ghost use Rattle.std.specs.Fmt.{decimal, signed_decimal};
 ghost use Rattle.hex.specs.Hex.{encode_lower};
-ghost use Rattle.wt_print.specs.PrintErrors.{hex_text, coded_text, numbers_text, socket_text, code_text, address_text};
+ghost use Rattle.wt_print.specs.PrintErrors.{hex_text, coded_text, numbers_text, socket_text, code_text, versioned_address_text};
 
 use std::alloc::Global;
 use wt_turn::piece::Piece;
@@ -161,7 +161,7 @@ fn push_address_parts(
 
 /// Adds an address.
 pub fn push_address(alloc: Global, out: &mut String, address: Addr) -> Result<(), OutOfMemory>
-    ensures { OnOk result (string_bytes out.new ≡ string_bytes out.old ++ address_text address) }
+    ensures { OnOk result (string_bytes out.new ≡ string_bytes out.old ++ versioned_address_text address) }
 {
     match address {
         Addr::V4 { ip, port } => push_address_parts(alloc, out, "v4:", &ip.to_be_bytes(), port),

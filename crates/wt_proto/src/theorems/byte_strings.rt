@@ -1,6 +1,6 @@
 //! Byte strings that go out the same each time, each a function whose contract is an equation: the
 //! bytes are those that the writers give.
-#![tactic(auto, unfolding(wt_wire::specs::Varint::varint_bytes, wt_wire::specs::PrefixedInteger::prefixed_bytes, wt_wire::specs::PrefixedInteger::prefixed_at, wt_wire::specs::PrefixedInteger::continuation_at, wt_wire::specs::FieldSection::string_at, wt_wire::specs::FieldSection::line_at, wt_wire::specs::FieldSection::lines_from, wt_wire::specs::Utf8::is_text_from, wt_message::specs::Requests::request_of))]
+#![tactic(auto, unfolding(wt_wire::specs::Varint::varint_bytes, wt_wire::specs::PrefixedInteger::prefixed_bytes, wt_wire::specs::PrefixedInteger::prefixed_at, wt_wire::specs::PrefixedInteger::continuation_at, wt_wire::specs::FieldSection::string_at, wt_wire::specs::FieldSection::line_at, wt_wire::specs::FieldSection::field_lines_from, wt_wire::specs::Utf8::is_text_from, wt_message::specs::Requests::request_of))]
 
 ghost use Rattle.std.specs.Prelude.{◌≡◌, ◌∷◌, [], Ok, Some, codes};
 ghost use Rattle.wt_wire.specs.FieldSection.{headers_of, section_bytes};

@@ -2,7 +2,7 @@
 ghost use Rattle.std.specs.Prelude.{◌≡◌, ◌∷◌, IfOk, Some, None};
 ghost use Rattle.std.specs.Char.{is_ascii_graphic};
 ghost use Rattle.std.specs.List.{list_all};
-ghost use Rattle.wt_script.specs.Addresses.{address_of, address_with, ipv4_of, ipv6_of, lookup_of, lookup_with, outcome_of, outcome_with, url_of};
+ghost use Rattle.wt_script.specs.Addresses.{address_of_words, address_with, ipv4_of, ipv6_of, lookup_of, lookup_with, outcome_of, outcome_with, url_of};
 
 use crate::script::numbers::read_port;
 use crate::script::pairs::text_alone;
@@ -54,7 +54,7 @@ fn address_from(version: &[u8], ip: &[u8], port: &[u8]) -> Option<Addr>
 
 /// An address by its version, its bytes and its port.
 fn read_address(parts: &Parts) -> Option<Addr>
-    ensures { result ≡ address_of parts.now }
+    ensures { result ≡ address_of_words parts.now }
 {
     let (version, rest) = parts.next()?;
     let (ip, port) = rest.two()?;

@@ -1,8 +1,8 @@
 //! The events of the transport that a line spells.
 ghost use Rattle.std.specs.Prelude.{◌≡◌, ◌∷◌, [], IfOk, Some, None};
 ghost use Rattle.std.specs.Option.{option_map};
-ghost use Rattle.wt_script.specs.Events.{bare_loss_of, connected_of, data_event_of, event_of, fact_of, limit_event_of, loss_of, stream_event_of, coded_loss_of, close_of};
-ghost use Rattle.wt_script.specs.Numbers.{id_of, text_of};
+ghost use Rattle.wt_script.specs.Events.{bare_loss_of, connected_of, data_event_of, event_of_words, fact_of, limit_event_of, loss_of_words, stream_event_of, coded_loss_of, close_of_words};
+ghost use Rattle.wt_script.specs.Numbers.{id_of, text_of_word};
 ghost use Rattle.wt_script.specs.Words.{one, two};
 ghost use Rattle.wt_error.specs.declared.loss.LossReason.TheVariants as losses;
 
@@ -58,7 +58,7 @@ fn read_bare_loss(kind: &[u8]) -> Option<LossReason>
 }
 
 fn read_transport_error(alloc: Global, fields: &Parts) -> Result<Option<LossReason>, OutOfMemory>
-    ensures { IfOk result (λ loss. loss ≡ option_map (λ p. losses.TransportError p.0 p.1) (two id_of text_of fields.now)) }
+    ensures { IfOk result (λ loss. loss ≡ option_map (λ p. losses.TransportError p.0 p.1) (two id_of text_of_word fields.now)) }
 {
     match code_and_text(alloc, fields)? {
         Some((code, reason)) => Ok(Some(LossReason::TransportError {
@@ -71,7 +71,7 @@ fn read_transport_error(alloc: Global, fields: &Parts) -> Result<Option<LossReas
 
 /// A close of the peer: its code and its reason.
 fn read_close<B>(alloc: Global, fields: &Parts) -> Result<Option<PeerClose<B>>, OutOfMemory>
-    ensures { IfOk result (λ close. close ≡ close_of fields.now) }
+    ensures { IfOk result (λ close. close ≡ close_of_words fields.now) }
 {
     match code_and_bytes(alloc, fields)? {
         Some((code, reason)) => Ok(Some(PeerClose::new(code, reason))),
@@ -102,7 +102,7 @@ fn read_coded_loss(
 
 /// Why the connection is lost.
 fn read_loss(alloc: Global, fields: &Parts) -> Result<Option<LossReason>, OutOfMemory>
-    ensures { IfOk result (λ loss. loss ≡ loss_of fields.now) }
+    ensures { IfOk result (λ loss. loss ≡ loss_of_words fields.now) }
 {
     let Some((kind, fields)) = fields.next() else {
         return Ok(None);
@@ -201,7 +201,7 @@ fn read_limit_event(name: &[u8], fields: &Parts) -> Option<Turn>
 
 /// The event of the transport by its name and its fields.
 pub fn read_event(alloc: Global, name: &[u8], fields: &Parts) -> Result<Option<Turn>, OutOfMemory>
-    ensures { IfOk result (λ turn. turn ≡ event_of name.now fields.now) }
+    ensures { IfOk result (λ turn. turn ≡ event_of_words name.now fields.now) }
 {
     if let Some(turn) = read_data_event(alloc, name, fields)? {
         return Ok(Some(turn));

@@ -1,6 +1,6 @@
 //! Header fields in a script.
 ghost use Rattle.std.specs.Prelude.{◌≡◌, [], IfOk, Some, None, if◌then◌else◌};
-ghost use Rattle.wt_script.specs.Headers.{header_of, header_text_of, headers_of, with_header};
+ghost use Rattle.wt_script.specs.Headers.{header_of, header_text_of, headers_of_words, with_header};
 
 use crate::script::numbers::{read_digits, text_of_bytes};
 use crate::script::words::Parts;
@@ -51,7 +51,7 @@ fn add_header(alloc: Global, headers: &mut HeaderList, word: &[u8]) -> Result<bo
 /// The fields that the words of a line spell.
 #[tactic(auto, using(crate::proofs::HeaderLaws::refused_field, crate::proofs::HeaderLaws::added_field))]
 pub fn read_headers(alloc: Global, words: &Parts) -> Result<Option<HeaderList>, OutOfMemory>
-    ensures { IfOk result (λ headers. headers ≡ headers_of words.now) }
+    ensures { IfOk result (λ headers. headers ≡ headers_of_words words.now) }
 {
     let mut headers = HeaderList::new(alloc);
     let mut rest = words.next();

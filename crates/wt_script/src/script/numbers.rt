@@ -3,7 +3,7 @@ ghost use Rattle.std.specs.Prelude.{◌≡◌, ◌+◌, ◌-◌, ◌*◌, ◌<�
 ghost use Rattle.std.specs.Option.{option_map, SomeIff};
 ghost use Rattle.std.specs.Char.{is_ascii_digit};
 ghost use Rattle.std.specs.Str.{all_ascii_digits};
-ghost use Rattle.wt_script.specs.Numbers.{as_text, is_decimal, value, number, bytes_of, count_of, digits_of, id_of, minus, port_of, priority_of, text_of};
+ghost use Rattle.wt_script.specs.Numbers.{as_text, is_decimal, value, number, bytes_of, count_of, digits_of, id_of, minus, port_of_word, priority_of_word, text_of_word};
 
 use crate::script::words::is_name;
 use hex::FromHexError;
@@ -100,7 +100,7 @@ pub fn read_id(word: &[u8]) -> Option<StreamId>
 
 /// The port of an address.
 pub fn read_port(word: &[u8]) -> Option<u16>
-    ensures { result ≡ port_of word.now }
+    ensures { result ≡ port_of_word word.now }
 {
     let port = read_number(0x1_0000, word)?;
     Some(port as u16)
@@ -116,7 +116,7 @@ fn negative(number: u64) -> i32
 
 /// A signed number of 32 bits.
 pub fn read_priority(word: &[u8]) -> Option<i32>
-    ensures { result ≡ priority_of word.now }
+    ensures { result ≡ priority_of_word word.now }
 {
     match word {
         [b'-', digits @ ..] => {
@@ -166,7 +166,7 @@ pub fn text_of_bytes(alloc: Global, bytes: &[u8]) -> Result<Option<Text>, OutOfM
 
 /// A text by its bytes in hexadecimal, `-` for none.
 pub fn read_text(alloc: Global, word: &[u8]) -> Result<Option<Text>, OutOfMemory>
-    ensures { IfOk result (λ text. text ≡ text_of word.now) }
+    ensures { IfOk result (λ text. text ≡ text_of_word word.now) }
 {
     match read_bytes(alloc, word)? {
         Some(bytes) => text_of_bytes(alloc, bytes.as_slice()),

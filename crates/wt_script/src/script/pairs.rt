@@ -1,6 +1,6 @@
 //! The fields that lines of several turns have in common.
 ghost use Rattle.std.specs.Prelude.{◌≡◌, IfOk, Some, None};
-ghost use Rattle.wt_script.specs.Numbers.{bytes_of, count_of, id_of, priority_of, text_of};
+ghost use Rattle.wt_script.specs.Numbers.{bytes_of, count_of, id_of, priority_of_word, text_of_word};
 ghost use Rattle.wt_script.specs.Words.{one, two};
 
 use crate::script::numbers::{
@@ -40,7 +40,7 @@ pub fn bytes_alone(alloc: Global, fields: &Parts) -> Result<Option<Piece>, OutOf
 
 /// A text.
 pub fn text_alone(alloc: Global, fields: &Parts) -> Result<Option<Text>, OutOfMemory>
-    ensures { IfOk result (λ text. text ≡ one text_of fields.now) }
+    ensures { IfOk result (λ text. text ≡ one text_of_word fields.now) }
 {
     match fields.one() {
         Some(word) => read_text(alloc, word),
@@ -66,7 +66,7 @@ pub fn id_and_code(fields: &Parts) -> Option<(StreamId, VarInt)>
 
 /// The id of a stream and a priority.
 pub fn id_and_priority(fields: &Parts) -> Option<(StreamId, i32)>
-    ensures { result ≡ two id_of priority_of fields.now }
+    ensures { result ≡ two id_of priority_of_word fields.now }
 {
     let (id, priority) = fields.two()?;
     Some((read_id(id)?, read_priority(priority)?))
@@ -90,7 +90,7 @@ pub fn code_and_bytes(alloc: Global, fields: &Parts) -> Result<Option<(VarInt, P
 
 /// A code and a text.
 pub fn code_and_text(alloc: Global, fields: &Parts) -> Result<Option<(VarInt, Text)>, OutOfMemory>
-    ensures { IfOk result (λ p. p ≡ two id_of text_of fields.now) }
+    ensures { IfOk result (λ p. p ≡ two id_of text_of_word fields.now) }
 {
     let Some((code, text)) = fields.two() else {
         return Ok(None);

@@ -6,8 +6,8 @@ ghost use Rattle.wt_wire.specs.declared.side.StreamEnd.TheVariants as ends;
 ghost use Rattle.wt_seam_spec.specs.Streams.{can_receive};
 ghost use Rattle.wt_seam_spec.specs.Reports.{end_of};
 ghost use Rattle.wt_streams.specs.Pieces.{first_piece};
-ghost use Rattle.wt_seam_spec.specs.Unread.{IsFront, consumed, given_up, unread};
-ghost use Rattle.wt_streams.specs.StreamState.{pieces_of};
+ghost use Rattle.wt_seam_spec.specs.Unread.{IsFront, position_after, given_up, unread};
+ghost use Rattle.wt_streams.specs.StreamState.{piece_count};
 ghost use Rattle.wt_seam.specs.OfLog.{OfEachLog, Tells, TellsUnread};
 ghost use Rattle.wt_seam.specs.State.{Refines};
 ghost use Rattle.wt_seam.specs.Step.{after_consume, after_give_up, can_receive_now, end_now, pieces_now, unread_now};
@@ -68,7 +68,7 @@ impl Transport {
     /// Of how many pieces an unread byte is kept, over all streams. The count stands still at its
     /// type's end.
     pub fn pieces(&self) -> u64
-        ensures now { result ≡ min (pieces_of self.now.streams) (2 ^ 64 - 1) }
+        ensures now { result ≡ min (piece_count self.now.streams) (2 ^ 64 - 1) }
     {
         let rows: &[Row] = &self.rows;
         let mut count: u64 = 0;
@@ -83,7 +83,7 @@ impl Transport {
     pub fn consume(&mut self, id: StreamId, count: usize)
         requires { count ≤ length (unread_now self.old id) }
         ensures now { self.new ≡ after_consume self.old id count }
-        ensures log { OfEachLog self.old (λ side log position untaken. Refines side self.new log (consumed position id count) untaken) }
+        ensures log { OfEachLog self.old (λ side log position untaken. Refines side self.new log (position_after position id count) untaken) }
     {
         self.consume_now(id, count);
     }

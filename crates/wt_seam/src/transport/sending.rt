@@ -3,7 +3,7 @@ ghost use Rattle.std.specs.Prelude.{◌≡◌, ◌<◌, ◌≤◌, ◌^◌, ◌+
 ghost use Rattle.wt_turn.specs.Log.{Called, PrioritySet};
 ghost use Rattle.wt_seam_spec.specs.Streams.{local_bi, local_uni};
 ghost use Rattle.wt_seam_spec.specs.Joined.{newest_first};
-ghost use Rattle.wt_seam_spec.specs.Outgoing.{credit_left, if_open, may_send, opened_id, opening, reset_entry, sending};
+ghost use Rattle.wt_seam_spec.specs.Outgoing.{credit_left, if_open, may_send, opened_id, actions_to_open, reset_entry, actions_to_send};
 ghost use Rattle.wt_streams.specs.StreamState.{credit_of, has_stream, stream_at, with_sent};
 ghost use Rattle.wt_seam.specs.OfLog.{OfEachLog, SendsIfOk, Tells};
 ghost use Rattle.wt_seam.specs.State.{Refines};
@@ -27,7 +27,7 @@ impl Transport {
         ensures err { OnErr result (self.new ≡ self.old) }
         ensures ended { self.old.is_open ≡ false → OnOk result (self.new.actions ≡ self.old.actions) }
         ensures log_id { Tells self.old (λ side log. IfOk result (λ id. id ≡ opened_id side log (local_uni side))) }
-        ensures log { SendsIfOk result self.old self.new (λ side log. opening side log (local_uni side)) }
+        ensures log { SendsIfOk result self.old self.new (λ side log. actions_to_open side log (local_uni side)) }
     {
         self.open_uni_now()
     }
@@ -49,7 +49,7 @@ impl Transport {
         ensures err { OnErr result (self.new ≡ self.old) }
         ensures ended { self.old.is_open ≡ false → OnOk result (self.new.actions ≡ self.old.actions) }
         ensures log_id { Tells self.old (λ side log. IfOk result (λ id. id ≡ opened_id side log (local_bi side))) }
-        ensures log { SendsIfOk result self.old self.new (λ side log. opening side log (local_bi side)) }
+        ensures log { SendsIfOk result self.old self.new (λ side log. actions_to_open side log (local_bi side)) }
     {
         self.open_bi_now()
     }
@@ -111,7 +111,7 @@ impl Transport {
         ensures state { OnOk result (self.new ≡ after_send self.old id bytes.now) }
         ensures err { OnErr result (self.new ≡ self.old) }
         ensures log_count { Tells self.old (λ side log. IfOk result (λ n. n ≡ min (length bytes.now) (credit_left log id))) }
-        ensures log { SendsIfOk result self.old self.new (λ side log. sending log id bytes.now) }
+        ensures log { SendsIfOk result self.old self.new (λ side log. actions_to_send log id bytes.now) }
     {
         self.send_now(id, bytes)
     }

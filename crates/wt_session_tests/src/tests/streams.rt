@@ -4,7 +4,7 @@ ghost use Rattle.std.specs.Prelude.{◌≡◌, IfOk, IfSome, false, length, true
 ghost use Rattle.wt_driver_state.specs.Tie.{Follows};
 ghost use Rattle.wt_laws.specs.Reachable.{IsReachable};
 ghost use Rattle.wt_connection.specs.Openings.{IsOpening};
-ghost use Rattle.wt_session_spec.specs.HalfPlans.{read_reply, write_reply};
+ghost use Rattle.wt_session_spec.specs.HalfPlans.{reply_of_read, write_reply};
 ghost use Rattle.wt_spec.specs.Answers.{call_effect};
 ghost use Rattle.wt_spec.specs.Halves.{has_receiving_half};
 ghost use Rattle.wt_turn.specs.Log.{Log};
@@ -34,9 +34,9 @@ fn read_in_turn(
     right: &mut [u8],
 ) -> (ReadAnswer, ReadAnswer)
     ensures first { (side : Side) (log : Log) (taken : ℕ) → Follows side d.old log taken → IsReachable side log → has_receiving_half side log first.old ≡ true → has_receiving_half side log second.old ≡ true
-        → read_reply left.new result.0 ≡ (call_effect side log (calls.Read first.old (length left.old))).reply }
+        → reply_of_read left.new result.0 ≡ (call_effect side log (calls.Read first.old (length left.old))).reply }
     ensures second { (side : Side) (log : Log) (taken : ℕ) → Follows side d.old log taken → IsReachable side log → has_receiving_half side log first.old ≡ true → has_receiving_half side log second.old ≡ true
-        → read_reply right.new result.1 ≡ (call_effect side (call_effect side log (calls.Read first.old (length left.old))).log (calls.Read second.old (length right.old))).reply }
+        → reply_of_read right.new result.1 ≡ (call_effect side (call_effect side log (calls.Read first.old (length left.old))).log (calls.Read second.old (length right.old))).reply }
 {
     let one = first.read(d, left);
     let other = second.read(d, right);

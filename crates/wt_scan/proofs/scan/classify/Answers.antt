@@ -1,6 +1,6 @@
 use Rattle.std.proofs.Common.{ap, ◌∙◌}
 use Rattle.std.specs.Prelude.{◌||◌}
-use Rattle.wt_dispatch.specs.Rules.{is_given_up}
+use Rattle.wt_dispatch.specs.Rules.{reads_no_more}
 use Rattle.wt_driver_spec.specs.Step.{dispatch}
 use Rattle.wt_spec.specs.StreamTable.{Consequence}
 use Rattle.wt_scan.proofs.Visits.{classify-done, consequence-is}
@@ -16,7 +16,7 @@ returns c = record {
       classify-done side log stage untaken c.args.id n rule c.args.dispatched.now c.add.new.self c.args.progress.now c.note.new.self c.in_ok-verdict.verdict c.consequence-consequence.result _ _
       c.give_up_if.new.inbox c.held_unless.result (c.in_ok-verdict.ensures.answer side log stage untaken r a)
       (c.consequence-consequence.ensures ∙ consequence-is c.args.half (transport_view side log) c.args.dispatched.now c.args.id c.in_ok-verdict.verdict)
-      (c.gives_up-gives_up.ensures ∙ ap (λ (u : Consequence). u.surplus || is_given_up c.in_ok-verdict.verdict) c.consequence.view_is)
+      (c.gives_up-gives_up.ensures ∙ ap (λ (u : Consequence). u.surplus || reads_no_more c.in_ok-verdict.verdict) c.consequence.view_is)
       c.is_released_at_once-is_released.ensures c.in_ok-note.ensures
       (c.in_ok-add.ensures ∙ ap (λ (u : Consequence). dispatch c.args.dispatched.now (record { id = c.args.id; verdict = c.in_ok-verdict.verdict; surplus = u.surplus })) c.consequence.view_is)
       (c.give_up_if.ensures.log side log stage (stage_from (verdict_offset (rule.verdict c.args.id))) untaken (c.in_ok-verdict.ensures.log side log stage untaken r a) can)

@@ -3,7 +3,7 @@ use Rattle.std.proofs.lemmas.Bool.{true≢false}
 use Rattle.std.proofs.lemmas.Grind.{common_steps}
 use Rattle.wt_scan.proofs.ScanSteps.{front-awaits, front-receives, scans-few, scans-halted, scans-whole, slot-goes-so, slot-stays-so, slots-are}
 use Rattle.wt_scan.specs.Scanning.{known_by, rule_of}
-use Rattle.wt_spec.specs.Driver.{is_ready, transport_view}
+use Rattle.wt_spec.specs.Driver.{settings_ready, transport_view}
 use Rattle.wt_scan.proofs.scan.scan.Goals as goal
 
 pub loop-at-preserved-in-Some : goal.loop-at-preserved-in-Some
@@ -15,10 +15,10 @@ loop-at-preserved-in-Some c = λ side log stage untaken r o a g d b.
     let before = known_by c.loop-at.dispatched c.loop-at.progress in
     let after = known_by c.visit.new.dispatched c.visit.new.progress in
     let first = known_by c.args.dispatched.now c.args.progress.now in
-    let waits = front-awaits side log untaken (is_ready side log) c.args.half rule stage c.args.slots.now.items first c.loop-at.at c.loop-at.slots.items before after c.loop-at.inbox c.visit.new.inbox c.index.result.now s lt c.index.ensures runs in
-    let can = front-receives side log untaken (is_ready side log) c.args.half rule stage c.args.slots.now.items first c.loop-at.at c.loop-at.slots.items before after c.loop-at.inbox c.visit.new.inbox c.index.result.now s lt c.index.ensures runs in
+    let waits = front-awaits side log untaken (settings_ready side log) c.args.half rule stage c.args.slots.now.items first c.loop-at.at c.loop-at.slots.items before after c.loop-at.inbox c.visit.new.inbox c.index.result.now s lt c.index.ensures runs in
+    let can = front-receives side log untaken (settings_ready side log) c.args.half rule stage c.args.slots.now.items first c.loop-at.at c.loop-at.slots.items before after c.loop-at.inbox c.visit.new.inbox c.index.result.now s lt c.index.ensures runs in
     let v = c.in_ok-slot.ensures.log side log s.stages untaken s.inbox o waits can in
-    slot-stays-so side log untaken (is_ready side log) c.args.half rule stage c.args.slots.now.items first c.loop-at.at c.loop-at.slots.items before after c.loop-at.inbox c.visit.new.inbox c.index.result.now s lt c.index.ensures runs
+    slot-stays-so side log untaken (settings_ready side log) c.args.half rule stage c.args.slots.now.items first c.loop-at.at c.loop-at.slots.items before after c.loop-at.inbox c.visit.new.inbox c.index.result.now s lt c.index.ensures runs
     c.in-Some.slot (rw c.in-Some.is at v)
 
 pub loop-at-preserved : goal.loop-at-preserved
@@ -30,17 +30,17 @@ loop-at-preserved c = λ side log stage untaken r o a g d b.
     let before = known_by c.loop-at.dispatched c.loop-at.progress in
     let after = known_by c.visit.new.dispatched c.visit.new.progress in
     let first = known_by c.args.dispatched.now c.args.progress.now in
-    let waits = front-awaits side log untaken (is_ready side log) c.args.half rule stage c.args.slots.now.items first c.loop-at.at c.loop-at.slots.items before after c.loop-at.inbox c.visit.new.inbox c.index.result.now s lt c.index.ensures runs in
-    let can = front-receives side log untaken (is_ready side log) c.args.half rule stage c.args.slots.now.items first c.loop-at.at c.loop-at.slots.items before after c.loop-at.inbox c.visit.new.inbox c.index.result.now s lt c.index.ensures runs in
+    let waits = front-awaits side log untaken (settings_ready side log) c.args.half rule stage c.args.slots.now.items first c.loop-at.at c.loop-at.slots.items before after c.loop-at.inbox c.visit.new.inbox c.index.result.now s lt c.index.ensures runs in
+    let can = front-receives side log untaken (settings_ready side log) c.args.half rule stage c.args.slots.now.items first c.loop-at.at c.loop-at.slots.items before after c.loop-at.inbox c.visit.new.inbox c.index.result.now s lt c.index.ensures runs in
     let v = c.in_ok-slot.ensures.log side log s.stages untaken s.inbox o waits can in
     rw c.remove_at.ensures
-    (slot-goes-so side log untaken (is_ready side log) c.args.half rule stage c.args.slots.now.items first c.loop-at.at c.loop-at.slots.items before after c.loop-at.inbox c.visit.new.inbox c.index.result.now s lt c.index.ensures runs
+    (slot-goes-so side log untaken (settings_ready side log) c.args.half rule stage c.args.slots.now.items first c.loop-at.at c.loop-at.slots.items before after c.loop-at.inbox c.visit.new.inbox c.index.result.now s lt c.index.ensures runs
     (rw c.in-None.is at v))
 
 pub returns-else-goes_on : goal.returns-else-goes_on
 returns-else-goes_on c = record {
   log = λ side log stage untaken r o a g d b.
-      scans-halted side log untaken (is_ready side log) c.args.half (rule_of c.args.half (transport_view side log)) stage c.args.slots.now.items (known_by c.args.dispatched.now c.args.progress.now) c.loop-at.at
+      scans-halted side log untaken (settings_ready side log) c.args.half (rule_of c.args.half (transport_view side log)) stage c.args.slots.now.items (known_by c.args.dispatched.now c.args.progress.now) c.loop-at.at
       c.loop-at.slots.items (known_by c.loop-at.dispatched c.loop-at.progress) c.loop-at.inbox (c.loop-at.invariant side log stage untaken r o a g d b)
       (λ none. true≢false (sym (c.goes_on.ensures.1 none) ∙ c.if-goes_on.false));
 }
@@ -48,7 +48,7 @@ returns-else-goes_on c = record {
 pub returns-else-at-len : goal.returns-else-at-len
 returns-else-at-len c = record {
   log = λ side log stage untaken r o a g d b.
-      scans-whole side log untaken (is_ready side log) c.args.half (rule_of c.args.half (transport_view side log)) stage c.args.slots.now.items (known_by c.args.dispatched.now c.args.progress.now) c.loop-at.at
+      scans-whole side log untaken (settings_ready side log) c.args.half (rule_of c.args.half (transport_view side log)) stage c.args.slots.now.items (known_by c.args.dispatched.now c.args.progress.now) c.loop-at.at
       c.loop-at.slots.items (known_by c.loop-at.dispatched c.loop-at.progress) c.loop-at.inbox (c.loop-at.invariant side log stage untaken r o a g d b)
       (let le : length c.loop-at.slots.items ≤ c.loop-at.at = grind (arith, common_steps) in le);
 }
@@ -56,7 +56,7 @@ returns-else-at-len c = record {
 pub returns-after-loop-at : goal.returns-after-loop-at
 returns-after-loop-at c = record {
   log = λ side log stage untaken r o a g d b.
-      scans-few side log untaken (is_ready side log) c.args.half (rule_of c.args.half (transport_view side log)) stage c.args.slots.now.items (known_by c.args.dispatched.now c.args.progress.now) c.loop-at.at
+      scans-few side log untaken (settings_ready side log) c.args.half (rule_of c.args.half (transport_view side log)) stage c.args.slots.now.items (known_by c.args.dispatched.now c.args.progress.now) c.loop-at.at
       c.loop-at.slots.items (known_by c.loop-at.dispatched c.loop-at.progress) c.loop-at.inbox (c.loop-at.invariant side log stage untaken r o a g d b)
       (rw (slots-are c.args.half (transport_view side log), sym c.slots_of-most.ensures) c.loop-at-test.false);
 }

@@ -4,7 +4,7 @@ use Rattle.wt_dispatch.specs.Rules.{slots_of}
 use Rattle.wt_scan.specs.Scanning.{AllAwait, SlotsReceive, known_by, rule_of}
 use Rattle.wt_driver_spec.specs.Bounds.{AreDistinct, IsBounded}
 use Rattle.wt_inbox.specs.Stage.{Refines, Stage}
-use Rattle.wt_spec.specs.Driver.{is_ready, transport_view}
+use Rattle.wt_spec.specs.Driver.{settings_ready, transport_view}
 use Rattle.wt_turn.specs.Log.{Log, is_open}
 use Rattle.wt_turn.specs.declared.action.Action.{Action}
 use Rattle.wt_wire.specs.declared.side.Side.{Side}
@@ -13,7 +13,7 @@ use Rattle.wt_scan.proofs.scan.scan.Given as goal
 abbrev pub invariant-loop-at : goal.invariant-loop-at
 invariant-loop-at l = (side : Side) (log : Log) (stage : ℕ → Stage) (untaken : List Action) → Refines side l.fn.inbox log stage untaken → is_open log ≡ true
     → AllAwait l.half stage l.fn.slots.items → SlotsReceive side log l.fn.slots.items → AreDistinct l.fn.slots.items → IsBounded (slots_of l.half) 0 l.fn.slots.items
-    → ScansSoFar side log untaken (is_ready side log) l.half (rule_of l.half (transport_view side log)) stage l.fn.slots.items (known_by l.fn.dispatched l.fn.progress)
+    → ScansSoFar side log untaken (settings_ready side log) l.half (rule_of l.half (transport_view side log)) stage l.fn.slots.items (known_by l.fn.dispatched l.fn.progress)
     l.at l.slots.items (known_by l.dispatched l.progress) l.inbox
 
 abbrev pub decreases-loop-at : goal.decreases-loop-at

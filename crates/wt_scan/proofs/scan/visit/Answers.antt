@@ -2,7 +2,7 @@ use Rattle.std.proofs.Common.{◌≡◌, ℕ, true, subst, sym, ◌∙◌}
 use Rattle.wt_scan.proofs.Visits.{keeps-arrived}
 use Rattle.wt_scan.specs.Scanning.{known_by, rule_of}
 use Rattle.wt_seam_spec.specs.Streams.{can_receive}
-use Rattle.wt_spec.specs.Driver.{is_ready, transport_view}
+use Rattle.wt_spec.specs.Driver.{settings_ready, transport_view}
 use Rattle.wt_driver_spec.specs.DriverState.{Arrived, Dequeued}
 use Rattle.wt_scan.proofs.scan.visit.Goals as goal
 
@@ -29,6 +29,6 @@ returns-else-may_dequeue c = record {
       let p : c.args.slot.now.place ≡ Arrived = sym c.in-Arrived.ensures in
       let m = sym (c.may_dequeue-may_dequeue.ensures side log stage untaken r o) ∙ c.if-may_dequeue.false in
       let same : record { id = c.args.slot.now.id; place = Arrived } ≡ c.arrived.result = (λ i. record { id = sym c.id-id.ensures i; place = Arrived }) ∙ sym c.arrived.ensures in
-      keeps-arrived side log stage untaken c.args.slot.now.id c.args.occupied (is_ready side log) c.args.half (rule_of c.args.half (transport_view side log)) c.args.slot.now c.arrived.result c.args.inbox.now
+      keeps-arrived side log stage untaken c.args.slot.now.id c.args.occupied (settings_ready side log) c.args.half (rule_of c.args.half (transport_view side log)) c.args.slot.now c.arrived.result c.args.inbox.now
       (known_by c.args.dispatched.now c.args.progress.now) r same p m;
 }

@@ -1,6 +1,6 @@
 use Rattle.std.proofs.Common.{◌≡◌, Some}
 use Rattle.wt_plan.specs.FactsNow.{facts_now}
-use Rattle.wt_plan.specs.Tells.{session_now}
+use Rattle.wt_plan.specs.Tells.{session_of_table}
 use Rattle.wt_call_plans.proofs.Sessions.{in_session}
 use Rattle.wt_call_plans.proofs.plans.in_session.poll_opening.Goals as goal
 use Rattle.wt_session_spec.specs.ConnectionPlans.{poll_plan}
@@ -10,4 +10,4 @@ pub returns-in-Some : goal.returns-in-Some
 unfolding plan_of
 returns-in-Some c = λ d h.
     let e : d.session ≡ Some (c.in-Some.session, c.in-Some.field-0-1) = cc in
-    in_session c.args.t.now d (λ session. poll_plan (facts_now c.args.t.now d) (session_now c.args.s.now) c.args.id session) c.in-Some.session c.in-Some.field-0-1 _ _ e (c.poll_open.ensures d) (cc)
+    in_session c.args.t.now d (λ session. poll_plan (facts_now c.args.t.now d) (session_of_table c.args.s.now) c.args.id session) c.in-Some.session c.in-Some.field-0-1 _ _ e (c.poll_open.ensures d) (cc)

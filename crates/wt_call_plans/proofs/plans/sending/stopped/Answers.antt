@@ -1,5 +1,5 @@
 use Rattle.std.proofs.Common.{◌≡◌, true}
-use Rattle.wt_plan.specs.Tells.{session_now}
+use Rattle.wt_plan.specs.Tells.{session_of_table}
 use Rattle.wt_call_plans.proofs.Halves.{sending_there}
 use Rattle.wt_call_plans.proofs.plans.sending.stopped.Goals as goal
 use Rattle.wt_session_spec.specs.Plans.{plan_of}
@@ -9,5 +9,5 @@ pub returns : goal.returns
 unfolding plan_of
 returns c = λ d h.
     let has = c.may_send.ensures.has h in
-    let there : has_sending_now c.args.t.now.side (session_now c.args.s.now) c.args.id ≡ true = cc in
+    let there : has_sending_now c.args.t.now.side (session_of_table c.args.s.now) c.args.id ≡ true = cc in
     sending_there c.args.t.now d c.args.s.now c.args.id _ _ there (c.stopped.ensures d)

@@ -1,7 +1,7 @@
 use Rattle.std.proofs.Common.{◌≡◌, IfOk, subst, true}
 use Rattle.wt_plan.specs.FactsNow.{facts_now}
-use Rattle.wt_plan.specs.Planned.{planned}
-use Rattle.wt_plan.specs.Tells.{session_now}
+use Rattle.wt_plan.specs.Planned.{defined_plan}
+use Rattle.wt_plan.specs.Tells.{session_of_table}
 use Rattle.wt_call_plans.proofs.Halves.{sending_there_ok}
 use Rattle.wt_call_plans.proofs.plans.sending.write_all.Goals as goal
 use Rattle.wt_session_spec.specs.HalfPlans.{write_all_plan}
@@ -12,6 +12,6 @@ pub returns : goal.returns
 unfolding plan_of
 returns c = λ d h.
     let has = c.may_send.ensures.has h in
-    let there : has_sending_now c.args.t.now.side (session_now c.args.s.now) c.args.id ≡ true = cc in
+    let there : has_sending_now c.args.t.now.side (session_of_table c.args.s.now) c.args.id ≡ true = cc in
     sending_there_ok c.args.t.now d c.args.s.now c.args.id _ _ there
-    (subst (λ bytes. IfOk c.write_all.result (λ p. planned p ≡ write_all_plan (facts_now c.args.t.now d) c.args.id bytes)) c.as_slice.ensures (c.write_all.ensures d))
+    (subst (λ bytes. IfOk c.write_all.result (λ p. defined_plan p ≡ write_all_plan (facts_now c.args.t.now d) c.args.id bytes)) c.as_slice.ensures (c.write_all.ensures d))

@@ -2,7 +2,7 @@ use Rattle.std.proofs.Common.{◌≡◌, List, subst, ℕ}
 use Rattle.wt_connection.proofs.Sessions.{close_planned, close_replies, may_use}
 use Rattle.wt_connection.specs.Standing.{HasSession}
 use Rattle.wt_halves.proofs.Answering.{on_of_each, whichever}
-use Rattle.wt_plan.specs.Planned.{planned}
+use Rattle.wt_plan.specs.Planned.{defined_plan}
 use Rattle.wt_session_spec.specs.CallFacts.{facts_of}
 use Rattle.wt_session_spec.specs.Plans.{plan_of}
 use Rattle.wt_session_spec.specs.SessionState.{session_state}
@@ -15,5 +15,5 @@ returns-clause-reply c = whichever c.carry_out.result _ (λ done side log taken 
 pub returns-clause-log : goal.returns-clause-log
 returns-clause-log c = on_of_each c.args.d.now (HasSession c.args.self.now) c.carry_out.result _ (λ side log taken f r s.
     c.carry_out.ensures.log side log taken (calls.Close c.args.code c.args.reason.now) f r (may_use side log c.args.self.now s)
-    (subst (λ (reason : List ℕ). planned c.in_ok-plan.plan ≡ plan_of (facts_of side log) (session_state log) (calls.Close c.args.code reason)) c.in_ok-reason.ensures
+    (subst (λ (reason : List ℕ). defined_plan c.in_ok-plan.plan ≡ plan_of (facts_of side log) (session_state log) (calls.Close c.args.code reason)) c.in_ok-reason.ensures
     (close_planned side log c.args.self.now s c.args.d.now taken f r c.args.code c.in_ok-reason.reason c.transport.result.now c.transport.ensures c.in_ok-plan.plan c.in_ok-plan.ensures)))

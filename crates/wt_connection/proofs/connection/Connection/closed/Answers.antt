@@ -1,6 +1,6 @@
 use Rattle.std.proofs.Common.{◌∙◌, ap}
 use Rattle.wt_connection.proofs.Sessions.{closed_planned, end_comes, may_use}
-use Rattle.wt_halves.specs.Replies.{closed_in, closed_reply}
+use Rattle.wt_halves.specs.Replies.{closed_in, closed_poll_reply}
 use Rattle.wt_turn.specs.declared.call.Call.TheVariants as calls
 use Rattle.wt_reply.specs.declared.reply.Reply.{Reply}
 use Rattle.wt_connection.proofs.connection.Connection.closed.Goals as goal
@@ -8,7 +8,7 @@ use Rattle.wt_connection.proofs.connection.Connection.closed.Goals as goal
 pub returns-clause-reply : goal.returns-clause-reply
 returns-clause-reply c = λ side log taken f r s.
     let told = c.in_ok-perform.ensures.reply side log taken calls.Closed f (closed_planned side log c.args.self.now s c.args.d.now taken f r c.transport.result.now c.transport.ensures c.in_ok-plan.plan c.in_ok-plan.ensures) in
-    ap closed_reply (c.closed_in.ensures ∙ ap (λ (x : Reply). closed_in x) told) ∙ end_comes side log c.args.self.now s c.args.d.now taken f r
+    ap closed_poll_reply (c.closed_in.ensures ∙ ap (λ (x : Reply). closed_in x) told) ∙ end_comes side log c.args.self.now s c.args.d.now taken f r
 
 pub returns-clause-log : goal.returns-clause-log
 returns-clause-log c = λ side log taken f r s.

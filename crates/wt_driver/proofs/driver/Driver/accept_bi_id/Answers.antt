@@ -4,7 +4,7 @@ use Rattle.wt_driver_state.proofs.AcceptSteps.{accepted-is}
 use Rattle.wt_driver_state.specs.DriverValue.{DriverValue}
 use Rattle.wt_driver_state.specs.Given.{given_by}
 use Rattle.wt_driver_state.specs.Tie.{Follows, untaken_since}
-use Rattle.wt_driver_spec.specs.Due.{DueOutcome, accepted, log_streams, take_due}
+use Rattle.wt_driver_spec.specs.Due.{DueOutcome}
 use Rattle.wt_inbox.specs.Stage.{Refines}
 use Rattle.wt_seam_spec.specs.Streams.{peer_bi}
 use Rattle.wt_turn.specs.Log.{Log}

@@ -7,7 +7,7 @@ use Rattle.wt_proto.specs.SessionWalk.{is_over, session_walk_of}
 use Rattle.wt_seam_spec.specs.Reports.{end_of}
 use Rattle.wt_seam_spec.specs.Streams.{contents}
 use Rattle.wt_spec.specs.Scan.{session_read}
-use Rattle.wt_spec.specs.StreamTable.{Progress}
+use Rattle.wt_spec.specs.StreamTable.{DriverProgress}
 use Rattle.wt_turn.specs.Log.{events_of}
 use Rattle.wt_wire.specs.declared.side.StreamEnd.TheVariants as ends
 use Rattle.wt_driver.proofs.driver.Driver.read_session.Goals as goal
@@ -27,4 +27,4 @@ returns-else-is_over-clause-log c = λ side log stage untaken at r e.
     let no = sym (c.in_ok-is_over.ensures.answer side log stage untaken at r e) ∙ c.if-is_over.false in
     let bytes = drop at (contents log c.args.id) in
     let same = not-over (session_walk_of bytes (end_of (events_of log) c.args.id)) (is_over (session_walk_of bytes ends.Running)) c.args.self.now.state.progress no in
-    rw no (record { inbox = m.inbox; state_is = m.state_is ∙ ap (λ (p : Progress). record c.args.self.now.state { progress = p }) (sym same); queue = m.queue; settings_are = m.settings_are })
+    rw no (record { inbox = m.inbox; state_is = m.state_is ∙ ap (λ (p : DriverProgress). record c.args.self.now.state { progress = p }) (sym same); queue = m.queue; settings_are = m.settings_are })

@@ -2,7 +2,7 @@ use Rattle.std.proofs.Common.{arith, ◌<◌, length, refl, ap, ◌∙◌}
 use Rattle.std.proofs.lemmas.Grind.{common_steps}
 use Rattle.wt_driver_state.proofs.AcceptSteps.{datagram-follows, datagram-given, datagram-may, datagram-passed, end-follows, end-given, front-own, front-paid, looks-again, none-paid, none-received, received-is}
 use Rattle.wt_driver_state.specs.DriverValue.{DriverValue}
-use Rattle.wt_driver_spec.specs.Due.{log_datagrams, received}
+use Rattle.wt_driver_spec.specs.Due.{log_datagrams, receive_outcome}
 use Rattle.wt_spec.specs.Driver.{log_and_flush}
 use Rattle.wt_turn.specs.Log.{Called, DatagramPassed, DatagramReceived}
 use Rattle.wt_driver.proofs.driver.Driver.receive.Goals as goal
@@ -16,9 +16,9 @@ loop-is_own-init c = record {
 pub returns-in_default : goal.returns-in_default
 returns-in_default c = record {
   log = λ side log taken f.
-      none-received side taken c.args.session c.loop-is_own.left (received side log c.args.session) c.loop-is_own.self (c.loop-is_own.invariant.looks side log taken f) c.next_datagram.result c.next_datagram.ensures c.in_default.is;
+      none-received side taken c.args.session c.loop-is_own.left (receive_outcome side log c.args.session) c.loop-is_own.self (c.loop-is_own.invariant.looks side log taken f) c.next_datagram.result c.next_datagram.ensures c.in_default.is;
   given = λ side log taken f.
-      none-paid side taken c.args.session c.loop-is_own.left (received side log c.args.session) c.loop-is_own.self (c.loop-is_own.invariant.looks side log taken f) c.next_datagram.result c.next_datagram.ensures c.in_default.is;
+      none-paid side taken c.args.session c.loop-is_own.left (receive_outcome side log c.args.session) c.loop-is_own.self (c.loop-is_own.invariant.looks side log taken f) c.next_datagram.result c.next_datagram.ensures c.in_default.is;
   nothing = λ e. refl;
   own = λ piece e. absurd cc;
   has_given = c.loop-is_own.invariant.has_given;
@@ -28,11 +28,11 @@ pub returns-then-is_own : goal.returns-then-is_own
 returns-then-is_own c = record {
   log = λ side log taken f.
       let s = c.loop-is_own.invariant.looks side log taken f in
-      datagram-follows side taken c.args.session c.loop-is_own.left (received side log c.args.session) c.loop-is_own.self s c.next_datagram.result c.next_datagram.ensures c.in-Some.is_own c.in-Some.is c.take_datagram.new.self c.if-is_own.true
+      datagram-follows side taken c.args.session c.loop-is_own.left (receive_outcome side log c.args.session) c.loop-is_own.self s c.next_datagram.result c.next_datagram.ensures c.in-Some.is_own c.in-Some.is c.take_datagram.new.self c.if-is_own.true
       (c.in_ok-piece.ensures.log side s.log_now taken DatagramReceived s.follows refl
-      (datagram-may side taken c.args.session c.loop-is_own.left (received side log c.args.session) c.loop-is_own.self s c.next_datagram.result c.next_datagram.ensures c.in-Some.is_own c.in-Some.is DatagramReceived refl));
+      (datagram-may side taken c.args.session c.loop-is_own.left (receive_outcome side log c.args.session) c.loop-is_own.self s c.next_datagram.result c.next_datagram.ensures c.in-Some.is_own c.in-Some.is DatagramReceived refl));
   given = λ side log taken f.
-      datagram-given side taken c.args.session c.loop-is_own.left (received side log c.args.session) c.loop-is_own.self (c.loop-is_own.invariant.looks side log taken f) c.next_datagram.result c.next_datagram.ensures c.in-Some.is_own c.in-Some.is
+      datagram-given side taken c.args.session c.loop-is_own.left (receive_outcome side log c.args.session) c.loop-is_own.self (c.loop-is_own.invariant.looks side log taken f) c.next_datagram.result c.next_datagram.ensures c.in-Some.is_own c.in-Some.is
       c.in_ok-piece.piece c.if-is_own.true c.in_ok-piece.ensures.piece;
   nothing = front-paid c.args.session c.loop-is_own.self c.next_datagram.result c.in-Some.is_own c.in_ok-piece.piece c.next_datagram.ensures c.in-Some.is c.in_ok-piece.ensures.piece;
   own = λ piece e. front-own c.args.session c.loop-is_own.self c.next_datagram.result c.in-Some.is_own c.in_ok-piece.piece c.next_datagram.ensures c.in-Some.is c.if-is_own.true c.in_ok-piece.ensures.piece;
@@ -43,14 +43,14 @@ pub returns-then-left-eq0 : goal.returns-then-left-eq0
 returns-then-left-eq0 c = record {
   log = λ side log taken f.
       let s = c.loop-is_own.invariant.looks side log taken f in
-      let may = datagram-may side taken c.args.session c.loop-is_own.left (received side log c.args.session) c.loop-is_own.self s c.next_datagram.result c.next_datagram.ensures c.in-Some.is_own c.in-Some.is DatagramPassed refl in
-      end-follows side taken (log_datagrams side c.args.session) (received side log c.args.session) (log_and_flush side s.log_now (Called DatagramPassed)) c.loop-is_own.left
-      (datagram-passed side taken c.args.session c.loop-is_own.left (received side log c.args.session) c.loop-is_own.self s c.next_datagram.result c.next_datagram.ensures c.in-Some.is_own c.in-Some.is c.if-is_own.false)
+      let may = datagram-may side taken c.args.session c.loop-is_own.left (receive_outcome side log c.args.session) c.loop-is_own.self s c.next_datagram.result c.next_datagram.ensures c.in-Some.is_own c.in-Some.is DatagramPassed refl in
+      end-follows side taken (log_datagrams side c.args.session) (receive_outcome side log c.args.session) (log_and_flush side s.log_now (Called DatagramPassed)) c.loop-is_own.left
+      (datagram-passed side taken c.args.session c.loop-is_own.left (receive_outcome side log c.args.session) c.loop-is_own.self s c.next_datagram.result c.next_datagram.ensures c.in-Some.is_own c.in-Some.is c.if-is_own.false)
       c.take_datagram.new.self c.if-left-eq0.true (c.in_ok-piece.ensures.log side s.log_now taken DatagramPassed s.follows refl may);
   given = λ side log taken f.
       let s = c.loop-is_own.invariant.looks side log taken f in
-      end-given side taken (log_datagrams side c.args.session) (received side log c.args.session) (log_and_flush side s.log_now (Called DatagramPassed)) c.loop-is_own.left
-      (datagram-passed side taken c.args.session c.loop-is_own.left (received side log c.args.session) c.loop-is_own.self s c.next_datagram.result c.next_datagram.ensures c.in-Some.is_own c.in-Some.is c.if-is_own.false) c.if-left-eq0.true;
+      end-given side taken (log_datagrams side c.args.session) (receive_outcome side log c.args.session) (log_and_flush side s.log_now (Called DatagramPassed)) c.loop-is_own.left
+      (datagram-passed side taken c.args.session c.loop-is_own.left (receive_outcome side log c.args.session) c.loop-is_own.self s c.next_datagram.result c.next_datagram.ensures c.in-Some.is_own c.in-Some.is c.if-is_own.false) c.if-left-eq0.true;
   nothing = λ e. refl;
   own = λ piece e. absurd cc;
   has_given = c.in_ok-piece.ensures.has_given ∙ c.loop-is_own.invariant.has_given;
@@ -61,9 +61,9 @@ loop-is_own-preserved-else-left-eq0 c = record {
   looks = λ side log taken f.
       let s = c.loop-is_own.invariant.looks side log taken f in
       let more : 0 < c.loop-is_own.left = grind (arith, common_steps) in
-      let may = datagram-may side taken c.args.session c.loop-is_own.left (received side log c.args.session) c.loop-is_own.self s c.next_datagram.result c.next_datagram.ensures c.in-Some.is_own c.in-Some.is DatagramPassed refl in
-      looks-again side taken (log_datagrams side c.args.session) (received side log c.args.session) (log_and_flush side s.log_now (Called DatagramPassed)) c.loop-is_own.left
-      (datagram-passed side taken c.args.session c.loop-is_own.left (received side log c.args.session) c.loop-is_own.self s c.next_datagram.result c.next_datagram.ensures c.in-Some.is_own c.in-Some.is c.if-is_own.false)
+      let may = datagram-may side taken c.args.session c.loop-is_own.left (receive_outcome side log c.args.session) c.loop-is_own.self s c.next_datagram.result c.next_datagram.ensures c.in-Some.is_own c.in-Some.is DatagramPassed refl in
+      looks-again side taken (log_datagrams side c.args.session) (receive_outcome side log c.args.session) (log_and_flush side s.log_now (Called DatagramPassed)) c.loop-is_own.left
+      (datagram-passed side taken c.args.session c.loop-is_own.left (receive_outcome side log c.args.session) c.loop-is_own.self s c.next_datagram.result c.next_datagram.ensures c.in-Some.is_own c.in-Some.is c.if-is_own.false)
       c.take_datagram.new.self (c.in_ok-piece.ensures.log side s.log_now taken DatagramPassed s.follows refl may) more;
   has_given = c.in_ok-piece.ensures.has_given ∙ c.loop-is_own.invariant.has_given;
 }
@@ -73,9 +73,9 @@ loop-is_own-preserved c = record {
   looks = λ side log taken f.
       let s = c.loop-is_own.invariant.looks side log taken f in
       let more : 0 < c.loop-is_own.left = grind (arith, common_steps) in
-      let may = datagram-may side taken c.args.session c.loop-is_own.left (received side log c.args.session) c.loop-is_own.self s c.next_datagram.result c.next_datagram.ensures c.in-Some.is_own c.in-Some.is DatagramPassed refl in
-      looks-again side taken (log_datagrams side c.args.session) (received side log c.args.session) (log_and_flush side s.log_now (Called DatagramPassed)) c.loop-is_own.left
-      (datagram-passed side taken c.args.session c.loop-is_own.left (received side log c.args.session) c.loop-is_own.self s c.next_datagram.result c.next_datagram.ensures c.in-Some.is_own c.in-Some.is c.if-is_own.false)
+      let may = datagram-may side taken c.args.session c.loop-is_own.left (receive_outcome side log c.args.session) c.loop-is_own.self s c.next_datagram.result c.next_datagram.ensures c.in-Some.is_own c.in-Some.is DatagramPassed refl in
+      looks-again side taken (log_datagrams side c.args.session) (receive_outcome side log c.args.session) (log_and_flush side s.log_now (Called DatagramPassed)) c.loop-is_own.left
+      (datagram-passed side taken c.args.session c.loop-is_own.left (receive_outcome side log c.args.session) c.loop-is_own.self s c.next_datagram.result c.next_datagram.ensures c.in-Some.is_own c.in-Some.is c.if-is_own.false)
       c.take_datagram.new.self (c.in_ok-piece.ensures.log side s.log_now taken DatagramPassed s.follows refl may) more;
   has_given = c.in_ok-piece.ensures.has_given ∙ c.loop-is_own.invariant.has_given;
 }

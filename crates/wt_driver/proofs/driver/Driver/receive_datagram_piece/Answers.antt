@@ -3,7 +3,7 @@ use Rattle.wt_driver_state.proofs.AcceptSteps.{always-ok, nothing-else, nothing-
 use Rattle.std.specs.Prelude.{List, None, Option, Some, ℕ}
 use Rattle.wt_driver_state.specs.Given.{is_own, payload_by, payload_in}
 use Rattle.wt_driver_state.specs.Results.{result_of}
-use Rattle.wt_driver_spec.specs.Due.{received}
+use Rattle.wt_driver_spec.specs.Due.{receive_outcome}
 use Rattle.wt_spec.specs.Connection.{read_datagram}
 use Rattle.wt_driver.proofs.driver.Driver.receive_datagram_piece.Goals as goal
 
@@ -23,7 +23,7 @@ pub returns-in-None : goal.returns-in-None
 returns-in-None c = record {
   log = λ side log taken f. always-ok c.nothing_left.result (c.in_ok-piece.ensures.log side log taken f);
   given = λ side log taken f.
-      nothing-paid c.nothing_left.result (received side log c.args.session).given (result_of c.receive.new.self.state.is_open c.receive.new.self.state.progress.ending)
+      nothing-paid c.nothing_left.result (receive_outcome side log c.args.session).given (result_of c.receive.new.self.state.is_open c.receive.new.self.state.progress.ending)
       (ap (λ (x : Option (List ℕ)). payload_in (read_datagram x)) (sym c.in-None.is) ∙ c.in_ok-piece.ensures.given side log taken f) c.nothing_left.ensures;
   nothing = nothing-else c.nothing_left.result (result_of c.receive.new.self.state.is_open c.receive.new.self.state.progress.ending) (λ p. payload_by p ≡ None) c.nothing_left.ensures;
   has_given = always-ok c.nothing_left.result c.in_ok-piece.ensures.has_given;

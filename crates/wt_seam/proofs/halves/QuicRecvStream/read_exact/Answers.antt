@@ -1,9 +1,9 @@
-use Rattle.std.proofs.Common.{◌≡◌, ◌≤◌, length, sym, subst, ap, ◌∙◌}
-use Rattle.wt_seam_spec.specs.Unread.{consumed}
+use Rattle.std.proofs.Common.{◌≡◌, ◌≤◌, length, sym, subst, ◌∙◌}
+use Rattle.wt_seam_spec.specs.Unread.{position_after}
 use Rattle.wt_seam.specs.State.{TransportState, Refines}
-use Rattle.wt_seam.specs.Step.{after_consume, unread_now}
+use Rattle.wt_seam.specs.Step.{unread_now}
 use Rattle.wt_streams.specs.HalfRules.{ReceivingHalf, read_exact_answer, read_exact_count}
-use Rattle.wt_seam.specs.Rules.{receiving_half, receiving_half_now}
+use Rattle.wt_seam.specs.Rules.{receiving_half_now}
 use Rattle.wt_seam.proofs.Refining.{consume_refines}
 use Rattle.wt_seam.proofs.HalfLaws.{receiving_answer, receiving_kept, front_kept, read_exact_within}
 use Rattle.wt_seam.proofs.halves.QuicRecvStream.read_exact.Goals as goal
@@ -18,5 +18,5 @@ pub returns-clause-log : goal.returns-clause-log
 returns-clause-log c = λ side log position untaken r.
     let n = read_exact_count (receiving_half_now c.args.t.now c.args.self.now.id) (length c.args.buffer.now) in
     let within : n ≤ length (unread_now c.args.t.now c.args.self.now.id) = read_exact_within (receiving_half_now c.args.t.now c.args.self.now.id) (length c.args.buffer.now) in
-    subst (λ (h : ReceivingHalf). Refines side c.read_exact.new.self log (consumed position c.args.self.now.id (read_exact_count h (length c.args.buffer.now))) untaken) (receiving_kept side c.args.t.now log position untaken r c.args.self.now.id)
-    (subst (λ (u : TransportState). Refines side u log (consumed position c.args.self.now.id n) untaken) (sym c.read_exact.ensures.state) (consume_refines side c.args.t.now log position untaken r c.args.self.now.id n within))
+    subst (λ (h : ReceivingHalf). Refines side c.read_exact.new.self log (position_after position c.args.self.now.id (read_exact_count h (length c.args.buffer.now))) untaken) (receiving_kept side c.args.t.now log position untaken r c.args.self.now.id)
+    (subst (λ (u : TransportState). Refines side u log (position_after position c.args.self.now.id n) untaken) (sym c.read_exact.ensures.state) (consume_refines side c.args.t.now log position untaken r c.args.self.now.id n within))

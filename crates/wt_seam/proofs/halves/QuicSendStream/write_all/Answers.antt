@@ -1,12 +1,11 @@
-use Rattle.std.proofs.Common.{sym, subst, ap, ◌∙◌}
+use Rattle.std.proofs.Common.{sym, subst, ◌∙◌}
 use Rattle.std.proofs.lemmas.Result.{on_ok_weaker}
 use Rattle.wt_turn.specs.Log.{with_actions}
-use Rattle.wt_turn.specs.declared.action.Action.TheVariants as actions
 use Rattle.wt_seam_spec.specs.Joined.{newest_first}
 use Rattle.wt_seam.specs.State.{TransportState, Refines}
 use Rattle.wt_seam.proofs.Results.{if_ok}
 use Rattle.wt_streams.specs.HalfRules.{write_all_answer}
-use Rattle.wt_seam.specs.Rules.{writing}
+use Rattle.wt_seam.specs.Rules.{actions_of_write}
 use Rattle.wt_seam.proofs.HalfLaws.{sending_answer, write_refines}
 use Rattle.wt_seam.proofs.halves.QuicSendStream.write_all.Goals as goal
 
@@ -14,4 +13,4 @@ pub returns-clause-log_answer : goal.returns-clause-log_answer
 returns-clause-log_answer c = λ side log position untaken r. if_ok c.write_all.result (λ a e. e ∙ sending_answer side c.args.t.now log position untaken r (λ o h. write_all_answer o h c.args.bytes.now) c.args.self.now.id c.requires) c.write_all.ensures.answer
 
 pub returns-clause-log : goal.returns-clause-log
-returns-clause-log c = λ side log position untaken r. on_ok_weaker c.write_all.result (λ e. subst (λ (u : TransportState). Refines side u (with_actions (writing side log c.args.self.now.id c.args.bytes.now) log) position (newest_first (writing side log c.args.self.now.id c.args.bytes.now) untaken)) (sym e) (write_refines side c.args.t.now log position untaken r c.args.self.now.id c.args.bytes.now)) c.write_all.ensures.state
+returns-clause-log c = λ side log position untaken r. on_ok_weaker c.write_all.result (λ e. subst (λ (u : TransportState). Refines side u (with_actions (actions_of_write side log c.args.self.now.id c.args.bytes.now) log) position (newest_first (actions_of_write side log c.args.self.now.id c.args.bytes.now) untaken)) (sym e) (write_refines side c.args.t.now log position untaken r c.args.self.now.id c.args.bytes.now)) c.write_all.ensures.state

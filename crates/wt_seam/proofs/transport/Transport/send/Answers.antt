@@ -2,7 +2,7 @@ use Rattle.std.proofs.Common.{sym, subst, ◌∙◌}
 use Rattle.std.proofs.lemmas.Result.{on_ok_weaker}
 use Rattle.wt_turn.specs.Log.{with_actions}
 use Rattle.wt_seam_spec.specs.Joined.{newest_first}
-use Rattle.wt_seam_spec.specs.Outgoing.{sending}
+use Rattle.wt_seam_spec.specs.Outgoing.{actions_to_send}
 use Rattle.wt_seam.specs.State.{TransportState, Refines}
 use Rattle.wt_seam.proofs.Results.{if_ok}
 use Rattle.wt_seam.proofs.Refining.{refined_sent, send_refines}
@@ -12,4 +12,4 @@ pub returns-clause-log_count : goal.returns-clause-log_count
 returns-clause-log_count c = λ side log position untaken r. if_ok c.send_now.result (λ n e. e ∙ refined_sent side c.args.self.now log position untaken r c.args.id c.args.bytes.now c.requires) c.send_now.ensures.count
 
 pub returns-clause-log : goal.returns-clause-log
-returns-clause-log c = λ side log position untaken r. on_ok_weaker c.send_now.result (λ e. subst (λ (t : TransportState). Refines side t (with_actions (sending log c.args.id c.args.bytes.now) log) position (newest_first (sending log c.args.id c.args.bytes.now) untaken)) (sym e) (send_refines side c.args.self.now log position untaken r c.args.id c.args.bytes.now c.requires)) c.send_now.ensures.state
+returns-clause-log c = λ side log position untaken r. on_ok_weaker c.send_now.result (λ e. subst (λ (t : TransportState). Refines side t (with_actions (actions_to_send log c.args.id c.args.bytes.now) log) position (newest_first (actions_to_send log c.args.id c.args.bytes.now) untaken)) (sym e) (send_refines side c.args.self.now log position untaken r c.args.id c.args.bytes.now c.requires)) c.send_now.ensures.state

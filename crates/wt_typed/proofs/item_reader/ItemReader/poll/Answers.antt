@@ -1,7 +1,7 @@
 use Rattle.std.proofs.Common.{sym, ap, ◌∙◌}
-use Rattle.wt_proto.specs.Progress.{reached}
+use Rattle.wt_proto.specs.Progress.{reached_in}
 use Rattle.wt_seam.specs.Step.{end_now, unread_now}
-use Rattle.wt_typed.specs.Reading.{after_read, read_answer}
+use Rattle.wt_typed.specs.Reading.{after_read, reached_answer}
 use Rattle.wt_typed.proofs.ReadLaws.{begun_answer}
 use Rattle.wt_typed.proofs.Taking.{took-all}
 use Rattle.wt_typed.proofs.item_reader.ItemReader.poll.Goals as goal
@@ -9,7 +9,7 @@ use Rattle.wt_typed.proofs.item_reader.ItemReader.poll.Goals as goal
 pub returns-in-Ok-clause-answer : goal.returns-in-Ok-clause-answer
 returns-in-Ok-clause-answer g c =
     let all = took-all g.G.Grammar.decides c.self.invariant.steady c.args.self.now c.take_unread.new.self (unread_now c.args.t.now c.args.id) c.in-Ok.field-0 c.in-Ok.ensures.took.reading c.in-Ok.ensures.took.within c.in-Ok.ensures.took.all in
-    c.answer.ensures.answer ∙ (λ i. read_answer (c.is_open-is_open.ensures.now i) (c.end-end.ensures.now i) (reached (sym all i)))
+    c.answer.ensures.answer ∙ (λ i. reached_answer (c.is_open-is_open.ensures.now i) (c.end-end.ensures.now i) (reached_in (sym all i)))
 
 pub returns-in-Ok-clause-begun : goal.returns-in-Ok-clause-begun
 returns-in-Ok-clause-begun g c = λ state bytes has.

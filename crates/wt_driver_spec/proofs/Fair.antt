@@ -5,10 +5,10 @@ use Rattle.wt_proto.specs.ControlWalk.{control_walk_of}
 use Rattle.wt_proto.specs.Uni.{is_final}
 use Rattle.wt_proto.specs.declared.verdict.Verdict.{Verdict}
 use Rattle.wt_seam_spec.specs.Reports.{is_running}
-use Rattle.wt_spec.specs.Driver.{apply_if, call_view, established, is_moment, stream_table, transport_view}
+use Rattle.wt_spec.specs.Driver.{apply_if, call_view, established_session, is_moment, stream_table, transport_view}
 use Rattle.wt_spec.specs.Scan.{Scan, SlotRule, bi_ids, bi_rule, check_control, check_datagram, check_qpack, check_session, checks, classify, critical_if, dequeue, dequeued_datagram, fault_ending, has, in_order, parsed_datagram, scan, scan_bis, scan_order, scan_unis, uni_ids, uni_rule, unless_ended, visit, with_dequeued, with_fault, without_stops}
-use Rattle.wt_spec.specs.StreamTable.{ByFault, BySession, CallView, Ending, Progress, StreamTable, TransportView, dispatched, verdict_of}
-use Rattle.wt_turn.specs.Log.{CallRecord, Called, Entry, Log, Received, Reported, ReportedLate, Sent, SessionEstablished, calls_of, is_open}
+use Rattle.wt_spec.specs.StreamTable.{ByFault, BySession, CallView, Ending, DriverProgress, StreamTable, TransportView, dispatched_streams, verdict_of}
+use Rattle.wt_turn.specs.Log.{CallRecord, Called, Entry, Log, SessionEstablished, calls_of, is_open}
 use Rattle.wt_wire.specs.declared.error.ErrorCode.{ErrorCode}
 use Rattle.wt_wire.specs.declared.error.ErrorCode.TheVariants as h3
 use Rattle.wt_wire.specs.declared.side.Side.{Side}
@@ -41,7 +41,7 @@ module _ (session : Option (ℕ × ℕ)) (ready : Bool) (calls : CallView) (rule
 
   fair-classify : (b : Bool) (k : ℕ) (s : Scan) → Fairly s → Fairly (classify b calls rule k s)
   fair-classify false k s f = f
-  fair-classify true k s f = fair-fault session (rule.consequence (dispatched calls s.table.classified) k (rule.verdict k)).fault
+  fair-classify true k s f = fair-fault session (rule.consequence (dispatched_streams calls s.table.classified) k (rule.verdict k)).fault
 
   fair-dequeue : (b : Bool) (k : ℕ) (s : Scan) → Fairly s → Fairly (dequeue b calls rule k s)
   fair-dequeue false k s f = f
@@ -64,50 +64,50 @@ module _ (session : Option (ℕ × ℕ)) (ready : Bool) (calls : CallView) (rule
 -- ---- what the checks keep
 
 module _ (session : Option (ℕ × ℕ)) where
-  abbrev Fair : Progress → Type 0
+  abbrev Fair : DriverProgress → Type 0
   Fair p = EndsFairly session p.ending
 
-  abbrev AllFair : List (Progress → Progress) → Type 0
+  abbrev AllFair : List (DriverProgress → DriverProgress) → Type 0
   AllFair [] = Unit {0}
-  AllFair (check ∷ later) = ((p : Progress) → Fair p → Fair (check p)) × AllFair later
+  AllFair (check ∷ later) = ((p : DriverProgress) → Fair p → Fair (check p)) × AllFair later
 
-  fair-check : (o : Option Ending) (check : Progress → Progress) (p : Progress) → ((p : Progress) → Fair p → Fair (check p)) → Fair p → Fair (unless_ended o check p)
+  fair-check : (o : Option Ending) (check : DriverProgress → DriverProgress) (p : DriverProgress) → ((p : DriverProgress) → Fair p → Fair (check p)) → Fair p → Fair (unless_ended o check p)
   fair-check None check p k h = k p h
   fair-check (Some e) check p k h = h
 
-  fair-in-order : (cs : List (Progress → Progress)) (p : Progress) → AllFair cs → Fair p → Fair (in_order cs p)
+  fair-in-order : (cs : List (DriverProgress → DriverProgress)) (p : DriverProgress) → AllFair cs → Fair p → Fair (in_order cs p)
   fair-in-order [] p k h = h
   fair-in-order (check ∷ later) p k h = fair-in-order later (unless_ended p.ending check p) k.1 (fair-check p.ending check p k.0 h)
 
-  fair-parsed : (r : Result (ℕ × List ℕ) ErrorCode) (q : Progress) → Fair q → Fair (parsed_datagram r q)
+  fair-parsed : (r : Result (ℕ × List ℕ) ErrorCode) (q : DriverProgress) → Fair q → Fair (parsed_datagram r q)
   fair-parsed (Ok d) q f = f
   fair-parsed (Err code) q f = fair-by session code
 
-  fair-dequeued : (o : Option (List ℕ)) (p : Progress) → Fair p → Fair (dequeued_datagram o p)
+  fair-dequeued : (o : Option (List ℕ)) (p : DriverProgress) → Fair p → Fair (dequeued_datagram o p)
   fair-dequeued None p f = f
   fair-dequeued (Some piece) p f = fair-parsed (datagram_of piece) (record p { datagrams = suc p.datagrams }) f
 
-  fair-datagram : (b : Bool) (t : TransportView) (p : Progress) → Fair p → Fair (check_datagram b t p)
+  fair-datagram : (b : Bool) (t : TransportView) (p : DriverProgress) → Fair p → Fair (check_datagram b t p)
   fair-datagram false t p f = f
   fair-datagram true t p f = fair-dequeued (t.datagram p.datagrams) p f
 
-  fair-critical : (b : Bool) (p : Progress) → Fair p → Fair (critical_if b p)
+  fair-critical : (b : Bool) (p : DriverProgress) → Fair p → Fair (critical_if b p)
   fair-critical false p f = f
   fair-critical true p f = fair-by session h3.ClosedCriticalStream
 
-  fair-with : (o : Option ErrorCode) (q : Progress) → Fair q → Fair (with_fault o q)
+  fair-with : (o : Option ErrorCode) (q : DriverProgress) → Fair q → Fair (with_fault o q)
   fair-with None q f = f
   fair-with (Some code) q f = fair-by session code
 
-  fair-control : (t : TransportView) (o : Option (ℕ × ℕ)) (p : Progress) → Fair p → Fair (check_control t o p)
+  fair-control : (t : TransportView) (o : Option (ℕ × ℕ)) (p : DriverProgress) → Fair p → Fair (check_control t o p)
   fair-control t None p f = f
   fair-control t (Some c) p f = fair-with (control_walk_of (drop c.1 (t.contents c.0)) (t.end c.0)).fault _ f
 
-  fair-qpack : (t : TransportView) (o : Option (ℕ × ℕ)) (p : Progress) → Fair p → Fair (check_qpack t o p)
+  fair-qpack : (t : TransportView) (o : Option (ℕ × ℕ)) (p : DriverProgress) → Fair p → Fair (check_qpack t o p)
   fair-qpack t None p f = f
   fair-qpack t (Some c) p f = fair-critical (not (is_running (t.end c.0))) p f
 
-fair-session : (t : TransportView) (session : Option (ℕ × ℕ)) (p : Progress) → EndsFairly session p.ending → EndsFairly session (check_session t session p).ending
+fair-session : (t : TransportView) (session : Option (ℕ × ℕ)) (p : DriverProgress) → EndsFairly session p.ending → EndsFairly session (check_session t session p).ending
 fair-session t None p f = f
 fair-session t (Some s) p f = fair-some s (check_session t (Some s) p).ending
 
@@ -118,7 +118,7 @@ fair-moment side log calls table f =
     let t = transport_view side log in
     let first = fair-scan calls.session t.ready calls (uni_rule t) (uni_ids t) (record { occupied = 0; table = without_stops table }) f in
     let second = fair-scan calls.session t.ready calls (bi_rule t) (bi_ids t) (record { occupied = 0; table = scan_unis t calls (without_stops table) }) first in
-    let d = dispatched calls (scan_bis t calls (scan_unis t calls (without_stops table))).classified in
+    let d = dispatched_streams calls (scan_bis t calls (scan_unis t calls (without_stops table))).classified in
     fair-in-order calls.session (checks t calls d) (scan_bis t calls (scan_unis t calls (without_stops table))).progress (
       (λ p c. fair-datagram calls.session (t.ready && calls.datagrams == p.datagrams) t p c),
       (
@@ -144,18 +144,15 @@ fair-applied true side log calls table f = fair-moment side log calls table f
 fair-applied false side log calls table f = f
 
 -- a session that is established stays so, or another one is
-fair-record : (r : CallRecord) (cs : List CallRecord) (e : Option Ending) → EndsFairly (established cs) e → EndsFairly (established (r ∷ cs)) e
+fair-record : (r : CallRecord) (cs : List CallRecord) (e : Option Ending) → EndsFairly (established_session cs) e → EndsFairly (established_session (r ∷ cs)) e
 fair-record (SessionEstablished id at) cs e f = fair-some (id, at) e
 fair-record _ cs e f = f
 
-fair-entry : (side : Side) (e : Entry) (log : Log) → EndsFairly (established (calls_of log)) (stream_table side log).progress.ending → EndsFairly (established (calls_of (e ∷ log))) (stream_table side log).progress.ending
+fair-entry : (side : Side) (e : Entry) (log : Log) → EndsFairly (established_session (calls_of log)) (stream_table side log).progress.ending → EndsFairly (established_session (calls_of (e ∷ log))) (stream_table side log).progress.ending
 fair-entry side (Called r) log f = fair-record r (calls_of log) (stream_table side log).progress.ending f
-fair-entry side (Sent a) log f = f
-fair-entry side (Reported e) log f = f
-fair-entry side (ReportedLate e) log f = f
-fair-entry side (Received id b) log f = f
+fair-entry side _ log f = f
 
-pub ends-fairly : (side : Side) (log : Log) → EndsFairly (established (calls_of log)) (stream_table side log).progress.ending
+pub ends-fairly : (side : Side) (log : Log) → EndsFairly (established_session (calls_of log)) (stream_table side log).progress.ending
 unfolding stream_table
 ends-fairly side [] = tt
 ends-fairly side (e ∷ log) = fair-applied (is_moment e && is_open (e ∷ log)) side (e ∷ log) (call_view (e ∷ log)) (stream_table side log) (fair-entry side e log (ends-fairly side log))
