@@ -7,6 +7,7 @@ pub mod qpack;
 mod reading;
 pub mod settings;
 mod shown;
+pub mod theorems;
 
 pub use connect::ConnectStream;
 pub use qpack::{RemoteQPackDecStream, RemoteQPackEncStream, RemoteQPackStream};
