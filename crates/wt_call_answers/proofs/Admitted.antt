@@ -2,7 +2,7 @@
 use Rattle.std.specs.Prelude.{[], ◌≡◌, Bool}
 use Rattle.std.proofs.Common.{◌∙◌, ap, refl, sym}
 use Rattle.wt_plan.proofs.PlansSame.{table-same}
-use Rattle.wt_plan.specs.Tells.{session_of_table}
+use Rattle.wt_plan.specs.PlansAgree.{session_of_table}
 use Rattle.wt_call_answers.specs.Keeping.{Keeps, SessionValue, may_call_of}
 use Rattle.wt_session_spec.proofs.Theorems.{may_call_theorem}
 use Rattle.wt_session_spec.specs.CallFacts.{facts_of}

@@ -2,7 +2,7 @@
 use Rattle.std.specs.Prelude.{◌≡◌, false, ℕ}
 use Rattle.std.proofs.Common.{ap, subst, sym}
 use Rattle.wt_table.specs.Table.{KeepsCalls, TableValue}
-use Rattle.wt_plan.specs.Tells.{KeepsRequestEnd}
+use Rattle.wt_plan.specs.PlansAgree.{KeepsRequestEnd}
 use Rattle.wt_call_answers.specs.Keeping.{Keeps}
 use Rattle.wt_spec.specs.Answers.{is_first}
 use Rattle.wt_turn.specs.Log.{Log, calls_of}

@@ -13,7 +13,7 @@ use Rattle.wt_plan.specs.DriverAnswers.{answers_now}
 use Rattle.wt_plan.specs.FactsNow.{DriverAnswers, facts_now}
 use Rattle.wt_plan.specs.Planned.{defined_plan}
 use Rattle.wt_table.specs.Table.{KeepsCalls, TableValue}
-use Rattle.wt_plan.specs.Tells.{KeepsRequestEnd, TellsFacts, session_of_table}
+use Rattle.wt_plan.specs.PlansAgree.{KeepsRequestEnd, TellsFacts, session_of_table}
 use Rattle.wt_plan.specs.declared.plan.Plan as code
 use Rattle.wt_proto.specs.ResponseWalk.{response_walk_of}
 use Rattle.wt_proto.specs.declared.response_walk.ResponseWalk.{ResponseWalk}
@@ -22,7 +22,7 @@ use Rattle.wt_seam.specs.State.{TransportState}
 use Rattle.wt_seam_spec.specs.Reports.{end_of}
 use Rattle.wt_seam_spec.specs.Streams.{contents, local_bi}
 use Rattle.wt_calls.proofs.SessionStreams.{established_on, queued_is_request, requested_on}
-use Rattle.wt_call_plans.specs.Kept.{IsSessionStream, OnSessionStream, SendingThere}
+use Rattle.wt_call_plans.specs.StreamsThere.{IsSessionStream, OnSessionStream, SendingThere}
 use Rattle.wt_call_plans.specs.MayPlan.{ConnectsAs, HandshakeFits, MayAnswer, MayPlan}
 use Rattle.wt_call_answers.specs.Walking.{KnowsResponse, is_connecting}
 use Rattle.wt_session_acts.specs.RecordFacts.{Connects}
@@ -33,7 +33,7 @@ use Rattle.wt_session_spec.specs.SessionState.{has_sending_now, is_answering, se
 use Rattle.wt_spec.specs.Answers.{is_client, is_first, may_call}
 use Rattle.wt_spec.specs.Driver.{established_session}
 use Rattle.wt_spec.specs.Handshake.{Connecting, HandshakeState, awaits_answer, handshake_state}
-use Rattle.wt_told.proofs.DriverTheorems.{drivers_tell_theorem, requests_theorem}
+use Rattle.wt_agreement.proofs.DriverTheorems.{drivers_tell_theorem, requests_theorem}
 use Rattle.wt_turn.specs.Log.{Log, calls_of, events_of}
 use Rattle.wt_turn.specs.declared.call.Call.{Call}
 use Rattle.wt_turn.specs.declared.call.Call.TheVariants as calls
@@ -55,7 +55,7 @@ on-first side log c e id z =
       awaits = record {
         role = ap (λ (s : Side). role_of s id) e ∙ ap (role_of Client) z;
         unestablished = c.unestablished;
-        goes_on = ap (λ (k : ℕ). (use_of k (calls_of log)).is_over) same ∙ c.goes_on;
+        still_going = ap (λ (k : ℕ). (use_of k (calls_of log)).is_over) same ∙ c.still_going;
       };
       same = same;
     }
@@ -125,12 +125,12 @@ module _ (side : Side) (d : DriverValue) (log : Log) (taken : ℕ) (s : TableVal
     abbrev answered : DriverAnswers
     answered = answers_now d.inbox.transport d.state (is_first log) s.request_end walk
 
-    tells : TellsFacts side log d.inbox.transport answered
-    tells = drivers_tell_theorem side d log (untaken_since taken log) (is_first log) s.request_end walk f.refines refl end known r
+    says : TellsFacts side log d.inbox.transport answered
+    says = drivers_tell_theorem side d log (untaken_since taken log) (is_first log) s.request_end walk f.refines refl end known r
 
     sending-there : SendingThere d.inbox.transport s
     sending-there = record {
-      there = λ j h. sending_there side log d.inbox.transport answered tells j
+      there = λ j h. sending_there side log d.inbox.transport answered says j
           (sym (sending_kept side s log j k) ∙ subst (λ (sd : Side). has_sending_now sd (session_of_table s) j ≡ true) side-is h);
     }
 
@@ -145,4 +145,4 @@ module _ (side : Side) (d : DriverValue) (log : Log) (taken : ℕ) (s : TableVal
     pub planned_by_log : (call : Call) (p : Result code.Plan OutOfMemory) → may_call side log call ≡ true
         → ((first : Bool) → MayPlan d.inbox.transport d.state s call → IfOk p (λ x. defined_plan x ≡ plan_of (facts_now d.inbox.transport (answers_now d.inbox.transport d.state first s.request_end walk)) (session_of_table s) call))
         → IfOk p (λ x. defined_plan x ≡ plan_of (facts_of side log) (session_state log) call)
-    planned_by_log call p m g = subst (λ (q : Plan). IfOk p (λ x. defined_plan x ≡ q)) (plan_same side log d.inbox.transport answered tells s k call m) (g (is_first log) (may_plan call m))
+    planned_by_log call p m g = subst (λ (q : Plan). IfOk p (λ x. defined_plan x ≡ q)) (plan_same side log d.inbox.transport answered says s k call m) (g (is_first log) (may_plan call m))

@@ -1,6 +1,6 @@
 -- Which walk over a response is that of a log.
 use Rattle.std.specs.Prelude.{◌≡◌, Bool, List, Option, false, true, ℕ}
-use Rattle.wt_plan.specs.Tells.{driver_facts}
+use Rattle.wt_plan.specs.PlansAgree.{driver_facts}
 use Rattle.wt_proto.specs.declared.response_walk.ResponseWalk.{ResponseWalk}
 use Rattle.wt_spec.specs.Handshake.{Connecting, HandshakeState, handshake_state}
 use Rattle.wt_turn.specs.Log.{Log, calls_of}

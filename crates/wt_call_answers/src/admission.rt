@@ -1,7 +1,7 @@
 //! Which call may come, by what is kept.
 ghost use Rattle.std.specs.Prelude.{◌≡◌};
 ghost use Rattle.wt_table.specs.Table.{handshake_as};
-ghost use Rattle.wt_plan.specs.Tells.{session_of_table};
+ghost use Rattle.wt_plan.specs.PlansAgree.{session_of_table};
 ghost use Rattle.wt_session_spec.specs.CallFacts.{CallFacts};
 ghost use Rattle.wt_session_spec.specs.Plans.{may_call_now, may_respond_now};
 ghost use Rattle.wt_spec.specs.Answers.{is_client};

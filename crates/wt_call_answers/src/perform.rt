@@ -6,7 +6,7 @@ ghost use Rattle.wt_driver_spec.specs.Asking.{MayBeCalled};
 ghost use Rattle.wt_plan.specs.Planned.{defined_plan};
 ghost use Rattle.wt_table.specs.Table.{KeepsCalls};
 ghost use Rattle.wt_seam_spec.specs.Streams.{peer_bi, peer_uni};
-ghost use Rattle.wt_calls.specs.Given.{given_in, with_given};
+ghost use Rattle.wt_calls.specs.GivingCalls.{given_in, with_given};
 ghost use Rattle.wt_session_acts.specs.Performing.{MayPerform, MaySendAll};
 ghost use Rattle.wt_session_spec.specs.Plan.{perform};
 ghost use Rattle.wt_session_spec.specs.Plan as session;
@@ -74,7 +74,8 @@ fn accept_uni(
 ) -> Result<Reply, OutOfMemory>
     ensures reply { Tells d.old (λ side log. IfOk result (λ r. r ≡ (accept_stream side replies.Uni (peer_uni side) log session).reply)) }
     ensures log { FollowsIfOk result d.old d.new (λ side log. (accept_stream side replies.Uni (peer_uni side) log session).log) }
-    ensures session { Tells d.old (λ side log. KeepsCalls s.old (calls_of log) → OnOk result (KeepsCalls s.new (calls_of (accept_stream side replies.Uni (peer_uni side) log session).log))) }
+    ensures session { Tells d.old (λ side log. KeepsCalls s.old (calls_of log)
+        → OnOk result (KeepsCalls s.new (calls_of (accept_stream side replies.Uni (peer_uni side) log session).log))) }
 {
     let answer = acting::accept_uni(alloc, d, session)?;
     settle(s, given_in(&answer))?;
@@ -90,7 +91,8 @@ fn accept_bi(
 ) -> Result<Reply, OutOfMemory>
     ensures reply { Tells d.old (λ side log. IfOk result (λ r. r ≡ (accept_stream side replies.Bi (peer_bi side) log session).reply)) }
     ensures log { FollowsIfOk result d.old d.new (λ side log. (accept_stream side replies.Bi (peer_bi side) log session).log) }
-    ensures session { Tells d.old (λ side log. KeepsCalls s.old (calls_of log) → OnOk result (KeepsCalls s.new (calls_of (accept_stream side replies.Bi (peer_bi side) log session).log))) }
+    ensures session { Tells d.old (λ side log. KeepsCalls s.old (calls_of log)
+        → OnOk result (KeepsCalls s.new (calls_of (accept_stream side replies.Bi (peer_bi side) log session).log))) }
 {
     let answer = acting::accept_bi(alloc, d, session)?;
     settle(s, given_in(&answer))?;
@@ -106,7 +108,8 @@ fn receive(
 ) -> Result<Reply, OutOfMemory>
     ensures reply { Tells d.old (λ side log. IfOk result (λ r. r ≡ (receive_datagram side log session).reply)) }
     ensures log { FollowsIfOk result d.old d.new (λ side log. (receive_datagram side log session).log) }
-    ensures session { Tells d.old (λ side log. KeepsCalls s.old (calls_of log) → OnOk result (KeepsCalls s.new (calls_of (receive_datagram side log session).log))) }
+    ensures session { Tells d.old (λ side log. KeepsCalls s.old (calls_of log)
+        → OnOk result (KeepsCalls s.new (calls_of (receive_datagram side log session).log))) }
 {
     let answer = acting::receive(alloc, d, session)?;
     settle(s, None)?;
@@ -119,14 +122,16 @@ fn establish(
     s: &mut SessionTable,
     own: Vec<Action>,
     id: SessionId,
-    at: usize,
+    offset: usize,
 ) -> Result<Reply, OutOfMemory>
-    ensures reply { (side : Side) (log : Log) → IfOk result (λ r. r ≡ (perform side log (session.Establish own.items id at)).reply) }
-    ensures log { OfEachLog d.old (λ side log taken. MayPerform side log (session.Establish own.items id at) → OnOk result (Follows side d.new (perform side log (session.Establish own.items id at)).log taken)) }
-    ensures session { (side : Side) (log : Log) → KeepsCalls s.old (calls_of log) → OnOk result (KeepsCalls s.new (calls_of (perform side log (session.Establish own.items id at)).log)) }
+    ensures reply { (side : Side) (log : Log) → IfOk result (λ r. r ≡ (perform side log (session.Establish own.items id offset)).reply) }
+    ensures log { OfEachLog d.old (λ side log taken. MayPerform side log (session.Establish own.items id offset)
+        → OnOk result (Follows side d.new (perform side log (session.Establish own.items id offset)).log taken)) }
+    ensures session { (side : Side) (log : Log) → KeepsCalls s.old (calls_of log)
+        → OnOk result (KeepsCalls s.new (calls_of (perform side log (session.Establish own.items id offset)).log)) }
 {
-    acting::establish(d, own, id, at)?;
-    s.note(Record::SessionEstablished(id.session_stream(), at))?;
+    acting::establish(d, own, id, offset)?;
+    s.note(Record::SessionEstablished(id.session_stream(), offset))?;
     s.note(Record::Polled)?;
     Ok(Reply::Session(id))
 }
@@ -138,16 +143,19 @@ pub fn perform(
     s: &mut SessionTable,
     plan: Plan,
 ) -> Result<Reply, OutOfMemory>
-    ensures reply { Tells d.old (λ side log. MayPerform side log (defined_plan plan) → IfOk result (λ r. r ≡ (perform side log (defined_plan plan)).reply)) }
-    ensures log { OfEachLog d.old (λ side log taken. MayPerform side log (defined_plan plan) → OnOk result (Follows side d.new (perform side log (defined_plan plan)).log taken)) }
-    ensures session { Tells d.old (λ side log. KeepsCalls s.old (calls_of log) → OnOk result (KeepsCalls s.new (calls_of (perform side log (defined_plan plan)).log))) }
+    ensures reply { Tells d.old (λ side log. MayPerform side log (defined_plan plan)
+        → IfOk result (λ r. r ≡ (perform side log (defined_plan plan)).reply)) }
+    ensures log { OfEachLog d.old (λ side log taken. MayPerform side log (defined_plan plan)
+        → OnOk result (Follows side d.new (perform side log (defined_plan plan)).log taken)) }
+    ensures session { Tells d.old (λ side log. KeepsCalls s.old (calls_of log)
+        → OnOk result (KeepsCalls s.new (calls_of (perform side log (defined_plan plan)).log))) }
 {
     match plan {
         Plan::Step { own, call, reply } => {
             step(d, s, own, call)?;
             Ok(reply)
         }
-        Plan::Establish { own, id, at } => establish(d, s, own, id, at),
+        Plan::Establish { own, id, offset } => establish(d, s, own, id, offset),
         Plan::AcceptUni(session) => accept_uni(alloc, d, s, session),
         Plan::AcceptBi(session) => accept_bi(alloc, d, s, session),
         Plan::Receive(session) => receive(alloc, d, s, session),

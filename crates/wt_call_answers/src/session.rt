@@ -5,7 +5,7 @@ ghost use Rattle.wt_laws.specs.Reachable.{IsReachable};
 ghost use Rattle.wt_turn.specs.Turns.{is_call};
 ghost use Rattle.wt_plan.specs.Planned.{defined_plan};
 ghost use Rattle.wt_table.specs.Table.{KeepsCalls, handshake_as};
-ghost use Rattle.wt_plan.specs.Tells.{KeepsRequestEnd};
+ghost use Rattle.wt_plan.specs.PlansAgree.{KeepsRequestEnd};
 ghost use Rattle.wt_call_answers.specs.Keeping.{Keeps, may_call_of};
 ghost use Rattle.wt_call_answers.specs.Walking.{KnowsResponse, is_connecting};
 ghost use Rattle.wt_session_spec.specs.CallFacts.{facts_of};
@@ -13,7 +13,7 @@ ghost use Rattle.wt_session_spec.specs.Plans.{plan_of};
 ghost use Rattle.wt_session_spec.specs.SessionState.{session_state};
 ghost use Rattle.wt_spec.specs.Answers.{call_effect, is_lawful, log_after, may_call};
 ghost use Rattle.wt_spec.specs.Handshake.{requested_by};
-ghost use Rattle.wt_told.specs.Delivering.{delivers_request};
+ghost use Rattle.wt_agreement.specs.Delivering.{delivers_request};
 ghost use Rattle.wt_turn.specs.Log.{Log, calls_of};
 ghost use Rattle.wt_turn.specs.Records.{record_of};
 ghost use Rattle.wt_turn.specs.declared.call.Call.{Call};
@@ -64,14 +64,16 @@ fn is_connecting(handshake: &Handshake) -> bool
 
 /// The response on a client's first bidirectional stream, where a connect goes on.
 fn response(d: &mut Driver, s: &SessionTable) -> Result<ResponseWalk, OutOfMemory>
-    ensures log { (side : Side) (log : Log) (taken : ℕ) → Follows side d.old log taken → KeepsCalls s.now (calls_of log) → IsReachable side log → OnOk result (Follows side d.new log taken) }
-    ensures walk { (side : Side) (log : Log) (taken : ℕ) → Follows side d.old log taken → KeepsCalls s.now (calls_of log) → IsReachable side log → IfOk result (λ walk. KnowsResponse side log walk) }
+    ensures log { (side : Side) (log : Log) (taken : ℕ) → Follows side d.old log taken → KeepsCalls s.now (calls_of log)
+        → IsReachable side log → OnOk result (Follows side d.new log taken) }
+    ensures walk { (side : Side) (log : Log) (taken : ℕ) → Follows side d.old log taken → KeepsCalls s.now (calls_of log)
+        → IsReachable side log → IfOk result (λ walk. KnowsResponse side log walk) }
 {
     if is_connecting(s.handshake()) {
         let id = StreamId::new(VarInt::from_u32(0));
         return d.response(id);
     }
-    Ok(ResponseWalk::Waiting)
+    Ok(ResponseWalk::Incomplete)
 }
 
 /// The plan of a call, by the log.
@@ -82,7 +84,9 @@ fn planned_call(
     walk: ResponseWalk,
     call: &Call,
 ) -> Result<Plan, OutOfMemory>
-    ensures { (side : Side) (log : Log) (taken : ℕ) → Follows side d.now log taken → KeepsCalls s.now (calls_of log) → KeepsRequestEnd side log s.now.request_end → IsReachable side log → may_call side log call.now ≡ true → KnowsResponse side log walk
+    ensures { (side : Side) (log : Log) (taken : ℕ) → Follows side d.now log taken → KeepsCalls s.now (calls_of log)
+        → KeepsRequestEnd side log s.now.request_end → IsReachable side log → may_call side log call.now ≡ true
+        → KnowsResponse side log walk
         → IfOk result (λ p. defined_plan p ≡ plan_of (facts_of side log) (session_state log) call.now) }
 {
     plans::plan(alloc, d.inbox().transport(), d, s, walk, call)
@@ -111,7 +115,9 @@ fn delivers_request(plan: &Plan) -> bool
 
 /// Where the delivered request ends, once this plan is performed.
 fn request_end(d: &Driver, s: &SessionTable, plan: &Plan) -> usize
-    ensures { (side : Side) (log : Log) (taken : ℕ) (call : Call) → Follows side d.now log taken → KeepsRequestEnd side log s.now.request_end → IsReachable side log → may_call side log call ≡ true → defined_plan plan.now ≡ plan_of (facts_of side log) (session_state log) call
+    ensures { (side : Side) (log : Log) (taken : ℕ) (call : Call) → Follows side d.now log taken
+        → KeepsRequestEnd side log s.now.request_end → IsReachable side log → may_call side log call ≡ true
+        → defined_plan plan.now ≡ plan_of (facts_of side log) (session_state log) call
         → KeepsRequestEnd side (call_effect side log call).log result }
 {
     let (_, kept) = s.requested();

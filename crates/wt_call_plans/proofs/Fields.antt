@@ -12,7 +12,7 @@ ahead_at name [] i f a h e = absurd cc
 ahead_at name (g ∷ fields) zero f a h e = let same : g ≡ f = cc in let P : List ℕ × List ℕ → Type 0 = λ x. compare_names name x.0 ≡ Less in subst P same a
 ahead_at name (g ∷ fields) (suc i) f a h e = nat_list_cmp_total.trans (sort_key name) (sort_key g.0) (sort_key f.0) a (ahead_at g.0 fields i f h.0 h.3 e)
 
--- the field at an index goes behind those before it
+-- the field at an index goes after those before it
 pub put_next : (fields : Fields) (i : ℕ) (f : List ℕ × List ℕ) → IsHeaderList fields → slice_get fields i ≡ Some f → with_field f.0 f.1 (take i fields) ≡ take (i + 1) fields
 put_next [] i f h e = absurd cc
 put_next (g ∷ fields) zero f h e = let same : f ≡ g = cc in ap (λ (x : List ℕ × List ℕ). x ∷ []) same

@@ -25,13 +25,13 @@ pub delivered_first : (f : CallFacts) (requests : List Classified) (id : ℕ) (f
     → ((c : Classified) (later : List Classified) → c.id ≡ id → request_fields_of c.verdict ≡ fields → p ≡ delivery f (c ∷ later)) → p ≡ delivery f requests
 delivered_first f [] id fields at p q e g = absurd cc
 delivered_first f (c ∷ later) id fields at p q e g =
-    let found : Some (c.id, q.fields, q.at) ≡ Some (id, fields, at) = sym (ap (request_in c.id) q.verdict) ∙ e in
-    let told : (c.id, q.fields, q.at) ≡ (id, fields, at) = cc in
-    g c later (ap (λ (x : ℕ × Fields × ℕ). x.0) told) (ap request_fields_of q.verdict ∙ ap (λ (x : ℕ × Fields × ℕ). x.1) told)
+    let found : Some (c.id, q.fields, q.offset) ≡ Some (id, fields, at) = sym (ap (request_in c.id) q.verdict) ∙ e in
+    let reported : (c.id, q.fields, q.offset) ≡ (id, fields, at) = cc in
+    g c later (ap (λ (x : ℕ × Fields × ℕ). x.0) reported) (ap request_fields_of q.verdict ∙ ap (λ (x : ℕ × Fields × ℕ). x.1) reported)
 
 pub delivered_none : (f : CallFacts) (requests : List Classified) (p : Plan) → FirstIsRequest requests → first_request requests ≡ None → p ≡ delivery f [] → p ≡ delivery f requests
 delivered_none f [] p q e g = g
-delivered_none f (c ∷ later) p q e g = absurd (let found : Some (c.id, q.fields, q.at) ≡ None = sym (ap (request_in c.id) q.verdict) ∙ e in cc)
+delivered_none f (c ∷ later) p q e g = absurd (let found : Some (c.id, q.fields, q.offset) ≡ None = sym (ap (request_in c.id) q.verdict) ∙ e in cc)
 
 -- ---- a server's response
 
@@ -80,17 +80,17 @@ module _ (t : TransportState) (d : DriverAnswers) (reserved : Option (List ℕ))
       → IfOk r (λ p. defined_plan p ≡ continued_connect (facts_now t d) reserved head)
   connected_on fact r n e = else-so r (wait_plan (facts_now t d) (loss_or_local t.loss)) Goes (is_some t.datagram_fact) (ap is_some n) e
 
-  pub settled : (r : Result code.Plan OutOfMemory) → d.settings_came ≡ true → IfOk r (λ p. defined_plan p ≡ request_unless (facts_now t d) reserved head)
+  pub with_settings : (r : Result code.Plan OutOfMemory) → d.settings_came ≡ true → IfOk r (λ p. defined_plan p ≡ request_unless (facts_now t d) reserved head)
       → IfOk r (λ p. defined_plan p ≡ (if d.settings_came then request_unless (facts_now t d) reserved head else wait_plan (facts_now t d) d.driver_error))
-  settled r n e = then-so r (request_unless (facts_now t d) reserved head) (wait_plan (facts_now t d) d.driver_error) d.settings_came n e
+  with_settings r n e = then-so r (request_unless (facts_now t d) reserved head) (wait_plan (facts_now t d) d.driver_error) d.settings_came n e
 
-  pub unsettled : (p : Plan) → d.settings_came ≡ false → p ≡ wait_plan (facts_now t d) d.driver_error
+  pub without_settings : (p : Plan) → d.settings_came ≡ false → p ≡ wait_plan (facts_now t d) d.driver_error
       → p ≡ (if d.settings_came then request_unless (facts_now t d) reserved head else wait_plan (facts_now t d) d.driver_error)
-  unsettled p n e = otherwise p (request_unless (facts_now t d) reserved head) (wait_plan (facts_now t d) d.driver_error) d.settings_came n e
+  without_settings p n e = otherwise p (request_unless (facts_now t d) reserved head) (wait_plan (facts_now t d) d.driver_error) d.settings_came n e
 
 -- ---- a handshake goes on
 
 module _ (f : CallFacts) (s : SessionState) where
   -- with what it is at
-  pub goes_on : (h : HandshakeState) (r : Result code.Plan OutOfMemory) → h ≡ s.handshake → IfOk r (λ p. defined_plan p ≡ continued_by h f s) → IfOk r (λ p. defined_plan p ≡ continued_by s.handshake f s)
-  goes_on h r e g = subst (λ (x : HandshakeState). IfOk r (λ p. defined_plan p ≡ continued_by x f s)) e g
+  pub still_going : (h : HandshakeState) (r : Result code.Plan OutOfMemory) → h ≡ s.handshake → IfOk r (λ p. defined_plan p ≡ continued_by h f s) → IfOk r (λ p. defined_plan p ≡ continued_by s.handshake f s)
+  still_going h r e g = subst (λ (x : HandshakeState). IfOk r (λ p. defined_plan p ≡ continued_by x f s)) e g

@@ -4,7 +4,7 @@ use Rattle.wt_driver_spec.specs.DriverState.{DriverState, requests_now}
 use Rattle.wt_table.specs.Table.{TableValue}
 use Rattle.wt_proto.specs.declared.verdict.Verdict.TheVariants as verdicts
 use Rattle.wt_seam.specs.State.{TransportState}
-use Rattle.wt_call_plans.specs.Kept.{IsSessionStream, OnSessionStream, SendingThere}
+use Rattle.wt_call_plans.specs.StreamsThere.{IsSessionStream, OnSessionStream, SendingThere}
 use Rattle.wt_session_spec.specs.SessionState.{is_answering}
 use Rattle.wt_spec.specs.Handshake.{Connecting, HandshakeState, awaits_answer}
 use Rattle.wt_spec.specs.StreamTable.{Classified}
@@ -18,8 +18,8 @@ use Rattle.wt_wire.specs.declared.side.Side.TheVariants.{Client}
 pub record IsRequest (c : Classified) : Type 0 where
   pub stream : IsSessionStream c.id
   pub fields : Fields
-  pub at : ℕ
-  pub verdict : c.verdict ≡ verdicts.Request fields at
+  pub offset : ℕ
+  pub verdict : c.verdict ≡ verdicts.Request fields offset
 
 -- so does the first of these, where there is one
 abbrev pub FirstIsRequest : List Classified → Type 0

@@ -3,7 +3,7 @@ ghost use Rattle.std.specs.Prelude.{◌≡◌, Bool, IfOk};
 ghost use Rattle.wt_plan.specs.DriverAnswers.{answers_now};
 ghost use Rattle.wt_plan.specs.FactsNow.{facts_now};
 ghost use Rattle.wt_plan.specs.Planned.{defined_plan};
-ghost use Rattle.wt_plan.specs.Tells.{session_of_table};
+ghost use Rattle.wt_plan.specs.PlansAgree.{session_of_table};
 ghost use Rattle.wt_call_plans.specs.MayPlan.{MayPlan};
 ghost use Rattle.wt_session_spec.specs.Plans.{plan_of};
 
@@ -34,7 +34,9 @@ pub fn plan(
     walk: ResponseWalk,
     call: &Call,
 ) -> Result<Plan, OutOfMemory>
-    ensures { (first : Bool) → MayPlan t.now d.now.state s.now call.now → IfOk result (λ p. defined_plan p ≡ plan_of (facts_now t.now (answers_now t.now d.now.state first s.now.request_end walk)) (session_of_table s.now) call.now) }
+    ensures { (first : Bool) → MayPlan t.now d.now.state s.now call.now
+        → IfOk result (λ p. defined_plan p
+        ≡ plan_of (facts_now t.now (answers_now t.now d.now.state first s.now.request_end walk)) (session_of_table s.now) call.now) }
 {
     let session = facts::established(d);
     match call {

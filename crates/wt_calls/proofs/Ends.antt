@@ -7,16 +7,16 @@ use Rattle.wt_dispatch.specs.Requests.{first_request, request_as}
 use Rattle.wt_driver_state.specs.Tie.{Follows, untaken_since}
 use Rattle.wt_laws.specs.Reachable.{IsReachable}
 use Rattle.wt_driver_spec.specs.DriverState.{requests_now}
-use Rattle.wt_plan.specs.Tells.{KeepsRequestEnd}
+use Rattle.wt_plan.specs.PlansAgree.{KeepsRequestEnd}
 use Rattle.wt_session_spec.specs.CallFacts.{facts_of}
 use Rattle.wt_session_spec.specs.Plan.{Plan, Step}
 use Rattle.wt_session_spec.specs.Plans.{plan_of}
 use Rattle.wt_session_spec.specs.SessionState.{session_state}
 use Rattle.wt_spec.specs.Answers.{call_effect, may_call}
 use Rattle.wt_spec.specs.Handshake.{queued_requests, requested_by}
-use Rattle.wt_told.proofs.DriverTheorems.{requests_theorem, told_end_theorem}
-use Rattle.wt_told.proofs.Theorems.{first_request_theorem, stays_theorem}
-use Rattle.wt_told.specs.Delivering.{delivers_request}
+use Rattle.wt_agreement.proofs.DriverTheorems.{requests_theorem, told_end_theorem}
+use Rattle.wt_agreement.proofs.Theorems.{first_request_theorem, stays_theorem}
+use Rattle.wt_agreement.specs.Delivering.{delivers_request}
 use Rattle.wt_turn.specs.Log.{CallRecord, Log, RequestDelivered}
 use Rattle.wt_turn.specs.declared.action.Action.{Action}
 use Rattle.wt_turn.specs.declared.call.Call.{Call}
@@ -36,9 +36,9 @@ module _ (side : Side) (d : DriverValue) (log : Log) (taken : ℕ) (f : Follows 
   told-by _ e t id fields at n = absurd (cc)
 
   -- it ends where the driver tells
-  pub told_end : (p : Plan) → p ≡ plan_of (facts_of side log) (session_state log) call → delivers_request p ≡ true → (told : ℕ × Bor Fields × ℕ) (result : Option (ℕ × Bor Fields × ℕ))
-      → request_as result ≡ first_request (requests_now d.state) → result ≡ Some told → KeepsRequestEnd side (call_effect side log call).log told.2
-  told_end p e t told result n is = told-by p (sym e) t told.0 told.1.now told.2 (sym n ∙ ap request_as is)
+  pub told_end : (p : Plan) → p ≡ plan_of (facts_of side log) (session_state log) call → delivers_request p ≡ true → (reported : ℕ × Bor Fields × ℕ) (result : Option (ℕ × Bor Fields × ℕ))
+      → request_as result ≡ first_request (requests_now d.state) → result ≡ Some reported → KeepsRequestEnd side (call_effect side log call).log reported.2
+  told_end p e t reported result n is = told-by p (sym e) t reported.0 reported.1.now reported.2 (sym n ∙ ap request_as is)
 
   none-by : (p : Plan) → plan_of (facts_of side log) (session_state log) call ≡ p → delivers_request p ≡ true → requests_now d.state ≡ [] → ⊥
   none-by (Step own (RequestDelivered k) reply) e t n =

@@ -12,13 +12,13 @@ use Rattle.wt_seam.specs.State.{TransportState}
 use Rattle.wt_seam_spec.specs.Acting.{MayAct, MayActAll}
 use Rattle.wt_seam_spec.specs.Reports.{datagrams_of}
 use Rattle.wt_seam_spec.specs.Streams.{peer_count}
-use Rattle.wt_calls.specs.Given.{with_given}
+use Rattle.wt_calls.specs.GivingCalls.{with_given}
 use Rattle.wt_session_acts.specs.Performing.{MaySendAll}
 use Rattle.wt_spec.specs.Connection.{accept_stream, receive_datagram}
 use Rattle.wt_spec.specs.Driver.{log_and_flush}
 use Rattle.wt_spec.specs.Effect.{Effect, log_call, pending_or_failed}
-use Rattle.wt_told.proofs.DriverTheorems.{pending_theorem}
-use Rattle.wt_told.proofs.Theorems.{given_theorem, logged_theorem, passed_theorem, received_theorem}
+use Rattle.wt_agreement.proofs.DriverTheorems.{pending_theorem}
+use Rattle.wt_agreement.proofs.Theorems.{given_theorem, logged_theorem, passed_theorem, received_theorem}
 use Rattle.wt_turn.specs.Log.{CallRecord, Called, Log, Polled, Sent, StreamAccepted, calls_of, events_of, with_actions}
 use Rattle.wt_turn.specs.declared.action.Action.{Action}
 use Rattle.wt_error.specs.declared.connection_error.ConnectionError.{ConnectionError}
@@ -46,10 +46,10 @@ pending_now side d log taken f = pending_theorem side d log (untaken_since taken
 pub failed_now : (side : Side) (d : DriverValue) (log : Log) (taken : ℕ) → Follows side d log taken → (t : TransportState) → t ≡ d.inbox.transport → t.is_open ≡ false
     → (e : ConnectionError) → e ≡ error_now t d.state.progress.ending → replies.Failed e ≡ pending_or_failed side log
 failed_now side d log taken f t same closed e is =
-    let told = replies.Failed (error_now d.inbox.transport d.state.progress.ending) in
+    let reported = replies.Failed (error_now d.inbox.transport d.state.progress.ending) in
     let ended : d.inbox.transport.is_open ≡ false = sym (ap (λ (x : TransportState). x.is_open) same) ∙ closed in
     ap replies.Failed (is ∙ ap (λ (x : TransportState). error_now x d.state.progress.ending) same)
-    ∙ sym (pending_now side d log taken f ∙ ap (λ (b : Bool). if b then replies.Pending else told) ended)
+    ∙ sym (pending_now side d log taken f ∙ ap (λ (b : Bool). if b then replies.Pending else reported) ended)
 
 -- a poll changes nothing in a table
 unpolled : (t : TableValue) (calls : List CallRecord) → KeepsCalls t (Polled ∷ calls) → KeepsCalls t calls
@@ -137,12 +137,12 @@ pub all_out : (side : Side) (d : DriverValue) (log : Log) (taken : ℕ) (own don
 all_out side d log taken own done [] e n f = subst (λ (all : List Action). Follows side d (with_actions all log) taken) (sym (e ∙ append-nil done)) f
 all_out side d log taken own done (a ∷ left) e n f = absurd (cc)
 
--- it may go out behind those before it
+-- it may go out after those before it
 pub may_next : (side : Side) (done : List Action) (a : Action) (left : List Action) (log : Log) → MaySendAll side log (done ++ a ∷ left)
     → MayAct side (with_actions done log) a × SparesControl side (with_actions done log) a
 may_next side done a left log m = (may-next side done a left log m.act, spares-next side done a left log m.spares)
 
--- one more in front of the rest is one more behind
+-- one more in front of the rest is one more at the end
 pub one_behind : (front back : List Action) (a : Action) → front ++ (a ∷ back) ≡ (front ++ a ∷ []) ++ back
 one_behind [] back a = refl
 one_behind (b ∷ front) back a = ap (λ (all : List Action). b ∷ all) (one_behind front back a)

@@ -8,7 +8,7 @@ use Rattle.wt_laws.specs.Reachable.{IsReachable}
 use Rattle.wt_reached.proofs.Handshaking.{Reached, reached-holds}
 use Rattle.wt_reached.proofs.There.{request-bi}
 use Rattle.wt_seam_spec.specs.Streams.{local_bi, peer_bi}
-use Rattle.wt_call_plans.specs.Kept.{IsSessionStream, OnSessionStream}
+use Rattle.wt_call_plans.specs.StreamsThere.{IsSessionStream, OnSessionStream}
 use Rattle.wt_call_plans.specs.MayPlan.{FirstIsRequest}
 use Rattle.wt_session_spec.specs.CallFacts.{facts_of}
 use Rattle.wt_session_spec.specs.HandshakePlans.{delivery}
@@ -19,7 +19,7 @@ use Rattle.wt_spec.specs.Answers.{call_effect, is_client, is_first, may_call}
 use Rattle.wt_spec.specs.Driver.{delivers, established_session}
 use Rattle.wt_spec.specs.Handshake.{HandshakeState, Requested, Responding, deliver, handshake_state, queued_requests, request_fields_of, requested_stream}
 use Rattle.wt_spec.specs.StreamTable.{Classified}
-use Rattle.wt_told.proofs.Theorems.{call_reached_theorem, first_request_theorem, logged_theorem}
+use Rattle.wt_agreement.proofs.Theorems.{call_reached_theorem, first_request_theorem, logged_theorem}
 use Rattle.wt_turn.specs.Log.{CallRecord, Log, RequestDelivered, calls_of}
 use Rattle.wt_turn.specs.declared.call.Call.TheVariants as calls
 use Rattle.wt_reply.specs.declared.reply.Reply.TheVariants as replies
@@ -85,4 +85,4 @@ module _ (side : Side) (log : Log) (r : IsReachable side log) (may : may_call si
       let first = first_request_theorem side log calls.Incoming [] c.id _ may (plans c later e) in
       let both : c ∷ later ≡ first.queued ∷ first.later = sym e ∙ first.first in
       let same : c ≡ first.queued = cc in
-      record { stream = queued-on c later e; fields = first.headers; at = first.at; verdict = ap (λ (x : Classified). x.verdict) same ∙ first.verdict }
+      record { stream = queued-on c later e; fields = first.headers; offset = first.offset; verdict = ap (λ (x : Classified). x.verdict) same ∙ first.verdict }

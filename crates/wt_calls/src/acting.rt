@@ -1,13 +1,13 @@
 //! What a call leads to over a driver alone: its actions, its record, and what an accept or a receive gives.
 ghost use Rattle.std.specs.Prelude.{◌≡◌, IfOk, OnOk, ℕ};
 ghost use Rattle.wt_driver_state.specs.OfLog.{FollowsIfOk, OfEachLog, Tells};
-ghost use Rattle.wt_driver_state.specs.Given.{given_by, payload_by};
+ghost use Rattle.wt_driver_state.specs.PollResults.{given_by, payload_by};
 ghost use Rattle.wt_driver_state.specs.Tie.{Follows};
 ghost use Rattle.wt_driver_spec.specs.Asking.{MayBeCalled};
 ghost use Rattle.wt_driver_spec.specs.Due.{accept_outcome, reply_or};
 ghost use Rattle.wt_plan.specs.Planned.{defined_plan};
 ghost use Rattle.wt_seam_spec.specs.Streams.{peer_bi, peer_uni};
-ghost use Rattle.wt_calls.specs.Given.{given_in, poll_reply, wait_reply};
+ghost use Rattle.wt_calls.specs.GivingCalls.{given_in, poll_reply, wait_reply};
 ghost use Rattle.wt_session_acts.specs.Performing.{MayPerform, MaySendAll};
 ghost use Rattle.wt_session_spec.specs.Plan.{perform};
 ghost use Rattle.wt_session_spec.specs.Plan as session;
@@ -42,7 +42,8 @@ use wt_wire::ids::{SessionId, StreamId};
 ///
 /// `OutOfMemory` where one of them found no memory.
 pub fn act_all(d: &mut Driver, own: Vec<Action>) -> Result<(), OutOfMemory>
-    ensures log { OfEachLog d.old (λ side log taken. MaySendAll side log own.items → OnOk result (Follows side d.new (with_actions own.items log) taken)) }
+    ensures log { OfEachLog d.old (λ side log taken. MaySendAll side log own.items
+        → OnOk result (Follows side d.new (with_actions own.items log) taken)) }
 {
     for action in own {
         d.act(action)?;
@@ -56,11 +57,12 @@ pub fn act_all(d: &mut Driver, own: Vec<Action>) -> Result<(), OutOfMemory>
 ///
 /// `OutOfMemory` where an action or the record found no memory.
 pub fn step(d: &mut Driver, own: Vec<Action>, call: &Record) -> Result<(), OutOfMemory>
-    ensures log { OfEachLog d.old (λ side log taken. MaySendAll side log own.items → MayBeCalled side (with_actions own.items log) (record_of call.now)
+    ensures log { OfEachLog d.old (λ side log taken. MaySendAll side log own.items
+        → MayBeCalled side (with_actions own.items log) (record_of call.now)
         → OnOk result (Follows side d.new (log_call side log own.items (record_of call.now)) taken)) }
 {
     act_all(d, own)?;
-    d.called(call)
+    d.record_call(call)
 }
 
 /// A poll is recorded.
@@ -68,7 +70,7 @@ pub fn step(d: &mut Driver, own: Vec<Action>, call: &Record) -> Result<(), OutOf
 fn poll(d: &mut Driver) -> Result<(), OutOfMemory>
     ensures log { FollowsIfOk result d.old d.new (λ side log. log_and_flush side log (Called Polled)) }
 {
-    d.called(&Record::Polled)
+    d.record_call(&Record::Polled)
 }
 
 /// These actions go out, the session is established, and told.
@@ -80,11 +82,16 @@ pub fn establish(
     d: &mut Driver,
     own: Vec<Action>,
     id: SessionId,
-    at: usize,
+    offset: usize,
 ) -> Result<(), OutOfMemory>
-    ensures log { OfEachLog d.old (λ side log taken. MayPerform side log (session.Establish own.items id at) → OnOk result (Follows side d.new (perform side log (session.Establish own.items id at)).log taken)) }
+    ensures log { OfEachLog d.old (λ side log taken. MayPerform side log (session.Establish own.items id offset)
+        → OnOk result (Follows side d.new (perform side log (session.Establish own.items id offset)).log taken)) }
 {
-    step(d, own, &Record::SessionEstablished(id.session_stream(), at))?;
+    step(
+        d,
+        own,
+        &Record::SessionEstablished(id.session_stream(), offset),
+    )?;
     poll(d)
 }
 
@@ -118,7 +125,8 @@ fn accept_answer(
     d: &Driver,
     given: Option<StreamId>,
 ) -> Result<Poll<Result<StreamId, ConnectionError>>, OutOfMemory>
-    ensures reply { (kind : ℕ → Reply) (side : Side) (log : Log) (taken : ℕ) → Follows side d.now log taken → IfOk result (λ p. poll_reply kind p ≡ reply_or kind (pending_or_failed side log) given) }
+    ensures reply { (kind : ℕ → Reply) (side : Side) (log : Log) (taken : ℕ) → Follows side d.now log taken
+        → IfOk result (λ p. poll_reply kind p ≡ reply_or kind (pending_or_failed side log) given) }
     ensures given { IfOk result (λ p. given_in p ≡ given) }
 {
     match given {
@@ -140,7 +148,8 @@ pub fn accept_uni(
     d: &mut Driver,
     session: SessionId,
 ) -> Result<Poll<Result<StreamId, ConnectionError>>, OutOfMemory>
-    ensures reply { Tells d.old (λ side log. IfOk result (λ p. poll_reply replies.Uni p ≡ (accept_stream side replies.Uni (peer_uni side) log session).reply)) }
+    ensures reply { Tells d.old (λ side log. IfOk result (λ p. poll_reply replies.Uni p
+        ≡ (accept_stream side replies.Uni (peer_uni side) log session).reply)) }
     ensures log { FollowsIfOk result d.old d.new (λ side log. (accept_stream side replies.Uni (peer_uni side) log session).log) }
     ensures given { Tells d.old (λ side log. IfOk result (λ p. given_in p ≡ (accept_outcome side (peer_uni side) log session).given)) }
 {
@@ -160,7 +169,8 @@ pub fn accept_bi(
     d: &mut Driver,
     session: SessionId,
 ) -> Result<Poll<Result<StreamId, ConnectionError>>, OutOfMemory>
-    ensures reply { Tells d.old (λ side log. IfOk result (λ p. poll_reply replies.Bi p ≡ (accept_stream side replies.Bi (peer_bi side) log session).reply)) }
+    ensures reply { Tells d.old (λ side log. IfOk result (λ p. poll_reply replies.Bi p
+        ≡ (accept_stream side replies.Bi (peer_bi side) log session).reply)) }
     ensures log { FollowsIfOk result d.old d.new (λ side log. (accept_stream side replies.Bi (peer_bi side) log session).log) }
     ensures given { Tells d.old (λ side log. IfOk result (λ p. given_in p ≡ (accept_outcome side (peer_bi side) log session).given)) }
 {
@@ -192,7 +202,8 @@ fn receive_answer(
     d: &Driver,
     payload: Option<Piece>,
 ) -> Result<Poll<Result<Piece, ConnectionError>>, OutOfMemory>
-    ensures { Tells d.now (λ side log. IfOk result (λ p. poll_reply replies.Datagram p ≡ reply_or replies.Datagram (pending_or_failed side log) payload)) }
+    ensures { Tells d.now (λ side log. IfOk result (λ p. poll_reply replies.Datagram p
+        ≡ reply_or replies.Datagram (pending_or_failed side log) payload)) }
 {
     match payload {
         Some(payload) => Ok(Poll::Ready(Ok(payload))),
@@ -264,15 +275,16 @@ pub fn datagram_reply(answer: Poll<Result<Piece, ConnectionError>>) -> Reply
 /// `OutOfMemory` where a part of it found no memory.
 pub fn perform(alloc: Global, d: &mut Driver, plan: Plan) -> Result<Reply, OutOfMemory>
     ensures reply { Tells d.old (λ side log. IfOk result (λ r. r ≡ (perform side log (defined_plan plan)).reply)) }
-    ensures log { OfEachLog d.old (λ side log taken. MayPerform side log (defined_plan plan) → OnOk result (Follows side d.new (perform side log (defined_plan plan)).log taken)) }
+    ensures log { OfEachLog d.old (λ side log taken. MayPerform side log (defined_plan plan)
+        → OnOk result (Follows side d.new (perform side log (defined_plan plan)).log taken)) }
 {
     match plan {
         Plan::Step { own, call, reply } => {
             step(d, own, &call)?;
             Ok(reply)
         }
-        Plan::Establish { own, id, at } => {
-            establish(d, own, id, at)?;
+        Plan::Establish { own, id, offset } => {
+            establish(d, own, id, offset)?;
             Ok(Reply::Session(id))
         }
         Plan::AcceptUni(session) => Ok(uni_reply(accept_uni(alloc, d, session)?)),

@@ -32,7 +32,7 @@ impl Case {
         Ok(self.is_answer(status, sink.taken()))
     }
 
-    /// Tells whether this is the recorded answer, and no fault and no want of memory.
+    /// Tells whether this is the recorded answer, and no fault, nor out of memory.
     fn is_answer(&self, status: u8, text: &[u8]) -> bool
         ensures whole { IsTrue result → is_cut_short status ≡ false }
         ensures status { IsTrue result → status ≡ self.now.status }

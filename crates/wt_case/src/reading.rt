@@ -1,5 +1,5 @@
-//! The form of the data: a line `case STATUS WORD..` begins a case, the lines of its script stand behind
-//! `>` and those of its text behind `<`. A backslash and two hexadecimal digits are a byte; a backslash
+//! The form of the data: a line `case STATUS WORD..` begins a case, the lines of its script stand after
+//! `>` and those of its text after `<`. A backslash and two hexadecimal digits are a byte; a backslash
 //! at a line's end says that no line feed follows there.
 use crate::case::Case;
 use std::alloc::Global;

@@ -8,7 +8,7 @@ pub bytes_more : (number count : ℕ) (front : List ℕ) →
     (front ++ counted_bytes number count) ++ ((number + count) % 256) ∷ [] ≡ front ++ counted_bytes number (count + 1)
 bytes_more number count front =
     append_assoc front (counted_bytes number count) _
-    ∙ ap (λ xs. front ++ xs) (sym (map-range_with_len_more (λ place. (number + place) % 256) 0 count count (omega arith)))
+    ∙ ap (λ xs. front ++ xs) (sym (map-range_with_len_more (λ index. (number + index) % 256) 0 count count (omega arith)))
 
 length_of_streams : (streams : ℕ) → length (all_stream_turns streams) ≡ 6 * streams
 length_of_streams zero = refl

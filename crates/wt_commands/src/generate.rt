@@ -122,8 +122,8 @@ fn stream_piece(alloc: Global, number: u32) -> Result<Piece, OutOfMemory>
     ensures { IfOk result (λ piece. piece ≡ stream_bytes number) }
 {
     let mut bytes = Vec::from_array(alloc, [0x40, 0x54, 0x00])?;
-    for place in 0..number % 100 + 1 {
-        bytes.push(((number + place) % 256) as u8)?;
+    for index in 0..number % 100 + 1 {
+        bytes.push(((number + index) % 256) as u8)?;
     }
     Ok(Piece::from_vec(bytes))
 }

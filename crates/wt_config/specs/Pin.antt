@@ -49,10 +49,10 @@ is_pinned pins der facts = is_pinnable facts && set.contains pins (sha256 der)
 
 -- why a decoded certificate is refused at a moment of the years up to 9999, if it is
 abbrev pub refusal_within : Pins → List ℕ → Option CertFacts → ℤ → Option PinRefusal
-refusal_within pins der None moment = Some BadEncoding
-refusal_within pins der (Some facts) moment =
-    if int_lt moment facts.not_before then Some NotValidYet
-    else if int_lt facts.not_after moment then Some Expired
+refusal_within pins der None seconds = Some BadEncoding
+refusal_within pins der (Some facts) seconds =
+    if int_lt seconds facts.not_before then Some NotValidYet
+    else if int_lt facts.not_after seconds then Some Expired
     else if is_pinned pins der facts then None
     else Some UnknownIssuer
 

@@ -123,11 +123,11 @@ impl ServerHashVerification {
         let Some(facts) = facts else {
             return Err(PinRefusal::BadEncoding);
         };
-        let moment = now as i64;
-        if moment < facts.not_before {
+        let seconds = now as i64;
+        if seconds < facts.not_before {
             return Err(PinRefusal::NotValidYet);
         }
-        if moment > facts.not_after {
+        if seconds > facts.not_after {
             return Err(PinRefusal::Expired);
         }
         if self.accepts(der, facts) {

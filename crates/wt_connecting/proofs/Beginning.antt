@@ -21,7 +21,7 @@ use Rattle.wt_spec.specs.Answers.{call_effect, may_call}
 use Rattle.wt_spec.specs.Connect.{dial, request_head, reserved_name}
 use Rattle.wt_spec.specs.Effect.{Effect, log_call, reply_with}
 use Rattle.wt_spec.specs.Handshake.{handshake_state}
-use Rattle.wt_told.proofs.Theorems.{logged_theorem}
+use Rattle.wt_agreement.proofs.Theorems.{logged_theorem}
 use Rattle.wt_turn.specs.Log.{ConnectStarted, HandshakeOver, Log, calls_of, with_actions}
 use Rattle.wt_turn.specs.declared.action.Action.TheVariants as actions
 use Rattle.wt_turn.specs.declared.call.Call.TheVariants as calls

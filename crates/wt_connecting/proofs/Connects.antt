@@ -13,7 +13,7 @@ use Rattle.wt_plan.proofs.PlansSame.{connect-same}
 use Rattle.wt_plan.specs.DriverAnswers.{answers_now, error_now}
 use Rattle.wt_plan.specs.FactsNow.{DriverAnswers, facts_now}
 use Rattle.wt_plan.specs.Planned.{defined_plan}
-use Rattle.wt_plan.specs.Tells.{TellsFacts, driver_facts}
+use Rattle.wt_plan.specs.PlansAgree.{TellsFacts, driver_facts}
 use Rattle.wt_plan.specs.declared.plan.Plan as code
 use Rattle.wt_proto.specs.ResponseWalk.{response_walk_of}
 use Rattle.wt_proto.specs.declared.response_walk.ResponseWalk.{ResponseWalk}
@@ -34,8 +34,8 @@ use Rattle.wt_spec.specs.Answers.{call_effect, is_first, may_call}
 use Rattle.wt_spec.specs.Effect.{Effect, is_empty, log_call}
 use Rattle.wt_spec.specs.Handshake.{HandshakeState, handshake_state, has_success, is_continuable}
 use Rattle.wt_spec.specs.Handshake as handshake
-use Rattle.wt_told.proofs.DriverTheorems.{drivers_tell_theorem}
-use Rattle.wt_told.proofs.Theorems.{logged_theorem}
+use Rattle.wt_agreement.proofs.DriverTheorems.{drivers_tell_theorem}
+use Rattle.wt_agreement.proofs.Theorems.{logged_theorem}
 use Rattle.wt_turn.specs.Log.{CallRecord, HandshakeOver, Log, Polled, calls_of, events_of}
 use Rattle.wt_turn.specs.declared.action.Action.{Action}
 use Rattle.wt_turn.specs.declared.action.Action.TheVariants as actions
@@ -68,7 +68,7 @@ module _ (side : Side) (log : Log) (reach : IsReachable side log) (c : Connect) 
   awaits_response id z = record {
     role = ap (λ (x : Side). role_of x id) is_client_side ∙ ap (role_of Client) z;
     unestablished = connects.unestablished;
-    goes_on = ap (λ (k : ℕ). (use_of k (calls_of log)).is_over) (first-bi id z) ∙ connects.goes_on;
+    still_going = ap (λ (k : ℕ). (use_of k (calls_of log)).is_over) (first-bi id z) ∙ connects.still_going;
   }
 
   -- and what comes of it is what the log says
@@ -83,9 +83,9 @@ module _ (side : Side) (log : Log) (reach : IsReachable side log) (c : Connect) 
         → continued_connect (facts_now d.inbox.transport (answers_now d.inbox.transport d.state (is_first log) 0 walk)) c.reserved c.head ≡ continued_connect (facts_of side log) c.reserved c.head
     connect_by_log walk w =
         let answered : DriverAnswers = answers_now d.inbox.transport d.state (is_first log) 0 walk in
-        let tells : TellsFacts side log d.inbox.transport answered =
+        let says : TellsFacts side log d.inbox.transport answered =
         drivers_tell_theorem side d log (untaken_since taken log) (is_first log) 0 walk f.refines refl (λ a. absurd (connecting-answers-none side log c s a)) (λ r h e. w) reach in
-        ap (λ (x : CallFacts). continued_connect x c.reserved c.head) (facts-same side d.inbox.transport log tells.position tells.untaken tells.refines answered tells.answers tells.lawful)
+        ap (λ (x : CallFacts). continued_connect x c.reserved c.head) (facts-same side d.inbox.transport log says.position says.untaken says.refines answered says.answers says.lawful)
         ∙ connect-same (facts_of side log) 0 walk (unread_now d.inbox.transport) w c.reserved c.head
 
 -- ---- the call of a poll
@@ -115,7 +115,7 @@ module _ (f : CallFacts) where
   read-planned : (id : ℕ) (own : List Action) (w : ResponseWalk) → IsConnectPlan (response_read f id own w)
   read-planned id own (responses.Fault code) = refl
   read-planned id own responses.Ended = refl
-  read-planned id own responses.Waiting = either f.is_open (send_and_reply own replies.Pending) (failed_connect own (lost_connect f)) refl refl
+  read-planned id own responses.Incomplete = either f.is_open (send_and_reply own replies.Pending) (failed_connect own (lost_connect f)) refl refl
   read-planned id own (responses.Response fields at) =
       either (not (has_success fields)) (abandon_plan f own failures.SessionRejected) _ refl
       (either f.is_open (Establish own id at) (failed_connect own (failures.ConnectionError f.driver_error)) tt refl)
@@ -182,11 +182,11 @@ module _ (side : Side) (log : Log) (c : Connect) (s : IsConnecting log c) where
 
 module _ (p : Result code.Plan OutOfMemory) (side : Side) (log : Log) (c : Connect) (s : IsConnecting log c) where
   -- what is planned by what a driver keeps is planned by the log
-  pub planned_by_log : (d : DriverValue) (taken : ℕ) → Follows side d log taken → IsReachable side log → (t : TransportState) → t ≡ d.inbox.transport → (came : Bool) → came ≡ d.state.progress.settings
+  pub planned_by_log : (d : DriverValue) (taken : ℕ) → Follows side d log taken → IsReachable side log → (t : TransportState) → t ≡ d.inbox.transport → (has_come : Bool) → has_come ≡ d.state.progress.settings
       → (error : ConnectionError) → error ≡ error_now t d.state.progress.ending → (walk : ResponseWalk) → walk ≡ (driver_facts side log).response → (head : List ℕ) → head ≡ c.head
-      → ((f : DriverAnswers) → t.side ≡ Client → f.settings_came ≡ came → f.driver_error ≡ error → f.response ≡ walk → IfOk p (λ q. defined_plan q ≡ continued_connect (facts_now t f) c.reserved head))
+      → ((f : DriverAnswers) → t.side ≡ Client → f.settings_came ≡ has_come → f.driver_error ≡ error → f.response ≡ walk → IfOk p (λ q. defined_plan q ≡ continued_connect (facts_now t f) c.reserved head))
       → IfOk p (λ q. defined_plan q ≡ continued_connect (facts_of side log) c.reserved c.head)
-  planned_by_log d taken f reach t there came came_is error error_is walk walk_told head same g =
+  planned_by_log d taken f reach t there has_come came_is error error_is walk walk_told head same g =
       let now =
       g (answers_now d.inbox.transport d.state (is_first log) 0 walk) (ap (λ (u : TransportState). u.side) there ∙ side_now side log reach c s d taken f) (sym came_is)
       (ap (λ (u : TransportState). error_now u d.state.progress.ending) (sym there) ∙ sym error_is) refl in

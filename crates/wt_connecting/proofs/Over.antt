@@ -1,7 +1,7 @@
--- The end of a handshake, and the session that stands behind it.
+-- The end of a handshake, and the session that is established by it.
 use Rattle.std.specs.Prelude.{[], ◌∷◌, List, ℕ}
 use Rattle.std.proofs.Common.{◌∙◌, ap}
-use Rattle.wt_connection.specs.Standing.{IsEstablished}
+use Rattle.wt_connection.specs.TypesInLog.{IsEstablished}
 use Rattle.wt_driver_state.specs.DriverValue.{DriverValue}
 use Rattle.wt_driver_state.specs.Tie.{Follows}
 use Rattle.wt_driver_spec.specs.Asking.{MayBeCalled}
@@ -9,7 +9,7 @@ use Rattle.wt_session_acts.proofs.RecordsMay.{over-made}
 use Rattle.wt_session_spec.specs.Plan.{Establish, perform}
 use Rattle.wt_spec.specs.Driver.{established_session}
 use Rattle.wt_spec.specs.Effect.{log_call}
-use Rattle.wt_told.proofs.Theorems.{logged_theorem}
+use Rattle.wt_agreement.proofs.Theorems.{logged_theorem}
 use Rattle.wt_turn.specs.Log.{CallRecord, HandshakeOver, Log, Polled, SessionEstablished}
 use Rattle.wt_turn.specs.declared.action.Action.{Action}
 use Rattle.wt_wire.specs.declared.side.Side.{Side}

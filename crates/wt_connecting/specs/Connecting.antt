@@ -1,7 +1,7 @@
 -- A client's connect as it goes on (RFC 9220, section 3), and what its calls reply.
 use Rattle.std.specs.Prelude.{◌≡◌, Err, List, Ok, Option, Result, ℕ}
 use Rattle.wt_connect.specs.ConnectOptions.{Options}
-use Rattle.wt_connection.specs.Standing.{IsEstablished}
+use Rattle.wt_connection.specs.TypesInLog.{IsEstablished}
 use Rattle.wt_spec.specs.Handshake as handshake
 use Rattle.wt_turn.specs.Log.{Log, calls_of}
 use Rattle.wt_error.specs.declared.connecting_error.ConnectingError.{ConnectingError}

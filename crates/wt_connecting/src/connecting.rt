@@ -6,7 +6,7 @@ ghost use Rattle.wt_driver_spec.specs.Asking.{MayBeCalled};
 ghost use Rattle.wt_halves.specs.Answering.{LeadsOn, MayCall, RepliesTo, StandsBehind};
 ghost use Rattle.wt_laws.specs.Reachable.{IsReachable};
 ghost use Rattle.wt_plan.specs.Planned.{defined_plan};
-ghost use Rattle.wt_plan.specs.Tells.{driver_facts};
+ghost use Rattle.wt_plan.specs.PlansAgree.{driver_facts};
 ghost use Rattle.wt_proto.specs.declared.response_walk.ResponseWalk.{ResponseWalk};
 ghost use Rattle.wt_session_acts.specs.Performing.{MaySendAll};
 ghost use Rattle.wt_session_spec.specs.CallFacts.{facts_of};
@@ -45,7 +45,7 @@ use wt_wire::lookup::{ConnectOutcome, Lookup};
 use wt_wire::text::Text;
 use wt_wire::varint::VarInt;
 
-/// A client's connect, until the session stands. Contracts see the first name of a field that only
+/// A client's connect, until the session is established. Contracts see the first name of a field that only
 /// the session layer sets, and the frame of the request.
 #[derive(Debug, Drop)]
 pub struct Connecting {
@@ -94,8 +94,10 @@ fn connected(reply: Reply) -> Poll<Result<Connection, ConnectingError>>
 
 /// The response on the client's first bidirectional stream, as far as it came.
 fn response(d: &mut Driver) -> Result<ResponseWalk, OutOfMemory>
-    ensures log { (side : Side) (log : Log) (taken : ℕ) (c : Connect) → Follows side d.old log taken → IsReachable side log → IsConnecting log c → OnOk result (Follows side d.new log taken) }
-    ensures walk { (side : Side) (log : Log) (taken : ℕ) (c : Connect) → Follows side d.old log taken → IsReachable side log → IsConnecting log c → IfOk result (λ walk. walk ≡ (driver_facts side log).response) }
+    ensures log { (side : Side) (log : Log) (taken : ℕ) (c : Connect) → Follows side d.old log taken → IsReachable side log
+        → IsConnecting log c → OnOk result (Follows side d.new log taken) }
+    ensures walk { (side : Side) (log : Log) (taken : ℕ) (c : Connect) → Follows side d.old log taken → IsReachable side log
+        → IsConnecting log c → IfOk result (λ walk. walk ≡ (driver_facts side log).response) }
 {
     let id = StreamId::new(VarInt::from_u32(0));
     d.response(id)
@@ -133,8 +135,10 @@ impl Connecting {
         headers: &HeaderList,
         d: &mut Driver,
     ) -> Result<Connecting, OutOfMemory>
-        ensures connecting { IfOk result (λ c. c ≡ record { reserved = connects.reserved_name headers.now; head = connects.request_head target.authority target.path headers.now }) }
-        ensures log { (side : Side) (log : Log) (taken : ℕ) → Follows side d.old log taken → MaySendAll side log (actions.Dial target.address target.server_name ∷ [])
+        ensures connecting { IfOk result (λ c. c
+            ≡ record { reserved = connects.reserved_name headers.now; head = connects.request_head target.authority target.path headers.now }) }
+        ensures log { (side : Side) (log : Log) (taken : ℕ) → Follows side d.old log taken
+            → MaySendAll side log (actions.Dial target.address target.server_name ∷ [])
             → MayBeCalled side (with_actions (actions.Dial target.address target.server_name ∷ []) log) (ConnectStarted (connects.reserved_name headers.now) (connects.request_head target.authority target.path headers.now))
             → OnOk result (Follows side d.new (connects.dial side log target.server_name target.authority target.path headers.now target.address).log taken) }
     {
@@ -167,7 +171,7 @@ impl Connecting {
     ) -> Result<Result<Connecting, ConnectingError>, OutOfMemory>
         ensures reply { IfOk result (RepliesTo d.old (MayCall (connect_call options lookup outcome)) (connect_call options lookup outcome) beginning_reply) }
         ensures log { OnOk result (LeadsOn d.old (MayCall (connect_call options lookup outcome)) (connect_call options lookup outcome) d.new) }
-        ensures stands { IfOk result (λ r. StandsBehind d.old (MayCall (connect_call options lookup outcome)) (connect_call options lookup outcome) (λ side log. BeginsConnect log r)) }
+        ensures in_log { IfOk result (λ r. StandsBehind d.old (MayCall (connect_call options lookup outcome)) (connect_call options lookup outcome) (λ side log. BeginsConnect log r)) }
     {
         let target = connect_target(alloc, options.url(), lookup, outcome)?;
         match target {
@@ -177,7 +181,7 @@ impl Connecting {
                 Ok(Ok(connecting))
             }
             Err(error) => {
-                d.called(&Record::HandshakeOver)?;
+                d.record_call(&Record::HandshakeOver)?;
                 Ok(Err(error))
             }
         }
@@ -185,14 +189,15 @@ impl Connecting {
 
     /// What the next poll does, by the response as far as it came.
     fn plan(&self, alloc: Global, d: &Driver, walk: ResponseWalk) -> Result<Plan, OutOfMemory>
-        ensures { (side : Side) (log : Log) (taken : ℕ) → Follows side d.now log taken → IsReachable side log → IsConnecting log self.now → walk ≡ (driver_facts side log).response
+        ensures { (side : Side) (log : Log) (taken : ℕ) → Follows side d.now log taken → IsReachable side log → IsConnecting log self.now
+            → walk ≡ (driver_facts side log).response
             → IfOk result (λ p. defined_plan p ≡ plan_of (facts_of side log) (session_state log) calls.Handshake) }
     {
         let t = d.inbox().transport();
         let error = driver_error(alloc, t, d)?;
-        let came = d.have_settings_come();
+        let has_come = d.have_settings_come();
         let head = self.head.as_slice();
-        connect(alloc, t, &self.reserved, head, came, walk, error)
+        connect(alloc, t, &self.reserved, head, has_come, walk, error)
     }
 
     /// The connect goes on: the connection, then the peer's SETTINGS, then the request and its response.
@@ -210,7 +215,7 @@ impl Connecting {
     ) -> Result<Poll<Result<Connection, ConnectingError>>, OutOfMemory>
         ensures reply { IfOk result (RepliesTo d.old (HasConnect self.old) calls.Handshake connecting_reply) }
         ensures log { OnOk result (LeadsOn d.old (HasConnect self.old) calls.Handshake d.new) }
-        ensures stands { IfOk result (λ p. StandsBehind d.old (HasConnect self.old) calls.Handshake (λ side log. StandsWith log self.new (connecting_reply p))) }
+        ensures in_log { IfOk result (λ p. StandsBehind d.old (HasConnect self.old) calls.Handshake (λ side log. StandsWith log self.new (connecting_reply p))) }
         ensures lawful { (side : Side) (log : Log) → IsConnecting log self.old → may_call side log calls.Handshake ≡ true }
         ensures same { self.new ≡ self.old }
     {

@@ -1,9 +1,9 @@
--- What a call gives stands for the log behind it: the halves of a stream, and an opening.
+-- What a call gives stands for the log after it: the halves of a stream, and an opening.
 use Rattle.std.specs.Prelude.{[], ◌%◌, ◌&&◌, ◌*◌, ◌+◌, ◌/◌, ◌<◌, ◌==◌, ◌||◌, ◌∷◌, ◌≡◌, ◌≢◌, ◌≤◌, ◌⊎◌, Bool, Err, List, None, Ok, Result, Some, false, if◌then◌else◌, not, true, ℕ}
 use Rattle.std.proofs.Common.{◌∙◌, ap, arith, refl, subst, sym}
 use Rattle.std.proofs.lemmas.Bool.{and_from, and_parts, eq-eqb, eqb-true, not-true, or_left, or_right}
 use Rattle.std.specs.List.{list_any}
-use Rattle.wt_calls.specs.Given.{poll_reply}
+use Rattle.wt_calls.specs.GivingCalls.{poll_reply}
 use Rattle.wt_error.specs.declared.connection_error.ConnectionError.{ConnectionError}
 use Rattle.wt_error.specs.declared.stream_error.StreamOpeningError.{StreamOpeningError}
 use Rattle.wt_error.specs.declared.stream_error.StreamOpeningError.TheVariants as openings
@@ -17,7 +17,7 @@ use Rattle.wt_laws.proofs.TurnCauses.{reply-is-recorded}
 use Rattle.wt_laws.specs.RecordCauses.{AtEnd, HeaderStopped, OpeningOver, RecordCause}
 use Rattle.wt_laws.specs.Laws.{AcceptedRightly, IsDuring}
 use Rattle.wt_laws.specs.Reachable.{IsReachable}
-use Rattle.wt_laws.specs.Told.{Logged, NoRecord, OneRecord, TellsOf, ThenPolled, datagram_told, given_stream, is_quiet, read_piece, request_told, session_told}
+use Rattle.wt_laws.specs.ReplyTells.{Logged, NoRecord, OneRecord, TellsOf, ThenPolled, datagram_told, given_stream, is_quiet, read_piece, request_told, session_told}
 use Rattle.wt_reached.proofs.Handshaking.{reached-holds}
 use Rattle.wt_seam_spec.specs.Outgoing.{bytes_within_credit, may_open, next_id, actions_to_open}
 use Rattle.wt_seam_spec.specs.Joined.{send_of}
@@ -26,7 +26,7 @@ use Rattle.wt_connection.proofs.Sessions.{may_use}
 use Rattle.wt_connection.proofs.Stays.{any-stays, fails_opening, given-up-same, session-stays, unended, ungiven}
 use Rattle.wt_connection.specs.Openings.{IsOpening, OpeningStream}
 use Rattle.wt_halves.specs.Replies.{IsOneStream, ready_reply}
-use Rattle.wt_connection.specs.Standing.{IfGiven, IfPending, IsEstablished}
+use Rattle.wt_connection.specs.TypesInLog.{IfGiven, IfPending, IsEstablished}
 use Rattle.wt_spec.specs.Answers.{call_effect, in_session, is_lawful}
 use Rattle.wt_spec.specs.Connection.{accepts_stream, continue_opening, ends_opening, is_opening, open_stream, opened_reply, poll_opening, starts_opening, stream_header}
 use Rattle.wt_spec.specs.Driver.{releases}
@@ -222,7 +222,7 @@ module _ (side : Side) (log : Log) (r : IsReachable side log) (session : ℕ) (s
             (ap not (given-up-same side log (turns.Call calls.AcceptBi) k refl ∙ kept-half side log k r (fresh side log calls.AcceptBi (peer_bi side) k m))),
       )
 
-  -- the half that an accept gives stands behind it
+  -- the half that an accept gives stands after it
   pub uni_stands : (a : Poll (Result ℕ ConnectionError)) → poll_reply replies.Uni a ≡ (call_effect side log calls.AcceptUni).reply → IfGiven a (λ k. has_receiving_half side (call_effect side log calls.AcceptUni).log k ≡ true)
   uni_stands (Ready (Ok k)) e = uni-receives k (sym e)
   uni_stands (Ready (Err x)) e = tt
@@ -276,46 +276,46 @@ past-count index peers locals e l = absurd (omega arith)
 
 -- the next stream of a kind of this end's was no call's
 module _ (side : Side) (log : Log) (r : IsReachable side log) (kind : ℕ) (small : kind < 4) (own : (kind == local_uni side || kind == local_bi side) ≡ true) where
-  abbrev next : ℕ
-  next = 4 * stream_count side log kind + kind
+  abbrev next_stream : ℕ
+  next_stream = 4 * stream_count side log kind + kind
 
-  next-kind : next % 4 ≡ kind
+  next-kind : next_stream % 4 ≡ kind
   next-kind = kind-of-next kind (stream_count side log kind) small
 
   heads : Heads side log
   heads = (reached-holds side log r).out.heads
 
-  unstarted : list_any (starts_opening next) (calls_of log) ≡ false
-  unstarted = at (list_any (starts_opening next) (calls_of log)) refl
+  unstarted : list_any (starts_opening next_stream) (calls_of log) ≡ false
+  unstarted = at (list_any (starts_opening next_stream) (calls_of log)) refl
     where
-      at : (b : Bool) → list_any (starts_opening next) (calls_of log) ≡ b → b ≡ false
+      at : (b : Bool) → list_any (starts_opening next_stream) (calls_of log) ≡ b → b ≡ false
       at false e = refl
       at true e =
           absurd
-          (past-count (next / 4) (peer_count side (all_events_of log) kind) (local_count (actions_of log) kind) (index-of-next kind (stream_count side log kind) small)
-          (subst (λ (n : ℕ). next / 4 < local_count (actions_of log) n) next-kind (heads.counted next e)))
+          (past-count (next_stream / 4) (peer_count side (all_events_of log) kind) (local_count (actions_of log) kind) (index-of-next kind (stream_count side log kind) small)
+          (subst (λ (n : ℕ). next_stream / 4 < local_count (actions_of log) n) next-kind (heads.count_is next_stream e)))
 
-  next-local : is_local side next ≡ true
+  next-local : is_local side next_stream ≡ true
   next-local = subst (λ (n : ℕ). (n == local_uni side || n == local_bi side) ≡ true) (sym next-kind) own
 
-  unfailed-next : list_any (fails_opening next) (calls_of log) ≡ false
-  unfailed-next = at (list_any (fails_opening next) (calls_of log)) refl
+  unfailed-next : list_any (fails_opening next_stream) (calls_of log) ≡ false
+  unfailed-next = at (list_any (fails_opening next_stream) (calls_of log)) refl
     where
-      at : (b : Bool) → list_any (fails_opening next) (calls_of log) ≡ b → b ≡ false
+      at : (b : Bool) → list_any (fails_opening next_stream) (calls_of log) ≡ b → b ≡ false
       at false e = refl
-      at true e = absurd (let s = only-started side log r next e in let n = unstarted in cc)
+      at true e = absurd (let s = only-started side log r next_stream e in let n = unstarted in cc)
 
-  ungiven-next : is_accepted log next ≡ false
-  ungiven-next = at (is_accepted log next) refl
+  ungiven-next : is_accepted log next_stream ≡ false
+  ungiven-next = at (is_accepted log next_stream) refl
     where
-      at : (b : Bool) → is_accepted log next ≡ b → b ≡ false
+      at : (b : Bool) → is_accepted log next_stream ≡ b → b ≡ false
       at false e = refl
-      at true e = absurd (let s = heads.local_accepted next next-local e in let n = unstarted in cc)
+      at true e = absurd (let s = heads.local_accepted next_stream next-local e in let n = unstarted in cc)
 
-  next-opens : (own_ : List Action) (s : ℕ) → is_opening (log_call side log own_ (OpeningStarted next s)) next ≡ true
+  next-opens : (own_ : List Action) (s : ℕ) → is_opening (log_call side log own_ (OpeningStarted next_stream s)) next_stream ≡ true
   next-opens own_ s =
-      subst (λ (cs : List CallRecord). (list_any (starts_opening next) cs && not (list_any (ends_opening next) cs)) ≡ true) (sym (calls-logged side log own_ (OpeningStarted next s)))
-      (and_from (next == next || list_any (starts_opening next) (calls_of log)) (not (list_any (ends_opening next) (calls_of log))) (or_left (next == next) _ (eq-eqb next next refl)) (ap not (unended next (calls_of log) unfailed-next ungiven-next)))
+      subst (λ (cs : List CallRecord). (list_any (starts_opening next_stream) cs && not (list_any (ends_opening next_stream) cs)) ≡ true) (sym (calls-logged side log own_ (OpeningStarted next_stream s)))
+      (and_from (next_stream == next_stream || list_any (starts_opening next_stream) (calls_of log)) (not (list_any (ends_opening next_stream) (calls_of log))) (or_left (next_stream == next_stream) _ (eq-eqb next_stream next_stream refl)) (ap not (unended next_stream (calls_of log) unfailed-next ungiven-next)))
 
   -- an opening that begins is under way
   begins : (s k : ℕ) → (open_stream side log kind s).reply ≡ replies.Opening k → (is_opening (open_stream side log kind s).log k ≡ true) × (k % 4 ≡ kind)
@@ -328,8 +328,8 @@ module _ (side : Side) (log : Log) (r : IsReachable side log) (kind : ℕ) (smal
           (if m then reply_with (log_call side log (actions_to_open side log kind) (OpeningStarted (next_id side log kind) s)) (replies.Opening (next_id side log kind)) else poll_only side log replies.Pending)).log k ≡ true) × (k % 4 ≡ kind)
       at true m e = absurd (cc)
       at false true e =
-          let same : next ≡ k = cc in
-          (subst (λ (j : ℕ). is_opening (log_call side log (actions_to_open side log kind) (OpeningStarted next s)) j ≡ true) same (next-opens (actions_to_open side log kind) s), subst (λ (j : ℕ). j % 4 ≡ kind) same next-kind)
+          let same : next_stream ≡ k = cc in
+          (subst (λ (j : ℕ). is_opening (log_call side log (actions_to_open side log kind) (OpeningStarted next_stream s)) j ≡ true) same (next-opens (actions_to_open side log kind) s), subst (λ (j : ℕ). j % 4 ≡ kind) same next-kind)
       at false false e = absurd (cc)
 
 small-uni : (side : Side) → local_uni side < 4
@@ -369,7 +369,7 @@ module _ (side : Side) (log : Log) (r : IsReachable side log) (session : ℕ) (s
         session = subst (λ (k : ℕ). IsEstablished (call_effect side log calls.OpenBi).log k) (sym same) (session-stays side log (turns.Call calls.OpenBi) session r (may_use side log session s) s);
       }
 
-  -- the opening that begins stands behind the call
+  -- the opening that begins stands after the call
   pub opens_uni : (a : Poll (Result OpeningStream ConnectionError)) → poll_reply (λ o. replies.Opening o.id) a ≡ (call_effect side log calls.OpenUni).reply → IfGiven a (λ o. o.session ≡ session) → IfGiven a (λ o. IsOpening false (call_effect side log calls.OpenUni).log o)
   opens_uni (Ready (Ok o)) e same = begun-uni o same (sym e)
   opens_uni (Ready (Err x)) e same = tt
@@ -399,8 +399,8 @@ module _ (side : Side) (log : Log) (r : IsReachable side log) (kind : Bool) (o :
   abbrev left : List ℕ
   left = head_left log o.id (stream_header o.id o.session)
 
-  goes_on : continue_opening side log o.id left ≡ poll
-  goes_on = ap (λ b. if b then continue_opening side log o.id left else poll_only side log replies.NoStream) (sym i.opens) ∙ poll_is
+  still_going : continue_opening side log o.id left ≡ poll
+  still_going = ap (λ b. if b then continue_opening side log o.id left else poll_only side log replies.NoStream) (sym i.opens) ∙ poll_is
 
   -- what a poll of an opening does
   abbrev polled : Bool → Bool → Bool → Effect
@@ -443,10 +443,10 @@ module _ (side : Side) (log : Log) (r : IsReachable side log) (kind : Bool) (o :
       subst (λ (cs : List CallRecord). (list_any (starts_opening o.id) cs && not (list_any (ends_opening o.id) cs)) ≡ true) (sym (calls-logged side log (send_of o.id (bytes_within_credit log o.id left)) Polled)) i.opens
 
   sent-own : (k : ℕ) → poll.reply ≡ replies.SendReady k → o.id ≡ k
-  sent-own k e = sends-own (not (is_open log)) (is_refused log o.id left) (is_covered log o.id left) k (ap (λ (x : Effect). x.reply) goes_on ∙ e)
+  sent-own k e = sends-own (not (is_open log)) (is_refused log o.id left) (is_covered log o.id left) k (ap (λ (x : Effect). x.reply) still_going ∙ e)
 
   bi-sent-own : (k : ℕ) → poll.reply ≡ replies.BiReady k → o.id ≡ k
-  bi-sent-own k e = bi-own (not (is_open log)) (is_refused log o.id left) (is_covered log o.id left) k (ap (λ (x : Effect). x.reply) goes_on ∙ e)
+  bi-sent-own k e = bi-own (not (is_open log)) (is_refused log o.id left) (is_covered log o.id left) k (ap (λ (x : Effect). x.reply) still_going ∙ e)
 
   sends-opened : (k : ℕ) → given_stream poll.reply ≡ Some k → o.id ≡ k → has_sending_half side poll.log k ≡ true
   sends-opened k g same =
@@ -467,7 +467,7 @@ module _ (side : Side) (log : Log) (r : IsReachable side log) (kind : Bool) (o :
   pub waits_on : {T : Type 0} (reply : T → Reply) (a : Poll (Result T StreamOpeningError)) → ready_reply reply a ≡ poll.reply → IfPending a (IsOpening kind poll.log o)
   waits_on reply (Ready x) e = tt
   waits_on reply Pending e = record {
-    opens = subst (λ (x : Effect). x.reply ≡ replies.Pending → is_opening x.log o.id ≡ true) goes_on (waits-open (not (is_open log)) (is_refused log o.id left) (is_covered log o.id left)) (sym e);
+    opens = subst (λ (x : Effect). x.reply ≡ replies.Pending → is_opening x.log o.id ≡ true) still_going (waits-open (not (is_open log)) (is_refused log o.id left) (is_covered log o.id left)) (sym e);
     kind = i.kind;
     session = session-stays side log (turns.Call (calls.PollOpening o.id)) o.session r lawful i.session;
   }

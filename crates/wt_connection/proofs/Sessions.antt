@@ -1,10 +1,10 @@
 -- The calls on the established session: their plans are those by the log, and what their replies may be.
 use Rattle.std.specs.Prelude.{[], ◌/◌, ◌∷◌, ◌≡◌, Bool, List, Option, Some, false, if◌then◌else◌, length, nat_lt, not, true, ℕ}
 use Rattle.std.proofs.Common.{◌∙◌, ap, refl, subst, sym}
-use Rattle.wt_halves.proofs.Told.{facts_told, leads, told}
+use Rattle.wt_halves.proofs.DriverAnswered.{facts_told, leads, reported}
 use Rattle.wt_connection.specs.Openings.{IsOpening, OpeningStream, opening_in, ready_in}
 use Rattle.wt_halves.specs.Replies.{closed_in, closed_poll_reply, ready_reply, sent_in, sent_reply}
-use Rattle.wt_connection.specs.Standing.{IsEstablished}
+use Rattle.wt_connection.specs.TypesInLog.{IsEstablished}
 use Rattle.wt_driver_state.specs.DriverValue.{DriverValue}
 use Rattle.wt_driver_state.specs.Tie.{Follows}
 use Rattle.wt_laws.specs.Reachable.{IsReachable}
@@ -14,7 +14,7 @@ use Rattle.wt_plan.specs.Planned.{defined_plan}
 use Rattle.wt_plan.specs.declared.plan.Plan as planning
 use Rattle.wt_seam.specs.State.{TransportState}
 use Rattle.wt_seam_spec.specs.Streams.{local_bi, local_uni, peer_bi, peer_uni}
-use Rattle.wt_calls.specs.Given.{poll_reply}
+use Rattle.wt_calls.specs.GivingCalls.{poll_reply}
 use Rattle.wt_session_spec.proofs.Uses.{same-opening}
 use Rattle.wt_session_spec.specs.CallFacts.{CallFacts, facts_of}
 use Rattle.wt_session_spec.specs.ConnectionPlans.{close_plan, closed_plan, datagram_if, datagram_plan, header_left, header_sent, opening_plan, poll_plan}
@@ -121,7 +121,7 @@ module _ (side : Side) (log : Log) (session : ℕ) (s : IsEstablished log sessio
 
   module _ (d : DriverValue) (taken : ℕ) (f : Follows side d log taken) (r : IsReachable side log) where
     abbrev now : CallFacts
-    now = facts_now d.inbox.transport (told side d log taken f r)
+    now = facts_now d.inbox.transport (reported side d log taken f r)
 
     pub open_uni_by_log : opening_plan now (local_uni d.inbox.transport.side) session ≡ plan_of (facts_of side log) (session_state log) calls.OpenUni
     unfolding plan_of
@@ -150,23 +150,23 @@ module _ (side : Side) (log : Log) (session : ℕ) (s : IsEstablished log sessio
 
     pub open_uni_planned : (t : TransportState) → t ≡ d.inbox.transport → (p : planning.Plan) → ((x : DriverAnswers) → defined_plan p ≡ opening_plan (facts_now t x) (local_uni t.side) session) → defined_plan p ≡ plan_of (facts_of side log) (session_state log) calls.OpenUni
     open_uni_planned t same p e =
-        e (told side d log taken f r) ∙ ap (λ (u : TransportState). opening_plan (facts_now u (told side d log taken f r)) (local_uni u.side) session) same ∙ open_uni_by_log
+        e (reported side d log taken f r) ∙ ap (λ (u : TransportState). opening_plan (facts_now u (reported side d log taken f r)) (local_uni u.side) session) same ∙ open_uni_by_log
 
     pub open_bi_planned : (t : TransportState) → t ≡ d.inbox.transport → (p : planning.Plan) → ((x : DriverAnswers) → defined_plan p ≡ opening_plan (facts_now t x) (local_bi t.side) session) → defined_plan p ≡ plan_of (facts_of side log) (session_state log) calls.OpenBi
     open_bi_planned t same p e =
-        e (told side d log taken f r) ∙ ap (λ (u : TransportState). opening_plan (facts_now u (told side d log taken f r)) (local_bi u.side) session) same ∙ open_bi_by_log
+        e (reported side d log taken f r) ∙ ap (λ (u : TransportState). opening_plan (facts_now u (reported side d log taken f r)) (local_bi u.side) session) same ∙ open_bi_by_log
 
     pub datagram_planned : (payload : List ℕ) → (t : TransportState) → t ≡ d.inbox.transport → (p : planning.Plan) → ((x : DriverAnswers) → defined_plan p ≡ datagram_plan (facts_now t x) payload session) → defined_plan p ≡ plan_of (facts_of side log) (session_state log) (calls.SendDatagram payload)
     datagram_planned payload t same p e =
-        e (told side d log taken f r) ∙ ap (λ (u : TransportState). datagram_plan (facts_now u (told side d log taken f r)) payload session) same ∙ datagram_by_log payload
+        e (reported side d log taken f r) ∙ ap (λ (u : TransportState). datagram_plan (facts_now u (reported side d log taken f r)) payload session) same ∙ datagram_by_log payload
 
     pub close_planned : (code : ℕ) (reason : List ℕ) → (t : TransportState) → t ≡ d.inbox.transport → (p : planning.Plan) → ((x : DriverAnswers) → defined_plan p ≡ close_plan (facts_now t x) code reason) → defined_plan p ≡ plan_of (facts_of side log) (session_state log) (calls.Close code reason)
     close_planned code reason t same p e =
-        e (told side d log taken f r) ∙ ap (λ (u : TransportState). close_plan (facts_now u (told side d log taken f r)) code reason) same ∙ close_by_log code reason
+        e (reported side d log taken f r) ∙ ap (λ (u : TransportState). close_plan (facts_now u (reported side d log taken f r)) code reason) same ∙ close_by_log code reason
 
     pub closed_planned : (t : TransportState) → t ≡ d.inbox.transport → (p : planning.Plan) → ((x : DriverAnswers) → defined_plan p ≡ closed_plan (facts_now t x)) → defined_plan p ≡ plan_of (facts_of side log) (session_state log) calls.Closed
     closed_planned t same p e =
-        e (told side d log taken f r) ∙ ap (λ (u : TransportState). closed_plan (facts_now u (told side d log taken f r))) same ∙ closed_by_log
+        e (reported side d log taken f r) ∙ ap (λ (u : TransportState). closed_plan (facts_now u (reported side d log taken f r))) same ∙ closed_by_log
 
     pub open_uni_comes : let reply = (call_effect side log calls.OpenUni).reply in poll_reply replies.Opening (opening_in reply) ≡ reply
     open_uni_comes = subst (λ (x : Effect). poll_reply replies.Opening (opening_in x.reply) ≡ x.reply) (leads side log calls.OpenUni (opening_plan now (local_uni d.inbox.transport.side) session) open_uni_by_log)
@@ -191,7 +191,7 @@ module _ (side : Side) (log : Log) (session : ℕ) (s : IsEstablished log sessio
 
 -- a stream that is being opened for the session
 module _ (side : Side) (d : DriverValue) (log : Log) (taken : ℕ) (f : Follows side d log taken) (r : IsReachable side log) (kind : Bool) (o : OpeningStream) (s : IsOpening kind log o) where
-  pub poll_by_log : header_left (facts_now d.inbox.transport (told side d log taken f r)) o.id (left_of (facts_now d.inbox.transport (told side d log taken f r)) o.id (stream_header o.id o.session))
+  pub poll_by_log : header_left (facts_now d.inbox.transport (reported side d log taken f r)) o.id (left_of (facts_now d.inbox.transport (reported side d log taken f r)) o.id (stream_header o.id o.session))
       ≡ plan_of (facts_of side log) (session_state log) (calls.PollOpening o.id)
   unfolding plan_of
   poll_by_log =
@@ -205,13 +205,13 @@ module _ (side : Side) (d : DriverValue) (log : Log) (taken : ℕ) (f : Follows 
       → ((x : DriverAnswers) → defined_plan p ≡ header_left (facts_now t x) o.id (left_of (facts_now t x) o.id (stream_header o.id o.session)))
       → defined_plan p ≡ plan_of (facts_of side log) (session_state log) (calls.PollOpening o.id)
   poll_planned t same p e =
-      let own = told side d log taken f r in
+      let own = reported side d log taken f r in
       e own ∙ ap (λ (u : TransportState). header_left (facts_now u own) o.id (left_of (facts_now u own) o.id (stream_header o.id o.session))) same ∙ poll_by_log
 
   -- its reply gives a unidirectional stream
   pub uni_ready_comes : kind ≡ false → let reply = (call_effect side log (calls.PollOpening o.id)).reply in ready_reply replies.SendReady (ready_in reply) ≡ reply
   uni_ready_comes k =
-      let now = facts_now d.inbox.transport (told side d log taken f r) in
+      let now = facts_now d.inbox.transport (reported side d log taken f r) in
       let left = left_of now o.id (stream_header o.id o.session) in
       subst (λ (x : Effect). ready_reply replies.SendReady (ready_in x.reply) ≡ x.reply) (leads side log (calls.PollOpening o.id) (header_left now o.id left) poll_by_log)
       (uni-ready side log (head_progress_of now o.id left) o.id (actions_of_head now o.id left) (s.kind ∙ k))
@@ -219,7 +219,7 @@ module _ (side : Side) (d : DriverValue) (log : Log) (taken : ℕ) (f : Follows 
   -- or a bidirectional one
   pub bi_ready_comes : kind ≡ true → let reply = (call_effect side log (calls.PollOpening o.id)).reply in ready_reply replies.BiReady (ready_in reply) ≡ reply
   bi_ready_comes k =
-      let now = facts_now d.inbox.transport (told side d log taken f r) in
+      let now = facts_now d.inbox.transport (reported side d log taken f r) in
       let left = left_of now o.id (stream_header o.id o.session) in
       subst (λ (x : Effect). ready_reply replies.BiReady (ready_in x.reply) ≡ x.reply) (leads side log (calls.PollOpening o.id) (header_left now o.id left) poll_by_log)
       (bi-ready side log (head_progress_of now o.id left) o.id (actions_of_head now o.id left) (s.kind ∙ k))

@@ -1,4 +1,4 @@
--- What stands for a log stands for the logs behind it, until a turn ends it.
+-- What stands for a log stands for the logs after it, until a turn ends it.
 use Rattle.std.specs.Prelude.{[], ◌%◌, ◌&&◌, ◌++◌, ◌==◌, ◌||◌, ◌∷◌, ◌≡◌, Bool, List, false, not, true, ℕ}
 use Rattle.std.proofs.Common.{◌∙◌, ap, refl, subst}
 use Rattle.std.proofs.lemmas.Bool.{and_from, and_parts, eqb-true, not-true, or_parts, or_right}
@@ -17,14 +17,14 @@ use Rattle.wt_laws.specs.Reachable.{AfterTurn, IsReachable}
 use Rattle.wt_seam_spec.specs.Streams.{local_uni, peer_uni}
 use Rattle.wt_connection.proofs.Leaves.{call-same, is_left_by}
 use Rattle.wt_connection.specs.Openings.{IsOpening, OpeningStream}
-use Rattle.wt_connection.specs.Standing.{IsEstablished}
+use Rattle.wt_connection.specs.TypesInLog.{IsEstablished}
 use Rattle.wt_connection.specs.Staying.{gives_half_up, is_past_handshake}
 use Rattle.wt_spec.specs.Answers.{call_effect, is_first, is_lawful, log_after, may_call}
 use Rattle.wt_spec.specs.Connection.{accepts_stream, ends_opening, is_opening, starts_opening}
 use Rattle.wt_spec.specs.Driver.{stream_table}
 use Rattle.wt_spec.specs.Halves.{gives_up, has_receiving_half, has_sending_half, is_accepted}
 use Rattle.wt_spec.specs.StreamTable.{verdict_of}
-use Rattle.wt_told.proofs.Theorems.{same_calls_theorem}
+use Rattle.wt_agreement.proofs.Theorems.{same_calls_theorem}
 use Rattle.wt_turn.specs.Log.{CallRecord, Called, Entry, Log, OpeningFailed, StreamAccepted, StreamGivenUp, calls_of}
 use Rattle.wt_turn.specs.declared.call.Call.{Call}
 use Rattle.wt_turn.specs.declared.call.Call.TheVariants as calls

@@ -1,4 +1,4 @@
 pub mod Datagrams
 pub mod Openings
-pub mod Standing
+pub mod TypesInLog
 pub mod Staying

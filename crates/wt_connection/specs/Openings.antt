@@ -1,6 +1,6 @@
 -- Streams that are being opened.
 use Rattle.std.specs.Prelude.{◌≡◌, Bool, Err, Ok, Result, true, ℕ}
-use Rattle.wt_connection.specs.Standing.{IsEstablished}
+use Rattle.wt_connection.specs.TypesInLog.{IsEstablished}
 use Rattle.wt_spec.specs.Connection.{is_opening}
 use Rattle.wt_turn.specs.Log.{Log}
 use Rattle.wt_error.specs.declared.connection_error.ConnectionError.{ConnectionError}

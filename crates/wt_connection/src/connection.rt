@@ -2,10 +2,10 @@
 ghost use Rattle.std.specs.Prelude.{◌≡◌, IfOk, Ok, OnOk, false, true, ℕ};
 ghost use Rattle.wt_connection.specs.Datagrams.{session_datagram};
 ghost use Rattle.wt_connection.specs.Openings.{HasOpening, opening_in};
-ghost use Rattle.wt_connection.specs.Standing.{Gives, HasSession, IfGiven, IsEstablished};
+ghost use Rattle.wt_connection.specs.TypesInLog.{Gives, HasSession, IfGiven, IsEstablished};
 ghost use Rattle.wt_halves.specs.Answering.{HasReceiving, HasSending, LeadsOn, RepliesTo};
 ghost use Rattle.wt_halves.specs.Replies.{IsOneStream, closed_in, closed_poll_reply, done_reply, sent_in, sent_reply};
-ghost use Rattle.wt_calls.specs.Given.{poll_reply};
+ghost use Rattle.wt_calls.specs.GivingCalls.{poll_reply};
 ghost use Rattle.wt_spec.specs.Answers.{call_effect};
 ghost use Rattle.wt_turn.specs.Log.{Log};
 ghost use Rattle.wt_turn.specs.declared.call.Call.TheVariants as calls;
@@ -194,7 +194,7 @@ impl Connection {
     ) -> Result<Poll<Result<RecvStream, ConnectionError>>, OutOfMemory>
         ensures reply { IfOk result (RepliesTo d.old (HasSession self.old) calls.AcceptUni (poll_reply replies.Uni)) }
         ensures log { OnOk result (LeadsOn d.old (HasSession self.old) calls.AcceptUni d.new) }
-        ensures stands { IfOk result (Gives d.old (HasSession self.old) calls.AcceptUni HasReceiving) }
+        ensures in_log { IfOk result (Gives d.old (HasSession self.old) calls.AcceptUni HasReceiving) }
         ensures same { self.new ≡ self.old }
     {
         Ok(receiving_half(acting::accept_uni(alloc, d, self.session)?))
@@ -265,7 +265,7 @@ impl Connection {
     ) -> Result<Poll<Result<OpeningUniStream, ConnectionError>>, OutOfMemory>
         ensures reply { IfOk result (RepliesTo d.old (HasSession self.old) calls.OpenUni (poll_reply (λ stream. replies.Opening stream.id))) }
         ensures log { OnOk result (LeadsOn d.old (HasSession self.old) calls.OpenUni d.new) }
-        ensures stands { IfOk result (Gives d.old (HasSession self.old) calls.OpenUni (HasOpening false)) }
+        ensures in_log { IfOk result (Gives d.old (HasSession self.old) calls.OpenUni (HasOpening false)) }
         ensures same { self.new ≡ self.old }
     {
         let plan = connection_plans::open_uni(alloc, transport(d), self.session)?;
@@ -288,7 +288,7 @@ impl Connection {
     ) -> Result<Poll<Result<OpeningBiStream, ConnectionError>>, OutOfMemory>
         ensures reply { IfOk result (RepliesTo d.old (HasSession self.old) calls.OpenBi (poll_reply (λ stream. replies.Opening stream.id))) }
         ensures log { OnOk result (LeadsOn d.old (HasSession self.old) calls.OpenBi d.new) }
-        ensures stands { IfOk result (Gives d.old (HasSession self.old) calls.OpenBi (HasOpening true)) }
+        ensures in_log { IfOk result (Gives d.old (HasSession self.old) calls.OpenBi (HasOpening true)) }
         ensures same { self.new ≡ self.old }
     {
         let plan = connection_plans::open_bi(alloc, transport(d), self.session)?;

@@ -79,7 +79,7 @@ impl Datagram {
         H3Datagram::header_size(QStreamId::from_session_id(session))
     }
 
-    /// The payload: the bytes behind the quarter stream id.
+    /// The payload: the bytes after the quarter stream id.
     pub fn payload(&self) -> &[u8]
         ensures { result.now ≡ self.now.payload }
     {

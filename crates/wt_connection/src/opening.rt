@@ -1,7 +1,7 @@
 //! Streams that are being opened (draft-ietf-webtrans-http3, sections 4.2 and 4.3).
 ghost use Rattle.std.specs.Prelude.{◌≡◌, IfOk, OnOk, false, true};
 ghost use Rattle.wt_connection.specs.Openings.{HasOpening, ready_in};
-ghost use Rattle.wt_connection.specs.Standing.{Gives, WaitsOn};
+ghost use Rattle.wt_connection.specs.TypesInLog.{Gives, WaitsOn};
 ghost use Rattle.wt_halves.specs.Answering.{HasReceiving, HasSending, LeadsOn, RepliesTo};
 ghost use Rattle.wt_halves.specs.Replies.{IsOneStream, ready_reply};
 ghost use Rattle.wt_turn.specs.declared.call.Call.TheVariants as calls;
@@ -113,8 +113,8 @@ impl OpeningUniStream {
     ) -> Result<Poll<Result<SendStream, StreamOpeningError>>, OutOfMemory>
         ensures reply { IfOk result (RepliesTo d.old (HasOpening false self.old) (calls.PollOpening self.old.id) (ready_reply replies.SendReady)) }
         ensures log { OnOk result (LeadsOn d.old (HasOpening false self.old) (calls.PollOpening self.old.id) d.new) }
-        ensures stands { IfOk result (Gives d.old (HasOpening false self.old) (calls.PollOpening self.old.id) HasSending) }
-        ensures goes_on { IfOk result (WaitsOn d.old (HasOpening false self.old) (calls.PollOpening self.old.id)) }
+        ensures in_log { IfOk result (Gives d.old (HasOpening false self.old) (calls.PollOpening self.old.id) HasSending) }
+        ensures still_going { IfOk result (WaitsOn d.old (HasOpening false self.old) (calls.PollOpening self.old.id)) }
         ensures same { self.new ≡ self.old }
     {
         let t = transport(d);
@@ -150,7 +150,7 @@ impl OpeningBiStream {
         ensures log { OnOk result (LeadsOn d.old (HasOpening true self.old) (calls.PollOpening self.old.id) d.new) }
         ensures send_stands { IfOk result (Gives d.old (HasOpening true self.old) (calls.PollOpening self.old.id) (λ halves. HasSending halves.0)) }
         ensures recv_stands { IfOk result (Gives d.old (HasOpening true self.old) (calls.PollOpening self.old.id) (λ halves. HasReceiving halves.1)) }
-        ensures goes_on { IfOk result (WaitsOn d.old (HasOpening true self.old) (calls.PollOpening self.old.id)) }
+        ensures still_going { IfOk result (WaitsOn d.old (HasOpening true self.old) (calls.PollOpening self.old.id)) }
         ensures same { self.new ≡ self.old }
         ensures halves { IfOk result (λ a. IsOneStream a) }
     {

@@ -84,9 +84,12 @@ impl Core {
 
     /// The reply to a call, whose actions stay with the driver.
     fn call(&mut self, call: &Call) -> Result<Reply, OutOfMemory>
-        ensures reply { (log : Log) → Refines self.old log → may_call self.old.side log call.now ≡ true → IfOk result (λ r. r ≡ (call_effect self.old.side log call.now).reply) }
-        ensures driver { (log : Log) → Refines self.old log → may_call self.old.side log call.now ≡ true → OnOk result (Follows self.old.side self.new.driver (call_effect self.old.side log call.now).log (length (actions_of log))) }
-        ensures session { (log : Log) → Refines self.old log → may_call self.old.side log call.now ≡ true → OnOk result (Keeps self.old.side self.new.session (call_effect self.old.side log call.now).log) }
+        ensures reply { (log : Log) → Refines self.old log → may_call self.old.side log call.now ≡ true
+            → IfOk result (λ r. r ≡ (call_effect self.old.side log call.now).reply) }
+        ensures driver { (log : Log) → Refines self.old log → may_call self.old.side log call.now ≡ true
+            → OnOk result (Follows self.old.side self.new.driver (call_effect self.old.side log call.now).log (length (actions_of log))) }
+        ensures session { (log : Log) → Refines self.old log → may_call self.old.side log call.now ≡ true
+            → OnOk result (Keeps self.old.side self.new.session (call_effect self.old.side log call.now).log) }
         ensures side { self.new.side ≡ self.old.side }
         ensures failed { self.new.failed ≡ self.old.failed }
     {
@@ -96,8 +99,10 @@ impl Core {
     /// The driver and the session take what the transport tells; the actions stay with the driver.
     fn event(&mut self, turn: &Turn) -> Result<(), OutOfMemory>
         requires { IsTrue (fits_now self.old.driver.inbox.transport turn.now) }
-        ensures driver { (log : Log) → Refines self.old log → fits self.old.side log turn.now ≡ true → OnOk result (Follows self.old.side self.new.driver (log_after self.old.side log turn.now) (length (actions_of log))) }
-        ensures session { (log : Log) → Refines self.old log → fits self.old.side log turn.now ≡ true → OnOk result (Keeps self.old.side self.new.session (log_after self.old.side log turn.now)) }
+        ensures driver { (log : Log) → Refines self.old log → fits self.old.side log turn.now ≡ true
+            → OnOk result (Follows self.old.side self.new.driver (log_after self.old.side log turn.now) (length (actions_of log))) }
+        ensures session { (log : Log) → Refines self.old log → fits self.old.side log turn.now ≡ true
+            → OnOk result (Keeps self.old.side self.new.session (log_after self.old.side log turn.now)) }
         ensures side { self.new.side ≡ self.old.side }
         ensures failed { self.new.failed ≡ self.old.failed }
     {
@@ -109,9 +114,12 @@ impl Core {
     /// The reply to a turn, whose actions stay with the driver.
     fn reply(&mut self, turn: &Turn) -> Result<Reply, OutOfMemory>
         requires { IsTrue (may_come_next self.old turn.now) }
-        ensures reply { (log : Log) → Refines self.old log → is_lawful self.old.side log turn.now ≡ true → IfOk result (λ r. r ≡ (turn_effect self.old.side log turn.now).reply) }
-        ensures driver { (log : Log) → Refines self.old log → is_lawful self.old.side log turn.now ≡ true → OnOk result (Follows self.old.side self.new.driver (log_after self.old.side log turn.now) (length (actions_of log))) }
-        ensures session { (log : Log) → Refines self.old log → is_lawful self.old.side log turn.now ≡ true → OnOk result (Keeps self.old.side self.new.session (log_after self.old.side log turn.now)) }
+        ensures reply { (log : Log) → Refines self.old log → is_lawful self.old.side log turn.now ≡ true
+            → IfOk result (λ r. r ≡ (turn_effect self.old.side log turn.now).reply) }
+        ensures driver { (log : Log) → Refines self.old log → is_lawful self.old.side log turn.now ≡ true
+            → OnOk result (Follows self.old.side self.new.driver (log_after self.old.side log turn.now) (length (actions_of log))) }
+        ensures session { (log : Log) → Refines self.old log → is_lawful self.old.side log turn.now ≡ true
+            → OnOk result (Keeps self.old.side self.new.session (log_after self.old.side log turn.now)) }
         ensures side { self.new.side ≡ self.old.side }
         ensures failed { self.new.failed ≡ self.old.failed }
     {
@@ -127,8 +135,10 @@ impl Core {
     /// The answer to a turn that may come, while memory suffices.
     fn step(&mut self, turn: &Turn) -> Result<Answer, OutOfMemory>
         requires { IsTrue (may_come_next self.old turn.now) }
-        ensures answer { (log : Log) → Refines self.old log → is_lawful self.old.side log turn.now ≡ true → IfOk result (λ a. a ≡ answer_to self.old.side log turn.now) }
-        ensures state { (log : Log) → Refines self.old log → is_lawful self.old.side log turn.now ≡ true → OnOk result (Refines self.new (log_after self.old.side log turn.now)) }
+        ensures answer { (log : Log) → Refines self.old log → is_lawful self.old.side log turn.now ≡ true
+            → IfOk result (λ a. a ≡ answer_to self.old.side log turn.now) }
+        ensures state { (log : Log) → Refines self.old log → is_lawful self.old.side log turn.now ≡ true
+            → OnOk result (Refines self.new (log_after self.old.side log turn.now)) }
         ensures side { self.new.side ≡ self.old.side }
     {
         let reply = self.reply(turn)?;

@@ -7,7 +7,7 @@ use Rattle.wt_wire.specs.declared.side.StreamEnd.{StreamEnd}
 use Rattle.wt_wire.specs.declared.side.StreamEnd.TheVariants.{Running}
 use Rattle.wt_proto.specs.declared.walk.Step.{Step}
 use Rattle.wt_proto.specs.Walk.{outcome_at, whole_walk}
-use Rattle.wt_proto.specs.Progress.{Progress, Reading, progress_after, fed_reading, reached_in, read_on}
+use Rattle.wt_proto.specs.WalkProgress.{WalkProgress, Reading, progress_after, fed_reading, reached_in, read_on}
 use Rattle.wt_proto.specs.Reading.{outcome_in}
 use Rattle.wt_proto.specs.Steady.{IsSteady}
 use Rattle.wt_proto.proofs.ProgressLaws.{fed-append, fed-fed, walk-progress}
@@ -22,20 +22,20 @@ use Rattle.wt_critical.proofs.Consuming.{consume-again, consume-unread}
 -- ---- one piece
 
 module _ {S O : Type 0} (decide : S → List ℕ → Step S O) (steady : IsSteady decide) where
-  module _ (final : O → Bool) (unfinished : StreamEnd → S → Bool → O) (goes_on : (s : S) (b : Bool) → final (unfinished Running s b) ≡ false) where
+  module _ (final : O → Bool) (unfinished : StreamEnd → S → Bool → O) (still_going : (s : S) (b : Bool) → final (unfinished Running s b) ≡ false) where
     -- a reader that took all of a piece, or as much as it needs, stands as if it had taken all
     pub fed-whole : (old new : Reading S O) (piece : List ℕ) (n : ℕ) → old.end ≡ Running → n ≤ length piece → new ≡ fed_reading decide old (take n piece)
         → (n < length piece → final (outcome_in unfinished new) ≡ true) → new ≡ fed_reading decide old piece
-    fed-whole old new piece n runs within taken stands =
+    fed-whole old new piece n runs within taken stops_short =
         elim (cases_lt n (length piece)) [
           | inl lt ↦
               let front : new.progress ≡ progress_after decide old.progress (take n piece) = ap (λ (r : Reading S O). r.progress) taken in
-              let still : progress_after decide new.progress (drop n piece) ≡ new.progress = stays decide final unfinished goes_on new (drop n piece) (ap (λ (r : Reading S O). r.end) taken ∙ runs) (stands lt) in
+              let still : progress_after decide new.progress (drop n piece) ≡ new.progress = stays decide final unfinished still_going new (drop n piece) (ap (λ (r : Reading S O). r.end) taken ∙ runs) (stops_short lt) in
               let whole : progress_after decide new.progress (drop n piece) ≡ progress_after decide old.progress piece =
-              ap (λ (p : Progress S O). progress_after decide p (drop n piece)) front
+              ap (λ (p : WalkProgress S O). progress_after decide p (drop n piece)) front
               ∙ (fed-fed decide steady old.progress (take n piece) (drop n piece)
               ∙ ap (λ (xs : List ℕ). progress_after decide old.progress xs) (take-append-drop n piece)) in
-              taken ∙ ap (λ (p : Progress S O). record { progress = p; end = old.end }) (sym front ∙ (sym still ∙ whole))
+              taken ∙ ap (λ (p : WalkProgress S O). record { progress = p; end = old.end }) (sym front ∙ (sym still ∙ whole))
           | inr le ↦ taken ∙ ap (λ (xs : List ℕ). fed_reading decide old xs) (take_all n piece le)
         ]
 
@@ -77,7 +77,7 @@ module _ {S O : Type 0} (decide : S → List ℕ → Step S O) (steady : IsStead
       record {
         within = omega (arith, a.within, b.within, left);
         reading = b.reading ∙ (ap (λ (r : Reading S O). fed_reading decide r (take n (unread_now u id))) a.reading
-            ∙ ap (λ (p : Progress S O). record { progress = p; end = old.end })
+            ∙ ap (λ (p : WalkProgress S O). record { progress = p; end = old.end })
             (fed-fed decide steady old.progress (take m (unread_now t id)) (take n (unread_now u id))
             ∙ ap (λ (xs : List ℕ). progress_after decide old.progress xs) (ap (λ (xs : List ℕ). take m (unread_now t id) ++ take n xs) here ∙ sym (take-add m n (unread_now t id)))));
         state = b.state ∙ (ap (λ (w : TransportState). after_consume w id n) a.state ∙ consume-again t id m n);
@@ -109,10 +109,10 @@ module _ {S O : Type 0} (decide : S → List ℕ → Step S O) (steady : IsStead
 
   module _ (start : S) (r : Reading S O) (bytes : List ℕ) (was : WasRead decide start r bytes) where
     pub was-read-more : (more : List ℕ) (end : StreamEnd) → WasRead decide start (read_on decide r more end) (bytes ++ more)
-    was-read-more more end = ap (λ (p : Progress S O). progress_after decide p more) was ∙ fed-append decide steady bytes more start None 0
+    was-read-more more end = ap (λ (p : WalkProgress S O). progress_after decide p more) was ∙ fed-append decide steady bytes more start None 0
 
     pub was-read-outcome : (unfinished : StreamEnd → S → Bool → O) (outcome_of : List ℕ → StreamEnd → O) → ((bytes : List ℕ) (end : StreamEnd) → outcome_of bytes end ≡ outcome_at unfinished end (whole_walk decide start bytes))
         → (more : List ℕ) (end : StreamEnd) → outcome_in unfinished (read_on decide r more end) ≡ outcome_of (bytes ++ more) end
     was-read-outcome unfinished outcome_of reaches more end =
-        ap (λ (p : Progress S O). outcome_at unfinished end (reached_in p)) (was-read-more more end)
+        ap (λ (p : WalkProgress S O). outcome_at unfinished end (reached_in p)) (was-read-more more end)
         ∙ (ap (λ x. outcome_at unfinished end x) (sym (walk-progress decide (bytes ++ more) start None 0)) ∙ sym (reaches (bytes ++ more) end))

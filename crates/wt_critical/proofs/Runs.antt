@@ -8,7 +8,7 @@ use Rattle.wt_proto.specs.declared.control_walk.ControlWalk.{ControlWalk}
 use Rattle.wt_proto.specs.declared.session_walk.SessionWalk.{SessionWalk}
 use Rattle.wt_proto.specs.ControlWalk.{control_decides, control_unfinished, control_walk_of}
 use Rattle.wt_proto.specs.SessionWalk.{session_decides, session_unfinished, session_walk_of}
-use Rattle.wt_proto.specs.Progress.{Progress, Reading, progress_over, reached_in, read_on}
+use Rattle.wt_proto.specs.WalkProgress.{WalkProgress, Reading, progress_over, reached_in, read_on}
 use Rattle.wt_proto.specs.Reading.{outcome_in}
 use Rattle.wt_proto.specs.Walk.{Reached, outcome_at, whole_walk}
 use Rattle.wt_proto.proofs.ControlReading.{control_lawful}
@@ -82,7 +82,7 @@ settings-at None (Reset code) settings between = refl
 pub settings_read : (r : Reading (Option Settings) ControlWalk) (bytes : List ℕ) → WasRead control_decides None r bytes → (outcome_in control_unfinished r).settings ≡ (control_walk_of bytes Running).settings
 settings_read r bytes was =
     let at : Reached (Option Settings) ControlWalk = whole_walk control_decides None bytes in
-    ap (λ (p : Progress (Option Settings) ControlWalk). (outcome_at control_unfinished r.end (reached_in p)).settings) was
+    ap (λ (p : WalkProgress (Option Settings) ControlWalk). (outcome_at control_unfinished r.end (reached_in p)).settings) was
     ∙ (ap (λ (x : Reached (Option Settings) ControlWalk). (outcome_at control_unfinished r.end x).settings) (sym (walk-progress control_decides bytes None None 0))
     ∙ (settings-at at.stop r.end at.state at.between
     ∙ ap (λ (w : ControlWalk). w.settings) (sym (control_lawful.reaches bytes Running))))

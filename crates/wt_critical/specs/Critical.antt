@@ -14,7 +14,7 @@ use Rattle.wt_proto.specs.declared.session_walk.SessionWalk.TheVariants as walks
 use Rattle.wt_proto.specs.declared.control_walk.ControlWalk.{ControlWalk}
 use Rattle.wt_proto.specs.ControlWalk.{control_decides, control_unfinished, control_walk_of}
 use Rattle.wt_proto.specs.SessionWalk.{session_decides, session_unfinished, session_walk_of}
-use Rattle.wt_proto.specs.Progress.{Reading, read_on}
+use Rattle.wt_proto.specs.WalkProgress.{Reading, read_on}
 use Rattle.wt_proto.specs.Reading.{outcome_in}
 use Rattle.wt_error.specs.declared.driver_error.DriverError.{DriverError}
 use Rattle.wt_error.specs.declared.driver_error.DriverError.TheVariants as errors
@@ -34,11 +34,11 @@ use Rattle.wt_typed.specs.Typed.{StreamPair, Typed, can_write_now, is_through}
 use Rattle.wt_typed.specs.Writing.{Continues, Pending, after_pending, pending_answer, rest, write_of}
 use Rattle.wt_critical.specs.Reading.{after_reading_all}
 
--- a unidirectional stream of this end, behind its header
+-- a unidirectional stream of this end, after its header
 abbrev pub LocalUni : Type 0
 LocalUni = Typed QuicSendStream UniLocalH3
 
--- a unidirectional stream that the peer opened, behind its header
+-- a unidirectional stream that the peer opened, after its header
 abbrev pub RemoteUni : Type 0
 RemoteUni = Typed QuicRecvStream UniRemoteH3
 

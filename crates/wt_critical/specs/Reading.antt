@@ -1,7 +1,7 @@
 -- Reading all that has come of a stream.
 use Rattle.std.specs.Prelude.{◌≡◌, ℕ, ◌≤◌, List, length, take, None}
 use Rattle.wt_proto.specs.declared.walk.Step.{Step}
-use Rattle.wt_proto.specs.Progress.{Reading, fed_reading, progress_over}
+use Rattle.wt_proto.specs.WalkProgress.{Reading, fed_reading, progress_over}
 use Rattle.wt_seam.specs.State.{TransportState}
 use Rattle.wt_seam.specs.Step.{after_consume, unread_now}
 

@@ -1,6 +1,6 @@
 //! The stream of a session, on which the peer closes it (draft-ietf-webtrans-http3, section 5).
 ghost use Rattle.std.specs.Prelude.{◌≡◌, ℕ, List, [], IfOk, None, Ok, OnOk, Some, is_some, not};
-ghost use Rattle.wt_proto.specs.Progress.{read_on};
+ghost use Rattle.wt_proto.specs.WalkProgress.{read_on};
 ghost use Rattle.wt_proto.specs.Reading.{outcome_in};
 ghost use Rattle.wt_proto.specs.SessionWalk.{session_decides, session_unfinished};
 ghost use Rattle.wt_seam.specs.Step.{end_now, unread_now};
@@ -62,7 +62,8 @@ fn read_session(
     id: StreamId,
     t: &mut Transport,
 ) -> Result<Option<DriverError>, OutOfMemory>
-    ensures shown { IfOk result (λ shown. shown ≡ shown_by_walk (outcome_in session_unfinished (read_on session_decides reader.old (unread_now t.old id) (end_now t.old id)))) }
+    ensures shown { IfOk result (λ shown. shown
+        ≡ shown_by_walk (outcome_in session_unfinished (read_on session_decides reader.old (unread_now t.old id) (end_now t.old id)))) }
     ensures reading { OnOk result (reader.new ≡ read_on session_decides reader.old (unread_now t.old id) (end_now t.old id)) }
     ensures state { OnOk result (t.new ≡ after_reading_all t.old id) }
 {
@@ -105,8 +106,10 @@ impl ConnectStream {
     /// has one, an end inside a frame and a reset (ClosedCriticalStream) among these; else with
     /// `NotConnected` where the connection isn't open; pending where no stream is set.
     pub fn run(&mut self, t: &mut Transport) -> Result<Poll<DriverError>, OutOfMemory>
-        ensures answer { (bytes : List ℕ) → WasRead session_decides tt self.old.reading bytes → IfOk result (λ a. a ≡ session_answer self.old.stream t.old bytes) }
-        ensures read { (bytes : List ℕ) → WasRead session_decides tt self.old.reading bytes → OnOk result (WasRead session_decides tt self.new.reading (session_bytes self.old.stream t.old bytes)) }
+        ensures answer { (bytes : List ℕ) → WasRead session_decides tt self.old.reading bytes
+            → IfOk result (λ a. a ≡ session_answer self.old.stream t.old bytes) }
+        ensures read { (bytes : List ℕ) → WasRead session_decides tt self.old.reading bytes
+            → OnOk result (WasRead session_decides tt self.new.reading (session_bytes self.old.stream t.old bytes)) }
         ensures now { IfOk result (λ a. a ≡ session_shows self.old.stream t.old.is_open (session_after_run self.old.stream t.old self.old.reading)) }
         ensures reading { OnOk result (self.new.reading ≡ session_after_run self.old.stream t.old self.old.reading) }
         ensures state { OnOk result (t.new ≡ after_session_run self.old.stream t.old) }

@@ -1,7 +1,7 @@
 //! Reading on: a stream's reader is fed all that is unread of it.
 ghost use Rattle.std.specs.Prelude.{◌≡◌, ◌<◌, ◌≤◌, ℕ, Bool, IfOk, OnOk, [], length, take, true, false};
 ghost use Rattle.wt_wire.specs.declared.side.StreamEnd.TheVariants.{Running};
-ghost use Rattle.wt_proto.specs.Progress.{fed_reading, read_on};
+ghost use Rattle.wt_proto.specs.WalkProgress.{fed_reading, read_on};
 ghost use Rattle.wt_proto.specs.Reading.{outcome_in};
 ghost use Rattle.wt_proto.specs.Steady.{IsSteady};
 ghost use Rattle.wt_seam.specs.Step.{end_now, unread_now};
@@ -28,16 +28,16 @@ fn feed_counted<W: Walk, L: Ledger>(
     requires some { 0 < L.parts }
     ensures within { IfOk result (λ n. n ≤ length piece.now) }
     ensures taken { IfOk result (λ n. reader.new ≡ fed_reading W.decides reader.old (take n piece.now)) }
-    ensures stands { IfOk result (λ n. n < length piece.now → W.is_final_outcome (outcome_in W.unfinished_at reader.new) ≡ true) }
+    ensures stops_short { IfOk result (λ n. n < length piece.now → W.is_final_outcome (outcome_in W.unfinished_at reader.new) ≡ true) }
 {
     let mut steps = Steps::<L>::new(blank);
     reader.feed(piece, &mut steps)
 }
 
-/// Feeds a reader a piece, of which it needs nothing behind its final outcome.
+/// Feeds a reader a piece, of which it needs nothing after its final outcome.
 fn feed<W: Walk>(reader: &mut StreamReader<W>, piece: &[u8]) -> Result<(), OutOfMemory>
     requires steady { IsSteady W.decides }
-    requires goes_on { (s : W.State) (between : Bool) → W.is_final_outcome (W.unfinished_at Running s between) ≡ false }
+    requires still_going { (s : W.State) (between : Bool) → W.is_final_outcome (W.unfinished_at Running s between) ≡ false }
     requires runs { reader.old.end ≡ Running }
     ensures { OnOk result (reader.new ≡ fed_reading W.decides reader.old piece.now) }
 {
@@ -55,7 +55,7 @@ fn read_piece<W: Walk>(
     reader: &mut StreamReader<W>,
 ) -> Result<bool, OutOfMemory>
     requires steady { IsSteady W.decides }
-    requires goes_on { (s : W.State) (between : Bool) → W.is_final_outcome (W.unfinished_at Running s between) ≡ false }
+    requires still_going { (s : W.State) (between : Bool) → W.is_final_outcome (W.unfinished_at Running s between) ≡ false }
     requires runs { reader.old.end ≡ Running }
     ensures some { IfOk result (λ more. (count : ℕ) × ReadsSome W.decides reader.old reader.new t.old t.new id count) }
     ensures more { IfOk result (λ more. more ≡ true → length (unread_now t.new id) < length (unread_now t.old id)) }
@@ -75,7 +75,7 @@ fn read_pieces<W: Walk>(
     reader: &mut StreamReader<W>,
 ) -> Result<(), OutOfMemory>
     requires steady { IsSteady W.decides }
-    requires goes_on { (s : W.State) (between : Bool) → W.is_final_outcome (W.unfinished_at Running s between) ≡ false }
+    requires still_going { (s : W.State) (between : Bool) → W.is_final_outcome (W.unfinished_at Running s between) ≡ false }
     requires runs { reader.old.end ≡ Running }
     ensures reading { OnOk result (reader.new ≡ fed_reading W.decides reader.old (unread_now t.old id)) }
     ensures state { OnOk result (t.new ≡ after_reading_all t.old id) }
@@ -94,7 +94,7 @@ pub(crate) fn read_all<W: Walk>(
     reader: &mut StreamReader<W>,
 ) -> Result<(), OutOfMemory>
     requires steady { IsSteady W.decides }
-    requires goes_on { (s : W.State) (between : Bool) → W.is_final_outcome (W.unfinished_at Running s between) ≡ false }
+    requires still_going { (s : W.State) (between : Bool) → W.is_final_outcome (W.unfinished_at Running s between) ≡ false }
     ensures reading { OnOk result (reader.new ≡ read_on W.decides reader.old (unread_now t.old id) (end_now t.old id)) }
     ensures state { OnOk result (t.new ≡ after_reading_all t.old id) }
 {

@@ -1,6 +1,6 @@
 //! The control streams, on which SETTINGS go (RFC 9114, section 6.2.1).
 ghost use Rattle.std.specs.Prelude.{◌≡◌, ◌↔◌, ◌||◌, ℕ, List, [], IfOk, IsTrue, None, Ok, OnErr, OnOk, Some, false, is_some, not, true};
-ghost use Rattle.wt_proto.specs.Progress.{read_on};
+ghost use Rattle.wt_proto.specs.WalkProgress.{read_on};
 ghost use Rattle.wt_wire.specs.FrameBytes.{frame_bytes};
 ghost use Rattle.wt_wire.specs.declared.side.StreamEnd.TheVariants.{Running};
 ghost use Rattle.wt_proto.specs.ControlWalk.{control_decides, control_unfinished, control_walk_of};
@@ -86,13 +86,16 @@ fn send_frame(
 ) -> Result<Poll<Result<(), DriverError>>, OutOfMemory>
     requires can { IsTrue (can_write_now t.old stream.old.halves.id) }
     requires same { Continues stream.old.stage.writing (frame_bytes frame.now) }
-    ensures answer { IfOk result (λ a. a ≡ written_answer (pending_answer t.old.is_open (sending_half_now t.old stream.old.halves.id) (rest (write_of stream.old.stage.writing (frame_bytes frame.now))))) }
+    ensures answer { IfOk result (λ a. a
+        ≡ written_answer (pending_answer t.old.is_open (sending_half_now t.old stream.old.halves.id) (rest (write_of stream.old.stage.writing (frame_bytes frame.now))))) }
     ensures state { OnOk result (t.new ≡ after_write t.old stream.old.halves.id (rest (write_of stream.old.stage.writing (frame_bytes frame.now)))) }
-    ensures stream { OnOk result (stream.new ≡ record stream.old { stage = record stream.old.stage { writing = after_pending t.old.is_open (sending_half_now t.old stream.old.halves.id) (write_of stream.old.stage.writing (frame_bytes frame.now)) } }) }
-    ensures goes_on { Continues stream.new.stage.writing (frame_bytes frame.now) }
+    ensures stream { OnOk result (stream.new
+        ≡ record stream.old { stage = record stream.old.stage { writing = after_pending t.old.is_open (sending_half_now t.old stream.old.halves.id) (write_of stream.old.stage.writing (frame_bytes frame.now)) } }) }
+    ensures still_going { Continues stream.new.stage.writing (frame_bytes frame.now) }
     ensures others { stream.new ≡ record stream.old { stage = record stream.old.stage { writing = stream.new.stage.writing } } }
     ensures err { OnErr result (t.new ≡ t.old) }
-    ensures kept { OnErr result (write_of stream.new.stage.writing (frame_bytes frame.now) ≡ write_of stream.old.stage.writing (frame_bytes frame.now)) }
+    ensures kept { OnErr result (write_of stream.new.stage.writing (frame_bytes frame.now)
+        ≡ write_of stream.old.stage.writing (frame_bytes frame.now)) }
 {
     let answer = stream.write_frame(t, frame)?;
     Ok(written(answer))
@@ -110,7 +113,7 @@ fn send_on(
     ensures answer { IfOk result (λ a. a ≡ frame_answer stream.old t.old) }
     ensures state { OnOk result (t.new ≡ after_frame stream.old t.old) }
     ensures stream { OnOk result (stream.new ≡ with_frame stream.old t.old) }
-    ensures goes_on { ContinuesSettings stream.new }
+    ensures still_going { ContinuesSettings stream.new }
     ensures err { OnErr result (t.new ≡ t.old) }
     ensures kept { OnErr result (settings_begun stream.new ≡ settings_begun stream.old) }
 {
@@ -201,7 +204,7 @@ impl LocalSettingsStream {
         ensures answer { IfOk result (λ a. a ≡ settings_answer self.old t.old) }
         ensures state { OnOk result (t.new ≡ after_settings self.old t.old) }
         ensures stream { OnOk result (self.new ≡ with_settings self.old t.old) }
-        ensures goes_on { ContinuesSettings self.new.stream }
+        ensures still_going { ContinuesSettings self.new.stream }
         ensures err { OnErr result (t.new ≡ t.old) }
         ensures kept { OnErr result (settings_begun self.new.stream ≡ settings_begun self.old.stream) }
         ensures out { OnErr result (self.new.is_out ≡ self.old.is_out) }
@@ -263,7 +266,8 @@ fn read_control(
     id: StreamId,
     t: &mut Transport,
 ) -> Result<Option<DriverError>, OutOfMemory>
-    ensures shown { IfOk result (λ shown. shown ≡ shown_by_fault (outcome_in control_unfinished (read_on control_decides reader.old (unread_now t.old id) (end_now t.old id))).fault) }
+    ensures shown { IfOk result (λ shown. shown
+        ≡ shown_by_fault (outcome_in control_unfinished (read_on control_decides reader.old (unread_now t.old id) (end_now t.old id))).fault) }
     ensures reading { OnOk result (reader.new ≡ read_on control_decides reader.old (unread_now t.old id) (end_now t.old id)) }
     ensures state { OnOk result (t.new ≡ after_reading_all t.old id) }
 {
@@ -306,8 +310,10 @@ impl RemoteSettingsStream {
     /// or a reset (ClosedCriticalStream) among these; else with `NotConnected` where the connection
     /// isn't open; pending where no stream is set.
     pub fn run(&mut self, t: &mut Transport) -> Result<Poll<DriverError>, OutOfMemory>
-        ensures answer { (bytes : List ℕ) → WasRead control_decides None self.old.reading bytes → IfOk result (λ a. a ≡ control_answer self.old.stream t.old bytes) }
-        ensures read { (bytes : List ℕ) → WasRead control_decides None self.old.reading bytes → OnOk result (WasRead control_decides None self.new.reading (uni_bytes self.old.stream t.old bytes)) }
+        ensures answer { (bytes : List ℕ) → WasRead control_decides None self.old.reading bytes
+            → IfOk result (λ a. a ≡ control_answer self.old.stream t.old bytes) }
+        ensures read { (bytes : List ℕ) → WasRead control_decides None self.old.reading bytes
+            → OnOk result (WasRead control_decides None self.new.reading (uni_bytes self.old.stream t.old bytes)) }
         ensures now { IfOk result (λ a. a ≡ control_shows self.old.stream t.old.is_open (control_after_run self.old.stream t.old self.old.reading)) }
         ensures reading { OnOk result (self.new.reading ≡ control_after_run self.old.stream t.old self.old.reading) }
         ensures state { OnOk result (t.new ≡ after_uni_run self.old.stream t.old) }
@@ -326,7 +332,7 @@ impl RemoteSettingsStream {
     pub fn subscribe(&self) -> RemoteSettingsWatcher
         ensures { result ≡ false }
     {
-        RemoteSettingsWatcher { is_given: false }
+        RemoteSettingsWatcher { was_given: false }
     }
 
     /// The peer's SETTINGS, where the walk over what was read has them.
@@ -340,7 +346,7 @@ impl RemoteSettingsStream {
 /// What waits for the peer's SETTINGS, to give them once. Contracts see whether it gave them.
 #[derive(Debug, Drop)]
 pub struct RemoteSettingsWatcher {
-    is_given: bool,
+    was_given: bool,
 }
 
 impl Model for RemoteSettingsWatcher {
@@ -348,14 +354,16 @@ impl Model for RemoteSettingsWatcher {
 
     ghost Value = { Bool };
 
-    ghost view = { λ w. w.is_given };
+    ghost view = { λ w. w.was_given };
 }
 
 impl RemoteSettingsWatcher {
     /// The SETTINGS, once; pending where no run has read them or this watcher gave them.
     pub fn accept_settings(&mut self, s: &RemoteSettingsStream) -> Poll<Settings>
-        ensures answer { (bytes : List ℕ) → WasRead control_decides None s.now.reading bytes → result ≡ given_once self.old (control_walk_of bytes Running).settings }
-        ensures given { (bytes : List ℕ) → WasRead control_decides None s.now.reading bytes → self.new ≡ (self.old || is_some (control_walk_of bytes Running).settings) }
+        ensures answer { (bytes : List ℕ) → WasRead control_decides None s.now.reading bytes
+            → result ≡ given_once self.old (control_walk_of bytes Running).settings }
+        ensures given { (bytes : List ℕ) → WasRead control_decides None s.now.reading bytes
+            → self.new ≡ (self.old || is_some (control_walk_of bytes Running).settings) }
         ensures now { result ≡ given_once self.old (outcome_in control_unfinished s.now.reading).settings }
         ensures now_given { self.new ≡ (self.old || is_some (outcome_in control_unfinished s.now.reading).settings) }
     {
@@ -367,8 +375,8 @@ impl RemoteSettingsWatcher {
         ensures given { self.new ≡ (self.old || is_some settings) }
     {
         match settings {
-            Some(settings) if !self.is_given => {
-                self.is_given = true;
+            Some(settings) if !self.was_given => {
+                self.was_given = true;
                 Poll::Ready(settings)
             }
             _ => Poll::Pending,

@@ -1,4 +1,4 @@
 pub mod Found
-pub mod Places
+pub mod Phases
 pub mod Requests
 pub mod Rules

@@ -6,10 +6,10 @@ use Rattle.wt_proto.specs.declared.verdict.Verdict.TheVariants as verdicts
 use Rattle.wt_spec.specs.StreamTable.{Classified}
 use Rattle.wt_wire.specs.HeaderList.{Fields}
 
--- what is told of a request: its stream, its fields, and the offset behind it
+-- what is told of a request: its stream, its fields, and the offset after it
 abbrev pub request_as : Option (ℕ × Bor Fields × ℕ) → Option (ℕ × Fields × ℕ)
 request_as None = None
-request_as (Some told) = Some (told.0, told.1.now, told.2)
+request_as (Some reported) = Some (reported.0, reported.1.now, reported.2)
 
 -- the request that a verdict says of a stream
 abbrev pub request_in : ℕ → Verdict → Option (ℕ × Fields × ℕ)

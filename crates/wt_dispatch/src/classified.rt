@@ -31,7 +31,7 @@ impl Model for Classified {
 }
 
 impl Classified {
-    /// The request that the verdict says: its stream, the request, and the offset behind it.
+    /// The request that the verdict says: its stream, the request, and the offset after it.
     pub fn request(&self) -> Option<(StreamId, &SessionRequest, usize)>
         ensures { request_as result ≡ request_in self.now.id self.now.verdict }
     {

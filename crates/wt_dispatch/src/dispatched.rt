@@ -17,7 +17,7 @@ use wt_proto::verdict::Verdict;
 use wt_wire::error::{ErrorCode, OutOfMemory};
 use wt_wire::ids::{SessionId, StreamId};
 
-/// The classified streams by their use. An offset is that of the first byte behind what the header
+/// The classified streams by their use. An offset is that of the first byte after what the header
 /// takes.
 #[derive(Debug, Drop)]
 pub struct DispatchedStreams {
@@ -122,7 +122,7 @@ impl DispatchedStreams {
         self.decoder
     }
 
-    /// The first queued request: its stream, the request, and the offset behind it.
+    /// The first queued request: its stream, the request, and the offset after it.
     pub fn first_request(&self) -> Option<(StreamId, &SessionRequest, usize)>
         ensures { request_as result ≡ first_request self.now.requests }
     {

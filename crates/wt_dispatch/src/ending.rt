@@ -1,6 +1,6 @@
 //! How the driver ends a connection.
 ghost use Rattle.std.specs.Prelude.{◌≡◌, IfOk};
-ghost use Rattle.wt_dispatch.specs.Places.{ending_of_kind};
+ghost use Rattle.wt_dispatch.specs.Phases.{ending_of_kind};
 ghost use Rattle.wt_spec.specs.StreamTable.{ByFault, BySession};
 
 use std::marker::Model;
@@ -28,7 +28,7 @@ impl Model for Ending {
 
     ghost Value = { Ending };
 
-    ghost use Rattle.wt_dispatch.specs.Places.{ending_of_kind};
+    ghost use Rattle.wt_dispatch.specs.Phases.{ending_of_kind};
 
     ghost view = { λ e. ending_of_kind e.kind };
 }

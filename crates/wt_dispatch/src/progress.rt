@@ -18,14 +18,14 @@ use wt_wire::error::{ErrorCode, OutOfMemory};
 /// came, the stops of the streams that were classified at this moment, and how the driver ends the
 /// connection.
 #[derive(Debug, Drop)]
-pub struct Progress {
+pub struct ConnectionProgress {
     datagrams: u64,
     settings: bool,
     stops: Vec<Stopped>,
     ending: Option<Ending>,
 }
 
-impl Model for Progress {
+impl Model for ConnectionProgress {
     ghost use Rattle.wt_spec.specs.StreamTable.{DriverProgress};
 
     ghost Value = { DriverProgress };
@@ -51,12 +51,12 @@ fn add_stop(stops: &mut Vec<Stopped>, stop: Option<Stopped>) -> Result<(), OutOf
     Ok(())
 }
 
-impl Progress {
+impl ConnectionProgress {
     /// Nothing happened.
-    pub fn new(alloc: Global) -> Progress
+    pub fn new(alloc: Global) -> ConnectionProgress
         ensures { result ≡ record { datagrams = 0; settings = false; stops = []; ending = None } }
     {
-        Progress {
+        ConnectionProgress {
             datagrams: 0,
             settings: false,
             stops: Vec::new(alloc),
@@ -79,7 +79,7 @@ impl Progress {
     }
 
     /// Whether the connection goes on.
-    pub fn goes_on(&self) -> bool
+    pub fn still_going(&self) -> bool
         ensures { IsTrue result ↔ (self.now.ending ≡ None) }
     {
         self.ending.is_none()

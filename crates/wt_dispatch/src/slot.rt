@@ -1,6 +1,6 @@
 //! What is kept of a peer's stream that isn't released.
 ghost use Rattle.std.specs.Prelude.{◌≡◌, ◌<◌};
-ghost use Rattle.wt_dispatch.specs.Places.{place_of};
+ghost use Rattle.wt_dispatch.specs.Phases.{phase_of};
 ghost use Rattle.wt_seam_spec.specs.Streams.{peer_bi, peer_uni};
 ghost use Rattle.wt_driver_spec.specs.DriverState.{Dequeued, Held};
 ghost use Rattle.wt_driver_spec.specs.Step.{new_slot};
@@ -11,7 +11,7 @@ use wt_wire::side::Side;
 
 /// How far a stream in a slot is.
 #[derive(Clone, Copy, PartialEq, Eq, Debug)]
-pub enum Place {
+pub enum Phase {
     /// It waits for its turn.
     Arrived,
     /// Its header is read, and doesn't tell yet what the stream is.
@@ -24,16 +24,16 @@ pub enum Place {
 #[derive(Debug, Drop)]
 pub struct Slot {
     id: StreamId,
-    place: Place,
+    phase: Phase,
 }
 
 impl Model for Slot {
     ghost use Rattle.wt_driver_spec.specs.DriverState.{Slot};
-    ghost use Rattle.wt_dispatch.specs.Places.{place_of};
+    ghost use Rattle.wt_dispatch.specs.Phases.{phase_of};
 
     ghost Value = { Slot };
 
-    ghost view = { λ s. record { id = s.id; place = place_of s.place } };
+    ghost view = { λ s. record { id = s.id; phase = phase_of s.phase } };
 }
 
 /// A kind of the peer's streams.
@@ -52,27 +52,27 @@ impl Slot {
     {
         Slot {
             id,
-            place: Place::Arrived,
+            phase: Phase::Arrived,
         }
     }
 
     /// The slot of a stream of which the header is read.
     pub fn dequeued(id: StreamId) -> Slot
-        ensures { result ≡ record { id = id; place = Dequeued } }
+        ensures { result ≡ record { id = id; phase = Dequeued } }
     {
         Slot {
             id,
-            place: Place::Dequeued,
+            phase: Phase::Dequeued,
         }
     }
 
     /// The slot of a stream that waits for an accept.
     pub fn held(id: StreamId) -> Slot
-        ensures { result ≡ record { id = id; place = Held } }
+        ensures { result ≡ record { id = id; phase = Held } }
     {
         Slot {
             id,
-            place: Place::Held,
+            phase: Phase::Held,
         }
     }
 
@@ -84,10 +84,10 @@ impl Slot {
     }
 
     /// How far it is.
-    pub fn place(&self) -> Place
-        ensures { place_of result ≡ self.now.place }
+    pub fn phase(&self) -> Phase
+        ensures { phase_of result ≡ self.now.phase }
     {
-        self.place
+        self.phase
     }
 }
 

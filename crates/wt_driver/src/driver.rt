@@ -7,14 +7,14 @@ ghost use Rattle.wt_driver_state.specs.Tie.{Follows};
 mod accepts;
 mod arrivals;
 mod calls;
-mod moment;
+mod scan_and_flush;
 mod sessions;
 
 use std::alloc::Global;
 use std::collections::VecDeque;
 use std::marker::Model;
 use wt_dispatch::dispatched::DispatchedStreams;
-use wt_dispatch::progress::Progress;
+use wt_dispatch::progress::ConnectionProgress;
 use wt_dispatch::slot::Slot;
 use wt_inbox::Inbox;
 use wt_proto::settings::Settings;
@@ -32,11 +32,11 @@ pub struct Driver {
     unis: VecDeque<Slot>,
     bis: VecDeque<Slot>,
     dispatched: DispatchedStreams,
-    progress: Progress,
+    progress: ConnectionProgress,
     control_opened: bool,
     control_sent: usize,
     /// So many datagrams were received or passed.
-    settled: u64,
+    settled_datagrams: u64,
     /// The datagrams that came after those.
     queue: VecDeque<Piece>,
     session: Option<(StreamId, usize)>,
@@ -57,7 +57,7 @@ impl Drop for Driver {
             progress: _,
             control_opened: _,
             control_sent: _,
-            settled: _,
+            settled_datagrams: _,
             queue: _,
             session: _,
             settings: _,
@@ -79,7 +79,7 @@ impl Model for Driver {
         dispatched = d.dispatched;
         progress = d.progress;
         control_sent = record { opened = d.control_opened; sent = d.control_sent };
-        datagrams = d.settled;
+        datagrams = d.settled_datagrams;
         session = d.session;
         is_open = d.inbox.transport.is_open;
       };
@@ -105,10 +105,10 @@ impl Driver {
             unis: VecDeque::new(alloc),
             bis: VecDeque::new(alloc),
             dispatched: DispatchedStreams::new(alloc),
-            progress: Progress::new(alloc),
+            progress: ConnectionProgress::new(alloc),
             control_opened: false,
             control_sent: 0,
-            settled: 0,
+            settled_datagrams: 0,
             queue: VecDeque::new(alloc),
             session: None,
             settings: None,

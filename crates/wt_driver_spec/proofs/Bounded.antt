@@ -1,10 +1,10 @@
--- Behind the first few unreleased streams of a kind none is dequeued, so a scan may stop there.
+-- After the first few unreleased streams of a kind none is dequeued, so a scan may stop there.
 use Rattle.std.proofs.Common.{arith, ◌≡◌, ℕ, suc, Bool, true, false, cond, List, [], ◌∷◌, ◌++◌, refl, sym, ap, ◌∙◌}
 use Rattle.std.specs.Prelude.{Option, Some, None, ◌==◌, ◌&&◌, nat_lt}
 use Rattle.std.proofs.lemmas.Bool.{and_right, ltb-false, le-ltb, true≢false}
 use Rattle.wt_driver_spec.proofs.Following.{entry-followed, sound}
 use Rattle.wt_driver_spec.specs.Bounds.{Bounded, IsBounded}
-use Rattle.wt_driver_spec.specs.DriverState.{Arrived, Dequeued, DriverState, Held, Slot, SlotPlace, slots, state_of}
+use Rattle.wt_driver_spec.specs.DriverState.{Arrived, Dequeued, DriverState, Held, Slot, SlotPhase, slots, state_of}
 use Rattle.wt_driver_spec.specs.Moment.{Fits}
 use Rattle.wt_driver_spec.specs.Step.{Known, Scanned, after_entry, after_slots, begin_scan, classify_slot, dequeue_slot, keep_slot, known_of, new_slot, scan_on, scan_slots, scan_state, scan_uni_slots, unless_ended_slots, visit_slot, without_slot}
 use Rattle.wt_proto.specs.Uni.{is_final}
@@ -15,7 +15,7 @@ use Rattle.wt_spec.specs.StreamTable.{Ending, TransportView}
 use Rattle.wt_turn.specs.Log.{CallRecord, Called, Entry, Event, Log, PeerBi, PeerUni, Reported, StreamAccepted, StreamPassed, is_open}
 use Rattle.wt_wire.specs.declared.side.Side.{Side}
 
--- a scan over the slots that stops behind the last that may be dequeued
+-- a scan over the slots that stops after the last that may be dequeued
 abbrev pub first_few : Bool → (Known → Scanned) → List Slot → Known → Scanned
 first_few true f ls c = f c
 first_few false f ls c = record { slots = ls; known = c }
@@ -24,7 +24,7 @@ abbrev pub scan_first : Bool → SlotRule → ℕ → List Slot → Known → Sc
 scan_first ready rule n [] c = record { slots = []; known = c }
 scan_first ready rule n (l ∷ ls) c =
     first_few (nat_lt n rule.slots)
-    (λ e. unless_ended_slots e.progress.ending (λ e. scan_on (λ m d. scan_first ready rule m ls d) (visit_slot ready rule l.place l n e)) (l ∷ ls) e)
+    (λ e. unless_ended_slots e.progress.ending (λ e. scan_on (λ m d. scan_first ready rule m ls d) (visit_slot ready rule l.phase l n e)) (l ∷ ls) e)
     (l ∷ ls) c
 
 later-too : (slots n : ℕ) → nat_lt n slots ≡ false → nat_lt (suc n) slots ≡ false
@@ -36,7 +36,7 @@ sooner slots n [] b = tt
 sooner slots n (l ∷ ls) b = (λ e. b.0 (later-too slots n e), sooner slots (suc n) ls b.1)
 
 module _ (ready : Bool) (rule : SlotRule) where
-  untaken-stays : (p : SlotPlace) (k n : ℕ) (c : Known) → p ≡ Arrived → nat_lt n rule.slots ≡ false → visit_slot ready rule p (record { id = k; place = p }) n c ≡ keep_slot (record { id = k; place = p }) n c
+  untaken-stays : (p : SlotPhase) (k n : ℕ) (c : Known) → p ≡ Arrived → nat_lt n rule.slots ≡ false → visit_slot ready rule p (record { id = k; phase = p }) n c ≡ keep_slot (record { id = k; phase = p }) n c
   untaken-stays Arrived k n c e f = rw (and_right ready (nat_lt n rule.slots) f) refl
   untaken-stays Dequeued k n c e f = absurd cc
   untaken-stays Held k n c e f = absurd cc
@@ -45,10 +45,10 @@ module _ (ready : Bool) (rule : SlotRule) where
   pub behind-stay : (ls : List Slot) (n : ℕ) (c : Known) → nat_lt n rule.slots ≡ false → IsBounded rule.slots n ls → scan_slots ready rule n ls c ≡ record { slots = ls; known = c }
   behind-stay [] n c e b = refl
   behind-stay (l ∷ ls) n c e b =
-      by c.progress.ending (untaken-stays l.place l.id n c (b.0 e) e) (behind-stay ls (suc n) c (later-too rule.slots n e) b.1)
+      by c.progress.ending (untaken-stays l.phase l.id n c (b.0 e) e) (behind-stay ls (suc n) c (later-too rule.slots n e) b.1)
     where
-      by : (o : Option Ending) → visit_slot ready rule l.place l n c ≡ keep_slot l n c → scan_slots ready rule (suc n) ls c ≡ record { slots = ls; known = c }
-          → unless_ended_slots o (λ e. scan_on (λ m d. scan_slots ready rule m ls d) (visit_slot ready rule l.place l n e)) (l ∷ ls) c ≡ record { slots = l ∷ ls; known = c }
+      by : (o : Option Ending) → visit_slot ready rule l.phase l n c ≡ keep_slot l n c → scan_slots ready rule (suc n) ls c ≡ record { slots = ls; known = c }
+          → unless_ended_slots o (λ e. scan_on (λ m d. scan_slots ready rule m ls d) (visit_slot ready rule l.phase l n e)) (l ∷ ls) c ≡ record { slots = l ∷ ls; known = c }
       by None one rest = ap (scan_on (λ m d. scan_slots ready rule m ls d)) one ∙ ap (after_slots (l ∷ [])) rest
       by (Some x) one rest = refl
 
@@ -62,7 +62,7 @@ module _ (ready : Bool) (rule : SlotRule) where
   classified-than l n c P here next false = next
 
   -- how many slots a step leaves, by what it counts
-  earlier-than : (p : SlotPlace) (l : Slot) (n : ℕ) (c : Known) → (P : ℕ → Type 0) → P n → P (suc n) → P (visit_slot ready rule p l n c).occupied
+  earlier-than : (p : SlotPhase) (l : Slot) (n : ℕ) (c : Known) → (P : ℕ → Type 0) → P n → P (suc n) → P (visit_slot ready rule p l n c).occupied
   earlier-than Held l n c P here next = next
   earlier-than Dequeued l n c P here next = classified-than l n c P here next (is_final (rule.verdict l.id))
   earlier-than Arrived l n c P here next = up (ready && nat_lt n rule.slots)
@@ -76,17 +76,17 @@ module _ (ready : Bool) (rule : SlotRule) where
   first-few (l ∷ ls) n c b = up (nat_lt n rule.slots) refl
       (λ m d. first-few ls m d)
     where
-      bounded : IsBounded rule.slots (visit_slot ready rule l.place l n c).occupied ls
-      bounded = earlier-than l.place l n c (λ m. IsBounded rule.slots m ls) (sooner rule.slots n ls b.1) b.1
+      bounded : IsBounded rule.slots (visit_slot ready rule l.phase l n c).occupied ls
+      bounded = earlier-than l.phase l n c (λ m. IsBounded rule.slots m ls) (sooner rule.slots n ls b.1) b.1
 
       by : (o : Option Ending) → ((m : ℕ) (d : Known) → IsBounded rule.slots m ls → scan_first ready rule m ls d ≡ scan_slots ready rule m ls d)
-          → unless_ended_slots o (λ e. scan_on (λ m d. scan_first ready rule m ls d) (visit_slot ready rule l.place l n e)) (l ∷ ls) c
-          ≡ unless_ended_slots o (λ e. scan_on (λ m d. scan_slots ready rule m ls d) (visit_slot ready rule l.place l n e)) (l ∷ ls) c
-      by None again = ap (after_slots (visit_slot ready rule l.place l n c).slots) (again (visit_slot ready rule l.place l n c).occupied (visit_slot ready rule l.place l n c).known bounded)
+          → unless_ended_slots o (λ e. scan_on (λ m d. scan_first ready rule m ls d) (visit_slot ready rule l.phase l n e)) (l ∷ ls) c
+          ≡ unless_ended_slots o (λ e. scan_on (λ m d. scan_slots ready rule m ls d) (visit_slot ready rule l.phase l n e)) (l ∷ ls) c
+      by None again = ap (after_slots (visit_slot ready rule l.phase l n c).slots) (again (visit_slot ready rule l.phase l n c).occupied (visit_slot ready rule l.phase l n c).known bounded)
       by (Some x) again = refl
 
       up : (x : Bool) → nat_lt n rule.slots ≡ x → ((m : ℕ) (d : Known) → IsBounded rule.slots m ls → scan_first ready rule m ls d ≡ scan_slots ready rule m ls d)
-          → first_few x (λ e. unless_ended_slots e.progress.ending (λ e. scan_on (λ m d. scan_first ready rule m ls d) (visit_slot ready rule l.place l n e)) (l ∷ ls) e) (l ∷ ls) c
+          → first_few x (λ e. unless_ended_slots e.progress.ending (λ e. scan_on (λ m d. scan_first ready rule m ls d) (visit_slot ready rule l.phase l n e)) (l ∷ ls) e) (l ∷ ls) c
           ≡ scan_slots ready rule n (l ∷ ls) c
       up true e again = by c.progress.ending again
       up false e again = sym (behind-stay (l ∷ ls) n c e b)
@@ -94,25 +94,25 @@ module _ (ready : Bool) (rule : SlotRule) where
 -- ---- it is so after every log
 
 module _ (ready : Bool) (rule : SlotRule) where
-  -- one slot, and what a scan leaves of those behind it
+  -- one slot, and what a scan leaves of those after it
   module _ (n : ℕ) (f : ℕ → Known → Scanned) (low : nat_lt n rule.slots ≡ true)
       (here : (d : Known) → IsBounded rule.slots n (f n d).slots) (next : (d : Known) → IsBounded rule.slots (suc n) (f (suc n) d).slots) where
     one-bounded : (l : Slot) (d : Known) → IsBounded rule.slots n (l ∷ (f (suc n) d).slots)
     one-bounded l d = (λ e. absurd (true≢false (sym low ∙ e)), next d)
 
-    left-bounded : (s : Bool) (k : ℕ) (d : Known) → IsBounded rule.slots n (cond s [] (record { id = k; place = Held } ∷ []) ++ (f (occupied s n) d).slots)
+    left-bounded : (s : Bool) (k : ℕ) (d : Known) → IsBounded rule.slots n (cond s [] (record { id = k; phase = Held } ∷ []) ++ (f (occupied s n) d).slots)
     left-bounded true k d = here d
-    left-bounded false k d = one-bounded (record { id = k; place = Held }) d
+    left-bounded false k d = one-bounded (record { id = k; phase = Held }) d
 
     classified-bounded : (b : Bool) (k : ℕ) (c : Known) → IsBounded rule.slots n (scan_on f (classify_slot b rule k n c)).slots
     classified-bounded true k c = left-bounded (is_released false (rule.verdict k)) k (classify_slot true rule k n c).known
-    classified-bounded false k c = one-bounded (record { id = k; place = Dequeued }) c
+    classified-bounded false k c = one-bounded (record { id = k; phase = Dequeued }) c
 
     up-bounded : (b : Bool) (l : Slot) (c : Known) → IsBounded rule.slots n (scan_on f (dequeue_slot b rule l n c)).slots
     up-bounded true l c = classified-bounded (is_final (rule.verdict l.id)) l.id c
     up-bounded false l c = one-bounded l c
 
-    visited-bounded : (p : SlotPlace) (l : Slot) (c : Known) → IsBounded rule.slots n (scan_on f (visit_slot ready rule p l n c)).slots
+    visited-bounded : (p : SlotPhase) (l : Slot) (c : Known) → IsBounded rule.slots n (scan_on f (visit_slot ready rule p l n c)).slots
     visited-bounded Held l c = one-bounded l c
     visited-bounded Dequeued l c = up-bounded true l c
     visited-bounded Arrived l c = up-bounded (ready && nat_lt n rule.slots) l c
@@ -125,14 +125,14 @@ module _ (ready : Bool) (rule : SlotRule) where
       again : ℕ → Known → Scanned
       again m d = scan_slots ready rule m ls d
 
-      by : (o : Option Ending) → IsBounded rule.slots n (scan_on (λ m d. scan_slots ready rule m ls d) (visit_slot ready rule l.place l n c)).slots
-          → IsBounded rule.slots n (unless_ended_slots o (λ e. scan_on (λ m d. scan_slots ready rule m ls d) (visit_slot ready rule l.place l n e)) (l ∷ ls) c).slots
+      by : (o : Option Ending) → IsBounded rule.slots n (scan_on (λ m d. scan_slots ready rule m ls d) (visit_slot ready rule l.phase l n c)).slots
+          → IsBounded rule.slots n (unless_ended_slots o (λ e. scan_on (λ m d. scan_slots ready rule m ls d) (visit_slot ready rule l.phase l n e)) (l ∷ ls) c).slots
       by (Some x) rest = b
       by None rest = rest
 
       up : (x : Bool) → nat_lt n rule.slots ≡ x → ((d : Known) → IsBounded rule.slots n (scan_slots ready rule n ls d).slots)
           → ((d : Known) → IsBounded rule.slots (suc n) (scan_slots ready rule (suc n) ls d).slots) → IsBounded rule.slots n (scan_slots ready rule n (l ∷ ls) c).slots
-      up true e here next = by c.progress.ending (visited-bounded n (λ m d. scan_slots ready rule m ls d) e here next l.place l c)
+      up true e here next = by c.progress.ending (visited-bounded n (λ m d. scan_slots ready rule m ls d) e here next l.phase l c)
       up false e here next = rw (behind-stay ready rule (l ∷ ls) n c e b) b
 
 push-bounded : (slots n id : ℕ) (ls : List Slot) → IsBounded slots n ls → IsBounded slots n (ls ++ new_slot id ∷ [])

@@ -8,7 +8,7 @@ use Rattle.wt_driver_spec.proofs.ScanSlots.{IsDistinct, Same, apart, classified-
 use Rattle.wt_driver_spec.proofs.Stays.{by-accept-stays, release-stays, rests-dequeued}
 use Rattle.wt_driver_spec.proofs.StreamIds.{apart-ids, bi-low, ids-more, kinds-differ, kinds-differ-so, kinds-miss, next-misses, uni-low}
 use Rattle.wt_driver_spec.proofs.Turns.{turns-lead, start-leads}
-use Rattle.wt_driver_spec.specs.Dequeued.{DequeuedInTurn, StreamsDequeued, WasReady, unreleased_by, is_unreleased, is_classified, is_dequeued, unreleased_before, stream_id, tells}
+use Rattle.wt_driver_spec.specs.Dequeued.{DequeuedInTurn, StreamsDequeued, WasReady, unreleased_by, is_unreleased, is_classified, is_dequeued, unreleased_before, stream_id, has_final_verdict}
 use Rattle.wt_driver_spec.specs.DriverState.{Arrived, Dequeued, Held, slot_by, slots, state_of}
 use Rattle.wt_driver_spec.specs.Moment.{Fits}
 use Rattle.wt_driver_spec.specs.Rest.{FitsAndRests, Rests}
@@ -127,7 +127,7 @@ module _ (ready : Bool) (rule : SlotRule) (d : CallView) (s : StreamTable) (all 
       may : (ready && nat_lt n rule.slots) ≡ true
       may = let lower : n + 0 < rule.slots = low in let is_low : nat_lt n rule.slots ≡ true = lt-ltb n rule.slots (omega (arith, lower)) in λ i. is i && is_low i
 
-      two : (b : Bool) → Rests ready rule n (record { id = k; place = cond b Dequeued Arrived } ∷ slots d s more) → b ≡ true
+      two : (b : Bool) → Rests ready rule n (record { id = k; phase = cond b Dequeued Arrived } ∷ slots d s more) → b ≡ true
       two true q = refl
       two false q = absurd (true≢false (sym may ∙ q.0))
 
@@ -142,14 +142,14 @@ module _ (ready : Bool) (rule : SlotRule) (d : CallView) (s : StreamTable) (all 
       skip None q l again = again (suc n) q.1 (let lower : n + (held d s ks + 1) < rule.slots = l in omega (arith, lower))
       skip (Some v) q l again = two (is_released (d.released j) v) q l
         where
-          two : (b : Bool) → Rests ready rule n (cond b [] (record { id = j; place = Held } ∷ []) ++ slots d s (ks ++ k ∷ more))
+          two : (b : Bool) → Rests ready rule n (cond b [] (record { id = j; phase = Held } ∷ []) ++ slots d s (ks ++ k ∷ more))
               → n + one_more_if (not b) (held d s ks) < rule.slots → has k s.dequeued ≡ true
           two true q l = again n q l
           two false q l = again (suc n) q.1 (let lower : n + (held d s ks + 1) < rule.slots = l in omega (arith, lower))
 
--- ---- one is dequeued only behind few that aren't released
+-- ---- one is dequeued only after few that aren't released
 
--- behind so many that aren't released, each of these that is dequeued stands behind fewer than the most
+-- after so many that aren't released, each of these that is dequeued stands after fewer than the most
 abbrev FewBefore : CallView → StreamTable → ℕ → ℕ → List ℕ → Type 0
 FewBefore d s most n [] = Unit {0}
 FewBefore d s most n (k ∷ ks) = (has k s.dequeued ≡ true → n < most) × FewBefore d s most (one_more_if (unreleased d s k) n) ks
@@ -184,15 +184,15 @@ few-later d u s more most m n (k ∷ ks) le few =
     both : m + 1 ≤ n + 1
     both = omega (arith, le)
 
-    counted : (a b : Bool) → (a ≡ true → b ≡ true) → one_more_if (not b) m ≤ one_more_if (not a) n
-    counted true true f = le
-    counted true false f = absurd (true≢false (sym (f refl)))
-    counted false true f = let more : m ≤ n + 1 = omega (arith, le) in more
-    counted false false f = both
+    count_is : (a b : Bool) → (a ≡ true → b ≡ true) → one_more_if (not b) m ≤ one_more_if (not a) n
+    count_is true true f = le
+    count_is true false f = absurd (true≢false (sym (f refl)))
+    count_is false true f = let more : m ≤ n + 1 = omega (arith, le) in more
+    count_is false false f = both
 
     by : (o : Option Verdict) → one_more_if (unreleased_by (u.released k) o) m ≤ one_more_if (unreleased_by (d.released k) o) n
     by None = both
-    by (Some v) = counted (is_released (d.released k) v) (is_released (u.released k) v) (λ e. by-accept-stays v (d.released k) (u.released k) (more k) e)
+    by (Some v) = count_is (is_released (d.released k) v) (is_released (u.released k) v) (λ e. by-accept-stays v (d.released k) (u.released k) (more k) e)
 
 few-sooner : (d : CallView) (s : StreamTable) (most m n : ℕ) (ks : List ℕ) → m ≤ n → FewBefore d s most n ks → FewBefore d s most m ks
 few-sooner d s most m n ks le few = few-later d d s (λ k e. e) most m n ks le few
@@ -241,13 +241,13 @@ module _ (ready : Bool) (d : CallView) (rule : SlotRule) where
 
   scan-few : (ks : List ℕ) (p : Scan) → IsDistinct ks → FewBefore d p.table rule.slots p.occupied ks → FewBefore d (scan ready d rule ks p).table rule.slots p.occupied ks
   scan-few [] p dist few = tt
-  scan-few (k ∷ ks) p dist few = by p.table.progress.ending (scan-few ks q dist.1 behind)
+  scan-few (k ∷ ks) p dist few = by p.table.progress.ending (scan-few ks q dist.1 few-after)
     where
       q : Scan
       q = visit ready d rule k (verdict_of k p.table.classified) p
 
-      behind : FewBefore d q.table rule.slots q.occupied ks
-      behind =
+      few-after : FewBefore d q.table rule.slots q.occupied ks
+      few-after =
           few-sooner d q.table rule.slots q.occupied (one_more_if (unreleased d p.table k) p.occupied) ks (visit-fewer (verdict_of k p.table.classified) k p refl)
           (few-same d p.table q.table rule.slots (one_more_if (unreleased d p.table k) p.occupied) ks (λ j e. visit-same ready d rule (verdict_of k p.table.classified) k j p (apart k j ks dist.0 e)) few.1)
 
@@ -443,14 +443,14 @@ module _ (side : Side) (log : Log) (facts : FitsAndRests side log) where
         count = peer_count side (events_of log) kind
 
         by : (n : ℕ) → is_open log ≡ true → is_dequeued side log (stream_id kind n) ≡ true
-            → tells log verdict (stream_id kind n) ≡ true
+            → has_final_verdict log verdict (stream_id kind n) ≡ true
             → (b : Bool) → is_classified side log (stream_id kind n) ≡ b → b ≡ true
         by n o e final true f = refl
         by n o e final false f =
             let at = ids-at kind 0 n count n (omega arith) (open_ n e) in
             let among : has (4 * n + kind) (stream_ids kind 0 count) ≡ true = ap (has (4 * n + kind)) at.1 ∙ here-at (4 * n + kind) (stream_ids kind 0 n) at.0 in
-            let asks = rests-dequeued (settings_ready side log) rule d s (4 * n + kind) 0 (stream_ids kind 0 count) (rests o) among e (none-where (verdict_of (4 * n + kind) s.classified) f) in
-            absurd (true≢false (sym final ∙ ap is_final (sym (reads (4 * n + kind))) ∙ asks))
+            let asking = rests-dequeued (settings_ready side log) rule d s (4 * n + kind) 0 (stream_ids kind 0 count) (rests o) among e (none-where (verdict_of (4 * n + kind) s.classified) f) in
+            absurd (true≢false (sym final ∙ ap is_final (sym (reads (4 * n + kind))) ∙ asking))
 
   streams-dequeued : StreamsDequeued side log
   unfolding state_of

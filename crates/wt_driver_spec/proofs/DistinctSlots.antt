@@ -1,4 +1,4 @@
--- No stream has two slots, so what is known of one says nothing of those behind it.
+-- No stream has two slots, so what is known of one says nothing of those after it.
 use Rattle.std.proofs.Common.{◌≡◌, ℕ, Bool, true, false, cond, List, [], ◌∷◌, ◌++◌, refl, sym, ap, ◌∙◌}
 use Rattle.std.specs.Prelude.{Option, Some, None, ◌==◌, ◌&&◌, nat_lt}
 use Rattle.std.proofs.lemmas.Bool.{or_from, or_parts, true≢false}
@@ -6,7 +6,7 @@ use Rattle.wt_driver_spec.proofs.ScanSlots.{IsDistinct, apart}
 use Rattle.wt_driver_spec.proofs.Sending.{sent_at_once}
 use Rattle.wt_driver_spec.proofs.StreamIds.{apart-ids}
 use Rattle.wt_driver_spec.specs.Bounds.{AgreeOn, AreDistinct, HasDistinctSlots, has_slot}
-use Rattle.wt_driver_spec.specs.DriverState.{Arrived, Dequeued, DriverState, Held, Slot, SlotPlace, slot_by, slots, state_by, state_of}
+use Rattle.wt_driver_spec.specs.DriverState.{Arrived, Dequeued, DriverState, Held, Slot, SlotPhase, slot_by, slots, state_by, state_of}
 use Rattle.wt_driver_spec.specs.Moment.{flush_state}
 use Rattle.wt_driver_spec.specs.Step.{Known, Visited, after_call, after_slots, begin_scan, classify_as, classify_slot, dequeue_slot, known_of, release, scan_bi_slots, scan_on, scan_slots, scan_state, scan_uni_slots, unless_ended_slots, visit_slot, without_slot}
 use Rattle.wt_proto.specs.Uni.{is_final}
@@ -23,7 +23,7 @@ slots-miss : (d : CallView) (s : StreamTable) (k : ℕ) (ks : List ℕ) → has 
 slots-miss d s k [] e = refl
 slots-miss d s k (j ∷ js) e = let parts = or_parts (j == k) (has k js) e in by (verdict_of j s.classified) parts.0 (slots-miss d s k js parts.1)
   where
-    two : (b : Bool) → (j == k) ≡ false → has_slot k (slots d s js) ≡ false → has_slot k (cond b [] (record { id = j; place = Held } ∷ []) ++ slots d s js) ≡ false
+    two : (b : Bool) → (j == k) ≡ false → has_slot k (slots d s js) ≡ false → has_slot k (cond b [] (record { id = j; phase = Held } ∷ []) ++ slots d s js) ≡ false
     two true ne rest = rest
     two false ne rest = or_from (j == k) (has_slot k (slots d s js)) ne rest
 
@@ -35,7 +35,7 @@ slots-distinct : (d : CallView) (s : StreamTable) (ks : List ℕ) → IsDistinct
 slots-distinct d s [] dist = tt
 slots-distinct d s (k ∷ ks) dist = by (verdict_of k s.classified) (slots-miss d s k ks dist.0) (slots-distinct d s ks dist.1)
   where
-    two : (b : Bool) → has_slot k (slots d s ks) ≡ false → AreDistinct (slots d s ks) → AreDistinct (cond b [] (record { id = k; place = Held } ∷ []) ++ slots d s ks)
+    two : (b : Bool) → has_slot k (slots d s ks) ≡ false → AreDistinct (slots d s ks) → AreDistinct (cond b [] (record { id = k; phase = Held } ∷ []) ++ slots d s ks)
     two true miss rest = rest
     two false miss rest = (miss, rest)
 
@@ -110,7 +110,7 @@ module _ (ready : Bool) (rule : SlotRule) where
   classified-only false id n c = λ k more ne e. or_from (id == k) (has_slot k more) ne e
   classified-only true id n c = by (is_released false (rule.verdict id))
     where
-      by : (b : Bool) → OnlyOf id (cond b [] (record { id = id; place = Held } ∷ []))
+      by : (b : Bool) → OnlyOf id (cond b [] (record { id = id; phase = Held } ∷ []))
       by true = λ k more ne e. e
       by false = λ k more ne e. or_from (id == k) (has_slot k more) ne e
 
@@ -118,20 +118,20 @@ module _ (ready : Bool) (rule : SlotRule) where
   dequeued-only false l n c = λ k more ne e. or_from (l.id == k) (has_slot k more) ne e
   dequeued-only true l n c = classified-only (is_final (rule.verdict l.id)) l.id n c
 
-  visited-only : (p : SlotPlace) (l : Slot) (n : ℕ) (c : Known) → OnlyOf l.id (visit_slot ready rule p l n c).slots
+  visited-only : (p : SlotPhase) (l : Slot) (n : ℕ) (c : Known) → OnlyOf l.id (visit_slot ready rule p l n c).slots
   visited-only Held l n c = λ k more ne e. or_from (l.id == k) (has_slot k more) ne e
   visited-only Dequeued l n c = dequeued-only true l n c
   visited-only Arrived l n c = dequeued-only (ready && nat_lt n rule.slots) l n c
 
   pub scan-fewer : (ls : List Slot) (n : ℕ) (c : Known) → HasFewer (scan_slots ready rule n ls c).slots ls
   scan-fewer [] n c = λ k e. refl
-  scan-fewer (l ∷ ls) n c = by c.progress.ending (visited-only l.place l n c) (scan-fewer ls m.occupied m.known)
+  scan-fewer (l ∷ ls) n c = by c.progress.ending (visited-only l.phase l n c) (scan-fewer ls m.occupied m.known)
     where
       m : Visited
-      m = visit_slot ready rule l.place l n c
+      m = visit_slot ready rule l.phase l n c
 
       by : (o : Option Ending) → OnlyOf l.id m.slots → HasFewer (scan_slots ready rule m.occupied ls m.known).slots ls
-          → HasFewer (unless_ended_slots o (λ e. scan_on (λ m d. scan_slots ready rule m ls d) (visit_slot ready rule l.place l n e)) (l ∷ ls) c).slots (l ∷ ls)
+          → HasFewer (unless_ended_slots o (λ e. scan_on (λ m d. scan_slots ready rule m ls d) (visit_slot ready rule l.phase l n e)) (l ∷ ls) c).slots (l ∷ ls)
       by (Some x) one rest = λ k e. e
       by None one rest = λ k e. (let parts = or_parts (l.id == k) (has_slot k ls) e in one k (scan_slots ready rule m.occupied ls m.known).slots parts.0 (rest k parts.1))
 
@@ -143,7 +143,7 @@ module _ (ready : Bool) (rule : SlotRule) where
   classified-leads false id n c = λ more miss dist. (miss, dist)
   classified-leads true id n c = by (is_released false (rule.verdict id))
     where
-      by : (b : Bool) → Leads id (cond b [] (record { id = id; place = Held } ∷ []))
+      by : (b : Bool) → Leads id (cond b [] (record { id = id; phase = Held } ∷ []))
       by true = λ more miss dist. dist
       by false = λ more miss dist. (miss, dist)
 
@@ -151,20 +151,20 @@ module _ (ready : Bool) (rule : SlotRule) where
   dequeued-leads false l n c = λ more miss dist. (miss, dist)
   dequeued-leads true l n c = classified-leads (is_final (rule.verdict l.id)) l.id n c
 
-  visited-leads : (p : SlotPlace) (l : Slot) (n : ℕ) (c : Known) → Leads l.id (visit_slot ready rule p l n c).slots
+  visited-leads : (p : SlotPhase) (l : Slot) (n : ℕ) (c : Known) → Leads l.id (visit_slot ready rule p l n c).slots
   visited-leads Held l n c = λ more miss dist. (miss, dist)
   visited-leads Dequeued l n c = dequeued-leads true l n c
   visited-leads Arrived l n c = dequeued-leads (ready && nat_lt n rule.slots) l n c
 
   pub scan-distinct : (ls : List Slot) (n : ℕ) (c : Known) → AreDistinct ls → AreDistinct (scan_slots ready rule n ls c).slots
   scan-distinct [] n c dist = tt
-  scan-distinct (l ∷ ls) n c dist = by c.progress.ending (visited-leads l.place l n c) (scan-distinct ls m.occupied m.known dist.1)
+  scan-distinct (l ∷ ls) n c dist = by c.progress.ending (visited-leads l.phase l n c) (scan-distinct ls m.occupied m.known dist.1)
     where
       m : Visited
-      m = visit_slot ready rule l.place l n c
+      m = visit_slot ready rule l.phase l n c
 
       by : (o : Option Ending) → Leads l.id m.slots → AreDistinct (scan_slots ready rule m.occupied ls m.known).slots
-          → AreDistinct (unless_ended_slots o (λ e. scan_on (λ m d. scan_slots ready rule m ls d) (visit_slot ready rule l.place l n e)) (l ∷ ls) c).slots
+          → AreDistinct (unless_ended_slots o (λ e. scan_on (λ m d. scan_slots ready rule m ls d) (visit_slot ready rule l.phase l n e)) (l ∷ ls) c).slots
       by (Some x) one rest = dist
       by None one rest = one (scan_slots ready rule m.occupied ls m.known).slots (scan-fewer ls m.occupied m.known l.id dist.0) rest
 
@@ -189,27 +189,27 @@ module _ (ready : Bool) (now rule : SlotRule) (same : now.slots ≡ rule.slots) 
     classify-agrees false = refl
     classify-agrees true = λ i. classify_as (alike i) id (is i) n c
 
-    dequeue-agrees : (b : Bool) (p : SlotPlace) → dequeue_slot b now (record { id = id; place = p }) n c ≡ dequeue_slot b rule (record { id = id; place = p }) n c
+    dequeue-agrees : (b : Bool) (p : SlotPhase) → dequeue_slot b now (record { id = id; phase = p }) n c ≡ dequeue_slot b rule (record { id = id; phase = p }) n c
     dequeue-agrees false p = refl
     dequeue-agrees true p = (λ i. classify_slot (is_final (is i)) now id n c) ∙ classify-agrees (is_final (rule.verdict id))
 
     -- a visit asks of the rule the slot's verdict alone
-    pub visit-agrees : (p : SlotPlace) → visit_slot ready now p (record { id = id; place = p }) n c ≡ visit_slot ready rule p (record { id = id; place = p }) n c
+    pub visit-agrees : (p : SlotPhase) → visit_slot ready now p (record { id = id; phase = p }) n c ≡ visit_slot ready rule p (record { id = id; phase = p }) n c
     visit-agrees Held = refl
     visit-agrees Dequeued = dequeue-agrees true Dequeued
-    visit-agrees Arrived = (λ i. dequeue_slot (ready && nat_lt n (same i)) now (record { id = id; place = Arrived }) n c) ∙ dequeue-agrees (ready && nat_lt n rule.slots) Arrived
+    visit-agrees Arrived = (λ i. dequeue_slot (ready && nat_lt n (same i)) now (record { id = id; phase = Arrived }) n c) ∙ dequeue-agrees (ready && nat_lt n rule.slots) Arrived
 
   -- and a scan those of the slots
   pub scan-agrees : (ls : List Slot) (n : ℕ) (c : Known) → AgreeOn now.verdict rule.verdict ls → scan_slots ready now n ls c ≡ scan_slots ready rule n ls c
   scan-agrees [] n c agree = refl
-  scan-agrees (l ∷ ls) n c agree = by c.progress.ending (visit-agrees l.id agree.0 n c l.place) (scan-agrees ls m.occupied m.known agree.1)
+  scan-agrees (l ∷ ls) n c agree = by c.progress.ending (visit-agrees l.id agree.0 n c l.phase) (scan-agrees ls m.occupied m.known agree.1)
     where
       m : Visited
-      m = visit_slot ready rule l.place l n c
+      m = visit_slot ready rule l.phase l n c
 
-      by : (o : Option Ending) → visit_slot ready now l.place l n c ≡ m → scan_slots ready now m.occupied ls m.known ≡ scan_slots ready rule m.occupied ls m.known
-          → unless_ended_slots o (λ e. scan_on (λ m d. scan_slots ready now m ls d) (visit_slot ready now l.place l n e)) (l ∷ ls) c
-          ≡ unless_ended_slots o (λ e. scan_on (λ m d. scan_slots ready rule m ls d) (visit_slot ready rule l.place l n e)) (l ∷ ls) c
+      by : (o : Option Ending) → visit_slot ready now l.phase l n c ≡ m → scan_slots ready now m.occupied ls m.known ≡ scan_slots ready rule m.occupied ls m.known
+          → unless_ended_slots o (λ e. scan_on (λ m d. scan_slots ready now m ls d) (visit_slot ready now l.phase l n e)) (l ∷ ls) c
+          ≡ unless_ended_slots o (λ e. scan_on (λ m d. scan_slots ready rule m ls d) (visit_slot ready rule l.phase l n e)) (l ∷ ls) c
       by (Some x) one rest = refl
       by None one rest = ap (scan_on (λ m d. scan_slots ready now m ls d)) one ∙ ap (after_slots m.slots) rest
 

@@ -6,7 +6,7 @@ use Rattle.wt_driver_spec.proofs.ClassifiedOnce.{found-in, in-classified, only-i
 use Rattle.wt_driver_spec.proofs.Following.{Sound, events-with, moment-fits, moment-followed, out-followed, sound, without-append}
 use Rattle.wt_driver_spec.proofs.Sending.{sends-are}
 use Rattle.wt_driver_spec.proofs.StreamIds.{bi-low, kind-is, kinds-differ, kinds-differ-so, uni-low}
-use Rattle.wt_driver_spec.specs.DriverState.{Arrived, Dequeued, DriverState, Held, Slot, SlotPlace, slot_by, slot_of, slots, state_of}
+use Rattle.wt_driver_spec.specs.DriverState.{Arrived, Dequeued, DriverState, Held, Slot, SlotPhase, slot_by, slot_of, slots, state_of}
 use Rattle.wt_driver_spec.specs.Due.{Due, DueRule, accept_outcome, due_datagram, due_stream, give_or_pass_due, log_datagrams, log_streams, passing_stop, receive_outcome, take_due, take_next}
 use Rattle.wt_driver_spec.specs.Moment.{Fits, MayRecord, has_local_kind, moment_state, names_session, scan_if, scans, state_with_actions}
 use Rattle.wt_driver_spec.specs.Step.{Known, Visited, after_entry, begin_scan, classify_slot, dequeue_slot, known_of, scan_on, scan_slots, scan_state, scan_uni_slots, step_actions, unless_ended_slots, visit_slot, without_slot}
@@ -78,10 +78,10 @@ slot-less d s k v (j ∷ ks) i r e = by (j == k) refl i (slot-less d s k v ks)
 
     here : j ≡ k → length (without_slot k (slot_of d s j)) < length (slot_of d s j)
     here same =
-        let one : slot_of d s j ≡ record { id = j; place = Held } ∷ [] = rw (ap (λ i. verdict_of i s.classified) same ∙ r, ap (λ i. is_released (d.released i) v) same ∙ e) refl in
+        let one : slot_of d s j ≡ record { id = j; phase = Held } ∷ [] = rw (ap (λ i. verdict_of i s.classified) same ∙ r, ap (λ i. is_released (d.released i) v) same ∙ e) refl in
         rw (one, same) (gone k)
       where
-        gone : (k : ℕ) → length (without_slot k (record { id = k; place = Held } ∷ [])) < 1
+        gone : (k : ℕ) → length (without_slot k (record { id = k; phase = Held } ∷ [])) < 1
         gone k = rw (eq-eqb k k refl) (omega arith)
 
     by : (b : Bool) → (j == k) ≡ b → (b || has k ks) ≡ true
@@ -95,7 +95,7 @@ module _ (ready : Bool) (rule : SlotRule) where
   left-few false k n c = omega arith
   left-few true k n c = by (is_released false (rule.verdict k))
     where
-      by : (s : Bool) → length {A = Slot} (cond s [] (record { id = k; place = Held } ∷ [])) ≤ 1
+      by : (s : Bool) → length {A = Slot} (cond s [] (record { id = k; phase = Held } ∷ [])) ≤ 1
       by true = omega arith
       by false = omega arith
 
@@ -103,20 +103,20 @@ module _ (ready : Bool) (rule : SlotRule) where
   up-few true l n c = left-few (is_final (rule.verdict l.id)) l.id n c
   up-few false l n c = omega arith
 
-  visited-few : (p : SlotPlace) (l : Slot) (n : ℕ) (c : Known) → length (visit_slot ready rule p l n c).slots ≤ 1
+  visited-few : (p : SlotPhase) (l : Slot) (n : ℕ) (c : Known) → length (visit_slot ready rule p l n c).slots ≤ 1
   visited-few Held l n c = omega arith
   visited-few Dequeued l n c = up-few true l n c
   visited-few Arrived l n c = up-few (ready && nat_lt n rule.slots) l n c
 
   pub scan-fewer : (ls : List Slot) (n : ℕ) (c : Known) → length (scan_slots ready rule n ls c).slots ≤ length ls
   scan-fewer [] n c = omega arith
-  scan-fewer (l ∷ ls) n c = by c.progress.ending (visited-few l.place l n c) (scan-fewer ls (visit_slot ready rule l.place l n c).occupied (visit_slot ready rule l.place l n c).known)
+  scan-fewer (l ∷ ls) n c = by c.progress.ending (visited-few l.phase l n c) (scan-fewer ls (visit_slot ready rule l.phase l n c).occupied (visit_slot ready rule l.phase l n c).known)
     where
       m : Visited
-      m = visit_slot ready rule l.place l n c
+      m = visit_slot ready rule l.phase l n c
 
       by : (o : Option Ending) → length m.slots ≤ 1 → length (scan_slots ready rule m.occupied ls m.known).slots ≤ length ls
-          → length (unless_ended_slots o (λ e. scan_on (λ m d. scan_slots ready rule m ls d) (visit_slot ready rule l.place l n e)) (l ∷ ls) c).slots ≤ suc (length ls)
+          → length (unless_ended_slots o (λ e. scan_on (λ m d. scan_slots ready rule m ls d) (visit_slot ready rule l.phase l n e)) (l ∷ ls) c).slots ≤ suc (length ls)
       by (Some x) one rest = omega arith
       by None one rest = let both = length-append m.slots (scan_slots ready rule m.occupied ls m.known).slots in omega arith
 
@@ -234,7 +234,7 @@ slots-few : (d : CallView) (s : StreamTable) (ks : List ℕ) → length (slots d
 slots-few d s [] = omega arith
 slots-few d s (k ∷ ks) = by (verdict_of k s.classified) (slots-few d s ks)
   where
-    one : (v : Verdict) (b : Bool) → length (slots d s ks) ≤ length ks → length {A = Slot} (cond b [] (record { id = k; place = Held } ∷ []) ++ slots d s ks) ≤ suc (length ks)
+    one : (v : Verdict) (b : Bool) → length (slots d s ks) ≤ length ks → length {A = Slot} (cond b [] (record { id = k; phase = Held } ∷ []) ++ slots d s ks) ≤ suc (length ks)
     one v true le = omega arith
     one v false le = omega arith
 

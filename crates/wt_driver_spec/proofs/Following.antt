@@ -183,7 +183,7 @@ slot-released : (id k : ℕ) (gone dequeued : Bool) (o : Option Verdict) → (id
 slot-released id k gone dequeued None e n = absurd cc
 slot-released id k gone dequeued (Some v) e n = rw (named-settles v n) (by (is_released gone v))
   where
-    by : (b : Bool) → [] ≡ without_slot id (cond b [] (record { id = k; place = Held } ∷ []))
+    by : (b : Bool) → [] ≡ without_slot id (cond b [] (record { id = k; phase = Held } ∷ []))
     by true = refl
     by false = rw e refl
 
@@ -191,7 +191,7 @@ pub slot-other : (id k : ℕ) (gone dequeued : Bool) (o : Option Verdict) → (i
 slot-other id k gone dequeued None e = rw e refl
 slot-other id k gone dequeued (Some v) e = by (is_released gone v)
   where
-    by : (b : Bool) → cond b [] (record { id = k; place = Held } ∷ []) ≡ without_slot id (cond b [] (record { id = k; place = Held } ∷ []))
+    by : (b : Bool) → cond b [] (record { id = k; phase = Held } ∷ []) ≡ without_slot id (cond b [] (record { id = k; phase = Held } ∷ []))
     by true = refl
     by false = rw e refl
 
@@ -383,19 +383,19 @@ counts-so side log m = ap (λ b. is_moment m && b) (open-more m log)
 
 module _ (side : Side) (log : Log) (m : Entry) where
   -- what is kept as the scan begins
-  abbrev taken : DriverState
-  taken = after_entry (transport_view side log) m (state_of side log)
+  abbrev entry_state : DriverState
+  entry_state = after_entry (transport_view side log) m (state_of side log)
 
-  with-where : (b : Bool) → state_of side (m ∷ log) ≡ apply_if b (scan_state (transport_view side (m ∷ log))) taken
-      → state_of side (apply_if b (with_actions (pending_actions side (m ∷ log))) (m ∷ log)) ≡ scan_if b (transport_view side (m ∷ log)) taken
+  with-where : (b : Bool) → state_of side (m ∷ log) ≡ apply_if b (scan_state (transport_view side (m ∷ log))) entry_state
+      → state_of side (apply_if b (with_actions (pending_actions side (m ∷ log))) (m ∷ log)) ≡ scan_if b (transport_view side (m ∷ log)) entry_state
   with-where true e =
       actions-followed side (pending_actions side (m ∷ log)) (m ∷ log)
       ∙ ap (λ (acts : List Action). state_with_actions (transport_view side (m ∷ log)) acts (state_of side (m ∷ log))) (scanned-out side (m ∷ log))
       ∙ ap (flush_state (transport_view side (m ∷ log))) e
   with-where false e = e
 
-  out-where : (b : Bool) → state_of side (m ∷ log) ≡ apply_if b (scan_state (transport_view side (m ∷ log))) taken
-      → apply_if b (with_actions (pending_actions side (m ∷ log))) (m ∷ log) ≡ with_actions (actions_if b (transport_view side (m ∷ log)) taken) (m ∷ log)
+  out-where : (b : Bool) → state_of side (m ∷ log) ≡ apply_if b (scan_state (transport_view side (m ∷ log))) entry_state
+      → apply_if b (with_actions (pending_actions side (m ∷ log))) (m ∷ log) ≡ with_actions (actions_if b (transport_view side (m ∷ log)) entry_state) (m ∷ log)
   out-where true e = ap (λ (acts : List Action). with_actions acts (m ∷ log)) (scanned-out side (m ∷ log) ∙ ap (step_actions (transport_view side (m ∷ log))) e)
   out-where false e = refl
 

@@ -20,5 +20,5 @@ pub mod Dequeues
 pub mod LookOrder
 pub mod Theorems
 pub mod ControlStream
-pub mod Asked
+pub mod StateSays
 pub mod Fair

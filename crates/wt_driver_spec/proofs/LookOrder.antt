@@ -165,7 +165,7 @@ has-behind : (k j : ℕ) (xs ys : List ℕ) → has k ys ≡ true → has k (xs 
 has-behind k j [] ys e = or_right (j == k) (has k ys) e
 has-behind k j (x ∷ xs) ys e = or_right (x == k) (has k (xs ++ j ∷ ys)) (has-behind k j xs ys e)
 
--- what isn't up to a place is behind it
+-- what isn't up to a place is after it
 has-rest : (k j : ℕ) (xs ys : List ℕ) → has k (xs ++ j ∷ ys) ≡ true → has k xs ≡ false → (j == k) ≡ false → has k ys ≡ true
 has-rest k j [] ys e miss other = by (j == k) other e
   where
@@ -178,7 +178,7 @@ has-rest k j (x ∷ xs) ys e miss other = by (x == k) e miss (λ f g. has-rest k
     by true f g again = absurd cc
     by false f g again = again f g
 
--- the scan went on to the streams behind: nothing ended it, or one of these is classified that wasn't
+-- the scan went on to the later streams: nothing ended it, or one of these is classified that wasn't
 abbrev WentOn : List ℕ → StreamTable → StreamTable → Type 0
 WentOn ys before after = (after.progress.ending ≡ None) ⊎ ((k : ℕ) × (has k ys ≡ true) × (verdict_of k before.classified ≡ None) × (is_some (verdict_of k after.classified) ≡ true))
 
@@ -241,8 +241,8 @@ module _ (ready : Bool) (d : CallView) (rule : SlotRule) where
       on (inl none) = inl none
       on (inr w) = inr (w.0, w.1, (visit-same ready d rule (verdict_of i p.table.classified) i w.0 p (apart i w.0 (xs ++ j ∷ ys) dist.0 (has-behind w.0 j xs ys w.1))).classified ∙ w.2, w.3)
 
-      counted : q.occupied + held d t xs ≤ p.occupied + one_more_if (unreleased d t i) (held d t xs)
-      counted =
+      count_is : q.occupied + held d t xs ≤ p.occupied + one_more_if (unreleased d t i) (held d t xs)
+      count_is =
           subst (λ (n : ℕ). n + held d t xs ≤ p.occupied + one_more_if (unreleased d t i) (held d t xs))
           (sym (visit-counts ready d rule (verdict_of i p.table.classified) i p refl ∙ ap (λ (o : Option Verdict). one_more_if (unreleased_by (d.released i) o) p.occupied) (sym (scan-same ready d rule i (xs ++ j ∷ ys) q dist.0).classified)))
           (count-over (unreleased d t i) p.occupied (held d t xs))
@@ -253,9 +253,9 @@ module _ (ready : Bool) (d : CallView) (rule : SlotRule) where
           → LookedAt ready rule j (p.occupied + held d (unless_ended e (λ q. scan ready d rule (xs ++ j ∷ ys) (visit ready d rule i (verdict_of i q.table.classified) q)) p).table (i ∷ xs))
           (unless_ended e (λ q. scan ready d rule (xs ++ j ∷ ys) (visit ready d rule i (verdict_of i q.table.classified) q)) p).table
       by (Some e) f w again = absurd (not-stopped ys p.table e f w)
-      by None f w again = looked-more ready rule j (q.occupied + held d t xs) (p.occupied + held d t (i ∷ xs)) t counted (again (on w))
+      by None f w again = looked-more ready rule j (q.occupied + held d t xs) (p.occupied + held d t (i ∷ xs)) t count_is (again (on w))
 
-  -- behind an ending a scan does nothing
+  -- after an ending a scan does nothing
   stopped-scan : (ks : List ℕ) (p : Scan) (e : Ending) → p.table.progress.ending ≡ Some e → scan ready d rule ks p ≡ p
   stopped-scan [] p e f = refl
   stopped-scan (k ∷ ks) p e f = rw f refl
@@ -265,7 +265,7 @@ module _ (ready : Bool) (d : CallView) (rule : SlotRule) where
 -- what a moment does, from one table to the next
 record LooksAt (t : TransportView) (d : CallView) (s u : StreamTable) : Type 0 where
   new : List Classified
-  behind : u.classified ≡ s.classified ++ new
+  appended : u.classified ≡ s.classified ++ new
   in_order : AreInLookOrder t.side new
   unis : (k n : ℕ) → verdict_of k s.classified ≡ None → is_some (verdict_of k u.classified) ≡ true → looks_before t.side (4 * n + peer_uni t.side) k ≡ true → n < t.unis
       → LookedAt t.ready (uni_rule t) (4 * n + peer_uni t.side) (held d u (stream_ids (peer_uni t.side) 0 n)) u
@@ -291,12 +291,12 @@ bi-before side n k e = by ((4 * n + peer_bi side) % 4 == k % 4) refl e
     by true f g = let same = eqb-true ((4 * n + peer_bi side) % 4) (k % 4) f in let bits : (4 * n + peer_bi side) % 4 ≡ peer_bi side = omega (arith, low) in sym same ∙ bits
     by false f g = let same = eqb-true ((4 * n + peer_bi side) % 4) (peer_uni side) g in let bits : (4 * n + peer_bi side) % 4 ≡ peer_bi side = omega (arith, low) in absurd (kinds-differ side (sym same ∙ bits))
 
--- the streams of a kind behind the nth have those with greater ids
+-- the streams of a kind after the nth have those with greater ids
 behind-nth : (kind n count k : ℕ) (more : List ℕ) → stream_ids kind 0 count ≡ stream_ids kind 0 n ++ (4 * n + kind) ∷ more → has k (stream_ids kind 0 count) ≡ true → 4 * n + kind < k → has k more ≡ true
 behind-nth kind n count k more split e less =
     let a = among kind 0 count k e in
     has-rest k (4 * n + kind) (stream_ids kind 0 n) more (sym (ap (has k) split) ∙ e)
-    (ap (λ i. has i (stream_ids kind 0 n)) a.is ∙ next-misses kind 0 n a.place (let is = a.is in omega (arith, is, less)))
+    (ap (λ i. has i (stream_ids kind 0 n)) a.is ∙ next-misses kind 0 n a.index (let is = a.is in omega (arith, is, less)))
     (differs (4 * n + kind == k) refl)
   where
     differs : (b : Bool) → (4 * n + kind == k) ≡ b → b ≡ false
@@ -326,14 +326,14 @@ module _ (t : TransportView) (d : CallView) (s : StreamTable) (all : AllDequeued
   abbrev start : Scan
   start = record { occupied = 0; table = without_stops s }
 
-  -- behind the unidirectional streams
+  -- after the unidirectional streams
   abbrev first : StreamTable
   first = scan_unis t d (without_stops s)
 
   abbrev middle : Scan
   middle = record { occupied = 0; table = first }
 
-  -- and behind the bidirectional ones
+  -- and after the bidirectional ones
   abbrev both : StreamTable
   both = scan_bis t d first
 
@@ -417,7 +417,7 @@ module _ (t : TransportView) (d : CallView) (s : StreamTable) (all : AllDequeued
   looks : LooksAt t d s (scan_order t d s)
   looks = record {
     new = us.new ++ bs.new;
-    behind = bs.are ∙ ap (λ (cs : List Classified). cs ++ bs.new) us.are ∙ append_assoc s.classified us.new bs.new;
+    appended = bs.are ∙ ap (λ (cs : List Classified). cs ++ bs.new) us.are ∙ append_assoc s.classified us.new bs.new;
     in_order = order-both t.side 0 us.new bs.new us.turn bs.turn;
     unis = λ k n none some before low. (let x = uni-looked k n none some before low in record { dequeues = x.dequeues; classifies = x.classifies });
     bis = λ k n none some before low. (let x = bi-looked k n none some before low in record { dequeues = x.dequeues; classifies = x.classifies });
@@ -436,7 +436,7 @@ looks-where : (b : Bool) (t : TransportView) (d : CallView) (s : StreamTable) �
 looks-where true t d s all = looks t d s all
 looks-where false t d s all = record {
   new = [];
-  behind = sym (append-nil s.classified);
+  appended = sym (append-nil s.classified);
   in_order = tt;
   unis = λ k n none some before low. absurd (nothing-new (verdict_of k s.classified) none some);
   bis = λ k n none some before low. absurd (nothing-new (verdict_of k s.classified) none some);
@@ -453,7 +453,7 @@ look_order_theorem side e log =
     let l = looks-at side e log in
     record {
       new = l.new;
-      behind = l.behind;
+      appended = l.appended;
       in_order = l.in_order;
       unis = record {
         dequeued = λ k n now before low ready few.

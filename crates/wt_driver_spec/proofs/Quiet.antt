@@ -4,7 +4,7 @@ use Rattle.std.specs.Prelude.{Option, Some, None, ◌==◌, ◌&&◌}
 use Rattle.wt_driver_spec.proofs.Following.{actions-followed, entry-followed, scanned-out, sound, view-with}
 use Rattle.wt_driver_spec.proofs.Resting.{rest-scanned, scanned-rest}
 use Rattle.wt_driver_spec.proofs.Sending.{pass-again, pass-silent, sends-are}
-use Rattle.wt_driver_spec.specs.DriverState.{Arrived, Dequeued, DriverState, Held, Slot, SlotPlace, state_of}
+use Rattle.wt_driver_spec.specs.DriverState.{Arrived, Dequeued, DriverState, Held, Slot, SlotPhase, state_of}
 use Rattle.wt_driver_spec.specs.Moment.{Fits, MayFollow, flush_state, scans, state_with_actions}
 use Rattle.wt_driver_spec.specs.Rest.{AtRest, IsQuiet, Resting, Rests, RestsAt, StillReads, with_contents}
 use Rattle.wt_driver_spec.specs.Step.{after_entry, begin_scan, scan_state, step_actions, with_no_stops}
@@ -26,7 +26,7 @@ module _ (t : TransportView) (bytes : ℕ → List ℕ) (id : ℕ) (others : (j 
   abbrev rule_by : TransportView → SlotRule
   rule_by u = record { slots = most; verdict = λ k. verdict (u.contents k) (u.end k); consequence = consequence }
 
-  rests-on : (p : SlotPlace) (n j : ℕ) → ((id == j) ≡ true → p ≡ Dequeued → is_final ((rule_by (with_contents t bytes)).verdict j) ≡ false)
+  rests-on : (p : SlotPhase) (n j : ℕ) → ((id == j) ≡ true → p ≡ Dequeued → is_final ((rule_by (with_contents t bytes)).verdict j) ≡ false)
       → RestsAt t.ready (rule_by t) n j p → RestsAt t.ready (rule_by (with_contents t bytes)) n j p
   rests-on Arrived n j still r = r
   rests-on Held n j still r = r
@@ -38,7 +38,7 @@ module _ (t : TransportView) (bytes : ℕ → List ℕ) (id : ℕ) (others : (j 
 
   all-rest-on : (n : ℕ) (ls : List Slot) → StillReads (rule_by (with_contents t bytes)) id ls → Rests t.ready (rule_by t) n ls → Rests t.ready (rule_by (with_contents t bytes)) n ls
   all-rest-on n [] still r = tt
-  all-rest-on n (l ∷ ls) still r = (rests-on l.place n l.id still.0 r.0, all-rest-on (suc n) ls still.1 r.1)
+  all-rest-on n (l ∷ ls) still r = (rests-on l.phase n l.id still.0 r.0, all-rest-on (suc n) ls still.1 r.1)
 
 datagrams-same : (t : TransportView) (bytes : ℕ → List ℕ) (b : Bool) (c : DriverProgress) → check_datagram b (with_contents t bytes) c ≡ check_datagram b t c
 datagrams-same t bytes true c = refl
@@ -103,7 +103,7 @@ quiet-where : (b : Bool) (side : Side) (g : Log) → pending_actions side g ≡ 
 quiet-where true side g e = ap (λ (acts : List Action). with_actions acts g) e
 quiet-where false side g e = refl
 
--- A quiet byte at rest is the byte alone, and all is at rest behind it.
+-- A quiet byte at rest is the byte alone, and all is at rest after it.
 pub quiet-moment : (side : Side) (log : Log) (id b : ℕ) → Fits side log → is_open log ≡ true → AtRest side log
     → IsQuiet (transport_view side log) (contents (Received id b ∷ log)) id (state_of side log)
     → (log_and_flush side log (Received id b) ≡ Received id b ∷ log) × AtRest side (Received id b ∷ log)

@@ -2,7 +2,7 @@
 use Rattle.std.proofs.Common.{arith, ◌≡◌, ℕ, suc, Bool, true, false, cond, List, [], ◌∷◌, ◌++◌, drop, refl, sym, ap, ◌∙◌}
 use Rattle.std.specs.Prelude.{is_some, Option, Some, None, Result, Ok, Err, ◌==◌, ◌||◌, ◌&&◌, nat_lt, not}
 use Rattle.std.proofs.lemmas.Bool.{eqb-true, false_from_ne_true}
-use Rattle.wt_driver_spec.specs.DriverState.{Arrived, Dequeued, DriverState, Held, Slot, SlotPlace}
+use Rattle.wt_driver_spec.specs.DriverState.{Arrived, Dequeued, DriverState, Held, Slot, SlotPhase}
 use Rattle.wt_driver_spec.specs.Rest.{AllStay, Resting, Rests, RestsAt}
 use Rattle.wt_driver_spec.specs.Step.{Known, Scanned, after_slots, begin_scan, classify_slot, dequeue_slot, keep_slot, kept_calls, known_of, run_checks, scan_bi_slots, scan_on, scan_slots, scan_state, scan_uni_slots, unless_ended_slots, visit_slot, with_no_stops, with_scanned_bis, with_scanned_unis}
 use Rattle.wt_message.specs.Datagram.{datagram_of}
@@ -36,28 +36,28 @@ module _ (ready : Bool) (rule : SlotRule) where
       d = (classify_slot true rule k n c).known
 
       by : (s : Bool) → (scan_slots ready rule (occupied s n) ls d).known.progress.ending ≡ None
-          → Rests ready rule n (cond s [] (record { id = k; place = Held } ∷ []) ++ (scan_slots ready rule (occupied s n) ls d).slots)
+          → Rests ready rule n (cond s [] (record { id = k; phase = Held } ∷ []) ++ (scan_slots ready rule (occupied s n) ls d).slots)
       by true runs = rest n d runs
       by false runs = (tt, rest (suc n) d runs)
 
-  dequeued-rests : (b : Bool) (l : Slot) (n : ℕ) (c : Known) (ls : List Slot) → (b ≡ false → RestsAt ready rule n l.id l.place)
+  dequeued-rests : (b : Bool) (l : Slot) (n : ℕ) (c : Known) (ls : List Slot) → (b ≡ false → RestsAt ready rule n l.id l.phase)
       → ((m : ℕ) (d : Known) → AtRest m (scan_slots ready rule m ls d)) → AtRest n (scan_on (again ls) (dequeue_slot b rule l n c))
   dequeued-rests false l n c ls e rest runs = (e refl, rest (suc n) c runs)
   dequeued-rests true l n c ls e rest runs = classified-rests (is_final (rule.verdict l.id)) l.id n c ls refl rest runs
 
-  visited-rests : (p : SlotPlace) (k n : ℕ) (c : Known) (ls : List Slot)
-      → ((m : ℕ) (d : Known) → AtRest m (scan_slots ready rule m ls d)) → AtRest n (scan_on (again ls) (visit_slot ready rule p (record { id = k; place = p }) n c))
+  visited-rests : (p : SlotPhase) (k n : ℕ) (c : Known) (ls : List Slot)
+      → ((m : ℕ) (d : Known) → AtRest m (scan_slots ready rule m ls d)) → AtRest n (scan_on (again ls) (visit_slot ready rule p (record { id = k; phase = p }) n c))
   visited-rests Held k n c ls rest runs = (tt, rest (suc n) c runs)
-  visited-rests Dequeued k n c ls rest runs = dequeued-rests true (record { id = k; place = Dequeued }) n c ls (λ e. absurd cc) rest runs
-  visited-rests Arrived k n c ls rest runs = dequeued-rests (ready && nat_lt n rule.slots) (record { id = k; place = Arrived }) n c ls (λ e. e) rest runs
+  visited-rests Dequeued k n c ls rest runs = dequeued-rests true (record { id = k; phase = Dequeued }) n c ls (λ e. absurd cc) rest runs
+  visited-rests Arrived k n c ls rest runs = dequeued-rests (ready && nat_lt n rule.slots) (record { id = k; phase = Arrived }) n c ls (λ e. e) rest runs
 
   -- what scanning the slots leaves is at rest
   pub scan-rests : (ls : List Slot) (n : ℕ) (c : Known) → AtRest n (scan_slots ready rule n ls c)
   scan-rests [] n c = λ runs. tt
-  scan-rests (l ∷ ls) n c = by c.progress.ending refl (visited-rests l.place l.id n c ls (scan-rests ls))
+  scan-rests (l ∷ ls) n c = by c.progress.ending refl (visited-rests l.phase l.id n c ls (scan-rests ls))
     where
-      by : (o : Option Ending) → c.progress.ending ≡ o → AtRest n (scan_on (again ls) (visit_slot ready rule l.place l n c))
-          → AtRest n (unless_ended_slots o (λ e. scan_on (again ls) (visit_slot ready rule l.place l n e)) (l ∷ ls) c)
+      by : (o : Option Ending) → c.progress.ending ≡ o → AtRest n (scan_on (again ls) (visit_slot ready rule l.phase l n c))
+          → AtRest n (unless_ended_slots o (λ e. scan_on (again ls) (visit_slot ready rule l.phase l n e)) (l ∷ ls) c)
       by None e rest runs = rest runs
       by (Some x) e rest runs = absurd (let f : Some x ≡ None = sym e ∙ runs in cc)
 
@@ -66,26 +66,26 @@ module _ (ready : Bool) (rule : SlotRule) where
   ended-going [] n c e = e
   ended-going (l ∷ ls) n c e = by c.progress.ending refl e
     where
-      by : (o : Option Ending) → c.progress.ending ≡ o → (unless_ended_slots o (λ e. scan_on (again ls) (visit_slot ready rule l.place l n e)) (l ∷ ls) c).known.progress.ending ≡ None → o ≡ None
+      by : (o : Option Ending) → c.progress.ending ≡ o → (unless_ended_slots o (λ e. scan_on (again ls) (visit_slot ready rule l.phase l n e)) (l ∷ ls) c).known.progress.ending ≡ None → o ≡ None
       by None f g = refl
       by (Some x) f g = sym f ∙ g
 
   -- and scanning slots at rest changes nothing
-  visited-stays : (p : SlotPlace) (k n : ℕ) (c : Known) → RestsAt ready rule n k p → visit_slot ready rule p (record { id = k; place = p }) n c ≡ keep_slot (record { id = k; place = p }) n c
+  visited-stays : (p : SlotPhase) (k n : ℕ) (c : Known) → RestsAt ready rule n k p → visit_slot ready rule p (record { id = k; phase = p }) n c ≡ keep_slot (record { id = k; phase = p }) n c
   visited-stays Held k n c r = refl
   visited-stays Dequeued k n c r = rw r refl
   visited-stays Arrived k n c r = rw r refl
 
   pub rest-stays : (ls : List Slot) (n : ℕ) (c : Known) → Rests ready rule n ls → scan_slots ready rule n ls c ≡ record { slots = ls; known = c }
   rest-stays [] n c r = refl
-  rest-stays (l ∷ ls) n c r = by c.progress.ending (visited-stays l.place l.id n c r.0) (rest-stays ls (suc n) c r.1)
+  rest-stays (l ∷ ls) n c r = by c.progress.ending (visited-stays l.phase l.id n c r.0) (rest-stays ls (suc n) c r.1)
     where
-      by : (o : Option Ending) → visit_slot ready rule l.place l n c ≡ keep_slot l n c → scan_slots ready rule (suc n) ls c ≡ record { slots = ls; known = c }
-          → unless_ended_slots o (λ e. scan_on (again ls) (visit_slot ready rule l.place l n e)) (l ∷ ls) c ≡ record { slots = l ∷ ls; known = c }
+      by : (o : Option Ending) → visit_slot ready rule l.phase l n c ≡ keep_slot l n c → scan_slots ready rule (suc n) ls c ≡ record { slots = ls; known = c }
+          → unless_ended_slots o (λ e. scan_on (again ls) (visit_slot ready rule l.phase l n e)) (l ∷ ls) c ≡ record { slots = l ∷ ls; known = c }
       by None one rest = ap (scan_on (again ls)) one ∙ ap (after_slots (l ∷ [])) rest
       by (Some x) one rest = refl
 
--- ---- the checks behind the streams
+-- ---- the checks after the streams
 
 -- a check changes no datagrams, no settings
 abbrev KeepsDatagrams : (DriverProgress → DriverProgress) → Type 0
@@ -159,31 +159,31 @@ read-datagrams (Ok d) c = refl
 read-datagrams (Err code) c = refl
 
 -- after a datagram was dequeued no more is dequeued
-module _ (t : TransportView) (settled : ℕ) where
+module _ (t : TransportView) (settled_count : ℕ) where
   abbrev next_datagram : DriverProgress → DriverProgress
-  next_datagram c = check_datagram (t.ready && settled == c.datagrams) t c
+  next_datagram c = check_datagram (t.ready && settled_count == c.datagrams) t c
 
-  stuck : (ready : Bool) (e : DriverProgress) → (settled == e.datagrams) ≡ false → check_datagram (ready && settled == e.datagrams) t e ≡ e
+  stuck : (ready : Bool) (e : DriverProgress) → (settled_count == e.datagrams) ≡ false → check_datagram (ready && settled_count == e.datagrams) t e ≡ e
   stuck true e f = rw f refl
   stuck false e f = refl
 
-  past : (n : ℕ) → (settled == n) ≡ true → (settled == suc n) ≡ false
-  past n e = false_from_ne_true (settled == suc n) (λ f. (let a = eqb-true settled n e in let b = eqb-true settled (suc n) f in omega arith))
+  past : (n : ℕ) → (settled_count == n) ≡ true → (settled_count == suc n) ≡ false
+  past n e = false_from_ne_true (settled_count == suc n) (λ f. (let a = eqb-true settled_count n e in let b = eqb-true settled_count (suc n) f in omega arith))
 
-  dequeued-again : (o : Option (List ℕ)) (c e : DriverProgress) → t.datagram c.datagrams ≡ o → (settled == c.datagrams) ≡ true → e.datagrams ≡ (dequeued_datagram o c).datagrams → t.ready ≡ true → next_datagram e ≡ e
+  dequeued-again : (o : Option (List ℕ)) (c e : DriverProgress) → t.datagram c.datagrams ≡ o → (settled_count == c.datagrams) ≡ true → e.datagrams ≡ (dequeued_datagram o c).datagrams → t.ready ≡ true → next_datagram e ≡ e
   dequeued-again None c e f g same ready =
       rw (ready, same, g, f) refl
   dequeued-again (Some piece) c e f g same ready =
       let more : e.datagrams ≡ suc c.datagrams = same ∙ read-datagrams (datagram_of piece) (record c { datagrams = suc c.datagrams }) in
-      stuck t.ready e (ap (λ n. settled == n) more ∙ past c.datagrams g)
+      stuck t.ready e (ap (λ n. settled_count == n) more ∙ past c.datagrams g)
 
-  datagrams-again : (ready is : Bool) (c e : DriverProgress) → t.ready ≡ ready → (settled == c.datagrams) ≡ is → e.datagrams ≡ (check_datagram (ready && is) t c).datagrams → next_datagram e ≡ e
+  datagrams-again : (ready is : Bool) (c e : DriverProgress) → t.ready ≡ ready → (settled_count == c.datagrams) ≡ is → e.datagrams ≡ (check_datagram (ready && is) t c).datagrams → next_datagram e ≡ e
   datagrams-again false is c e f g same = rw f refl
-  datagrams-again true false c e f g same = stuck t.ready e (ap (λ n. settled == n) same ∙ g)
+  datagrams-again true false c e f g same = stuck t.ready e (ap (λ n. settled_count == n) same ∙ g)
   datagrams-again true true c e f g same = dequeued-again (t.datagram c.datagrams) c e refl g same f
 
   datagrams-rest : (c e : DriverProgress) → e.datagrams ≡ (next_datagram c).datagrams → next_datagram e ≡ e
-  datagrams-rest c e same = datagrams-again t.ready (settled == c.datagrams) c e refl refl same
+  datagrams-rest c e same = datagrams-again t.ready (settled_count == c.datagrams) c e refl refl same
 
 -- ---- all checks, once more
 
@@ -225,9 +225,9 @@ in-order-stays (f ∷ fs) c s = ap (in_order fs) (by c.ending) ∙ in-order-stay
     by None = s.0
     by (Some x) = refl
 
-module _ (t : TransportView) (settled : ℕ) (session : Option (ℕ × ℕ)) (o : Dispatched) where
+module _ (t : TransportView) (settled_count : ℕ) (session : Option (ℕ × ℕ)) (o : Dispatched) where
   abbrev one : DriverProgress → DriverProgress
-  one c = next_datagram t settled c
+  one c = next_datagram t settled_count c
 
   abbrev two : DriverProgress → DriverProgress
   two c = check_session t session (one c)
@@ -244,7 +244,7 @@ module _ (t : TransportView) (settled : ℕ) (session : Option (ℕ × ℕ)) (o 
   abbrev six : DriverProgress → DriverProgress
   six c = check_qpack t o.decoder (five c)
 
-  all-stay : (c : DriverProgress) → RunsOn (checks t (kept_calls settled session) o) c → (six c).ending ≡ None → AllStay (checks t (kept_calls settled session) o) (with_no_stops (six c))
+  all-stay : (c : DriverProgress) → RunsOn (checks t (kept_calls settled_count session) o) c → (six c).ending ≡ None → AllStay (checks t (kept_calls settled_count session) o) (with_no_stops (six c))
   all-stay c r last =
       let s = plain-session t session in
       let w = plain-where t.control_stopped in
@@ -252,7 +252,7 @@ module _ (t : TransportView) (settled : ℕ) (session : Option (ℕ × ℕ)) (o 
       let d = plain-critical t o.decoder in
       let kept : (six c).datagrams ≡ (one c).datagrams =
       d.datagrams (five c) ∙ e.datagrams (four c) ∙ control-datagrams t o.control (three c) ∙ w.datagrams (two c) ∙ s.datagrams (one c) in (
-        datagrams-rest t settled c (with_no_stops (six c)) kept,
+        datagrams-rest t settled_count c (with_no_stops (six c)) kept,
         (
           s.stays (one c) r.1.1.0 (with_no_stops (six c)),
           (
@@ -269,11 +269,11 @@ module _ (t : TransportView) (settled : ℕ) (session : Option (ℕ × ℕ)) (o 
       )
 
   -- after all checks, where none found an ending, none finds anything more
-  pub checks-rest : (c : DriverProgress) → (in_order (checks t (kept_calls settled session) o) c).ending ≡ None
-      → AllStay (checks t (kept_calls settled session) o) (with_no_stops (in_order (checks t (kept_calls settled session) o) c))
+  pub checks-rest : (c : DriverProgress) → (in_order (checks t (kept_calls settled_count session) o) c).ending ≡ None
+      → AllStay (checks t (kept_calls settled_count session) o) (with_no_stops (in_order (checks t (kept_calls settled_count session) o) c))
   checks-rest c e =
-      let r = runs-on (checks t (kept_calls settled session) o) c e in
-      let is : in_order (checks t (kept_calls settled session) o) c ≡ six c = in-order-runs (checks t (kept_calls settled session) o) c r in
+      let r = runs-on (checks t (kept_calls settled_count session) o) c e in
+      let is : in_order (checks t (kept_calls settled_count session) o) c ≡ six c = in-order-runs (checks t (kept_calls settled_count session) o) c r in
       let last : (six c).ending ≡ None = ap (λ (d : DriverProgress). d.ending) (sym is) ∙ e in
       rw is (all-stay c r last)
 

@@ -39,7 +39,7 @@ module _ (ready : Bool) (rule : SlotRule) (whole : Scanned) (at : ℕ) (ls : Lis
   front : drop at ls ≡ l ∷ drop (at + 1) ls
   front = drop_more ls at l lt ∙ ap (λ (x : Slot). x ∷ drop (at + 1) ls) (sym is)
 
-  opened : whole ≡ after_slots (take at ls) (scan_on (λ m d. scan_slots ready rule m (drop (at + 1) ls) d) (visit_slot ready rule l.place l at c))
+  opened : whole ≡ after_slots (take at ls) (scan_on (λ m d. scan_slots ready rule m (drop (at + 1) ls) d) (visit_slot ready rule l.phase l at c))
   opened = so_far.gone ∙ ap (λ (xs : List Slot). after_slots (take at ls) (scan_slots ready rule at xs c)) front ∙ ap (after_slots (take at ls)) (scan-cons ready rule at l (drop (at + 1) ls) c runs)
 
   rest_bounded : IsBounded rule.slots (suc at) (drop (at + 1) ls)
@@ -48,7 +48,7 @@ module _ (ready : Bool) (rule : SlotRule) (whole : Scanned) (at : ℕ) (ls : Lis
   rest_distinct : (has_slot l.id (drop (at + 1) ls) ≡ false) × AreDistinct (drop (at + 1) ls)
   rest_distinct = rw front at so_far.distinct
 
-  pub slot-written : (new : Slot) → visit_slot ready rule l.place l at c ≡ visited_as (Some new) at e → SoFar ready rule whole (at + 1) (set ls at new) e
+  pub slot-written : (new : Slot) → visit_slot ready rule l.phase l at c ≡ visited_as (Some new) at e → SoFar ready rule whole (at + 1) (set ls at new) e
   slot-written new m =
       let same : drop (at + 1) (set ls at new) ≡ drop (at + 1) ls = drop-set-lt (at + 1) ls at new (omega arith) in
       let front_is : take (at + 1) (set ls at new) ≡ take at ls ++ new ∷ [] = take_more_set ls at new lt in
@@ -62,7 +62,7 @@ module _ (ready : Bool) (rule : SlotRule) (whole : Scanned) (at : ℕ) (ls : Lis
         distinct = rw same rest_distinct.1;
       }
 
-  pub slot-removed : visit_slot ready rule l.place l at c ≡ visited_as None at e → SoFar ready rule whole at (remove ls at) e
+  pub slot-removed : visit_slot ready rule l.phase l at c ≡ visited_as None at e → SoFar ready rule whole at (remove ls at) e
   slot-removed m = record {
     gone =
         opened
@@ -91,12 +91,12 @@ module _ (ready : Bool) (now rule : SlotRule) (same : now.slots ≡ rule.slots) 
       let front : drop at ls ≡ l ∷ drop (at + 1) ls = drop_more ls at l lt ∙ ap (λ (x : Slot). x ∷ drop (at + 1) ls) (sym is) in
       agree-but l.id now.verdict rule.verdict rule.verdict (drop (at + 1) ls) changed (rw front at so_far.distinct).0 (agree-self rule.verdict (drop (at + 1) ls))
 
-  pub next-written : (new : Slot) → visit_slot ready rule l.place l at c ≡ visited_as (Some new) at e → SoFar ready now whole (at + 1) (set ls at new) e
+  pub next-written : (new : Slot) → visit_slot ready rule l.phase l at c ≡ visited_as (Some new) at e → SoFar ready now whole (at + 1) (set ls at new) e
   next-written new m =
       let kept : drop (at + 1) (set ls at new) ≡ drop (at + 1) ls = drop-set-lt (at + 1) ls at new (omega arith) in
       so-far-agrees ready now rule whole (at + 1) (set ls at new) e same alike (rw kept agree_behind) (slot-written ready rule whole at ls c e l so_far lt is runs new m)
 
-  pub next-removed : visit_slot ready rule l.place l at c ≡ visited_as None at e → SoFar ready now whole at (remove ls at) e
+  pub next-removed : visit_slot ready rule l.phase l at c ≡ visited_as None at e → SoFar ready now whole at (remove ls at) e
   next-removed m =
       so-far-agrees ready now rule whole at (remove ls at) e same alike (rw (drop-remove ls at) (rw add-one at agree_behind)) (slot-removed ready rule whole at ls c e l so_far lt is runs m)
 

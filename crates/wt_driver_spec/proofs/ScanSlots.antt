@@ -213,7 +213,7 @@ left d s ks = record { slots = slots d s ks; known = known d s }
 
 -- one slot, or none where an ending came before
 module _ (ready : Bool) (rule : SlotRule) where
-  pub scan-cons : (n : ℕ) (l : Slot) (ls : List Slot) (c : Known) → c.progress.ending ≡ None → scan_slots ready rule n (l ∷ ls) c ≡ scan_on (λ m e. scan_slots ready rule m ls e) (visit_slot ready rule l.place l n c)
+  pub scan-cons : (n : ℕ) (l : Slot) (ls : List Slot) (c : Known) → c.progress.ending ≡ None → scan_slots ready rule n (l ∷ ls) c ≡ scan_on (λ m e. scan_slots ready rule m ls e) (visit_slot ready rule l.phase l n c)
   scan-cons n l ls c e = rw e refl
 
   pub scan-ended : (n : ℕ) (ls : List Slot) (c : Known) (e : Ending) → c.progress.ending ≡ Some e → scan_slots ready rule n ls c ≡ record { slots = ls; known = c }
@@ -282,12 +282,12 @@ module _ (ready : Bool) (d : CallView) (rule : SlotRule) where
   -- ---- one slot is visited as its stream is
 
   module _ (k : ℕ) (ls : List Slot) (p : Scan) (runs : p.table.progress.ending ≡ None) (local : ℕ → Bool) (peers : local k ≡ false) (un : Untouched local d p.table) where
-    -- what is left behind the stream, and its slot before it
-    abbrev after : Scan → Scanned
-    after q = after_slots (slot_of d q.table k) (scan_slots ready rule q.occupied ls (known d q.table))
+    -- what is left after the stream, and its slot before it
+    abbrev scan_after : Scan → Scanned
+    scan_after q = after_slots (slot_of d q.table k) (scan_slots ready rule q.occupied ls (known d q.table))
 
     classified-on : (b : Bool) → verdict_of k p.table.classified ≡ None
-        → scan_on (λ m e. scan_slots ready rule m ls e) (classify_slot b rule k p.occupied (known d p.table)) ≡ after (classify b d rule k (record p { table = with_dequeued k p.table }))
+        → scan_on (λ m e. scan_slots ready rule m ls e) (classify_slot b rule k p.occupied (known d p.table)) ≡ scan_after (classify b d rule k (record p { table = with_dequeued k p.table }))
     classified-on false none = rw (dequeued-here k p.table.dequeued, none) refl
     classified-on true none =
         let e : Consequence = rule.consequence (dispatched_streams d p.table.classified) k (rule.verdict k) in
@@ -295,29 +295,29 @@ module _ (ready : Bool) (d : CallView) (rule : SlotRule) where
         rw (classified-here r p.table.classified none, un.released k peers none, dispatched-append d p.table.classified r (un.released k peers none) (un.delivered k none)) refl
 
     classified-step : (v : Verdict) (b : Bool) → verdict_of k p.table.classified ≡ Some v → is_released (d.released k) v ≡ b
-        → scan_slots ready rule p.occupied (cond b [] (record { id = k; place = Held } ∷ []) ++ ls) (known d p.table)
-        ≡ after (record p { occupied = occupied b p.occupied })
+        → scan_slots ready rule p.occupied (cond b [] (record { id = k; phase = Held } ∷ []) ++ ls) (known d p.table)
+        ≡ scan_after (record p { occupied = occupied b p.occupied })
     classified-step v true r s = rw (r, s) refl
-    classified-step v false r s = scan-cons ready rule p.occupied (record { id = k; place = Held }) ls (known d p.table) runs ∙ rw (r, s) refl
+    classified-step v false r s = scan-cons ready rule p.occupied (record { id = k; phase = Held }) ls (known d p.table) runs ∙ rw (r, s) refl
 
     free-step : (b : Bool) → verdict_of k p.table.classified ≡ None → has k p.table.dequeued ≡ false
-        → scan_on (λ m e. scan_slots ready rule m ls e) (dequeue_slot b rule (record { id = k; place = Arrived }) p.occupied (known d p.table)) ≡ after (dequeue b d rule k p)
+        → scan_on (λ m e. scan_slots ready rule m ls e) (dequeue_slot b rule (record { id = k; phase = Arrived }) p.occupied (known d p.table)) ≡ scan_after (dequeue b d rule k p)
     free-step true none miss = classified-on (is_final (rule.verdict k)) none
     free-step false none miss = stayed
       where
-        stayed : after_slots (record { id = k; place = Arrived } ∷ []) (scan_slots ready rule (suc p.occupied) ls (known d p.table)) ≡ after (record p { occupied = suc p.occupied })
+        stayed : after_slots (record { id = k; phase = Arrived } ∷ []) (scan_slots ready rule (suc p.occupied) ls (known d p.table)) ≡ scan_after (record p { occupied = suc p.occupied })
         stayed = rw (miss, none) refl
 
     none-step : (t : Bool) → verdict_of k p.table.classified ≡ None → has k p.table.dequeued ≡ t
-        → scan_slots ready rule p.occupied (record { id = k; place = cond t Dequeued Arrived } ∷ ls) (known d p.table)
-        ≡ after (dequeue (t || (ready && nat_lt p.occupied rule.slots)) d rule k p)
+        → scan_slots ready rule p.occupied (record { id = k; phase = cond t Dequeued Arrived } ∷ ls) (known d p.table)
+        ≡ scan_after (dequeue (t || (ready && nat_lt p.occupied rule.slots)) d rule k p)
     none-step true none hit =
-        scan-cons ready rule p.occupied (record { id = k; place = Dequeued }) ls (known d p.table) runs ∙ classified-on (is_final (rule.verdict k)) none
+        scan-cons ready rule p.occupied (record { id = k; phase = Dequeued }) ls (known d p.table) runs ∙ classified-on (is_final (rule.verdict k)) none
     none-step false none miss =
-        scan-cons ready rule p.occupied (record { id = k; place = Arrived }) ls (known d p.table) runs ∙ free-step (ready && nat_lt p.occupied rule.slots) none miss
+        scan-cons ready rule p.occupied (record { id = k; phase = Arrived }) ls (known d p.table) runs ∙ free-step (ready && nat_lt p.occupied rule.slots) none miss
 
     step : (o : Option Verdict) → verdict_of k p.table.classified ≡ o
-        → scan_slots ready rule p.occupied (slot_by k (d.released k) (has k p.table.dequeued) o ++ ls) (known d p.table) ≡ after (visit ready d rule k o p)
+        → scan_slots ready rule p.occupied (slot_by k (d.released k) (has k p.table.dequeued) o ++ ls) (known d p.table) ≡ scan_after (visit ready d rule k o p)
     step None e = none-step (has k p.table.dequeued) e refl
     step (Some v) e = classified-step v (is_released (d.released k) v) e refl
 

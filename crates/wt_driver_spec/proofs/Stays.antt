@@ -74,7 +74,7 @@ module _ (ready : Bool) (rule : SlotRule) (d : CallView) (s : StreamTable) where
       skip None m q again = again (suc m) q.1
       skip (Some v) m q again = two (is_released (d.released j) v) q
         where
-          two : (b : Bool) → Rests ready rule m (cond b [] (record { id = j; place = Held } ∷ []) ++ slots d s ks) → is_final (rule.verdict k) ≡ false
+          two : (b : Bool) → Rests ready rule m (cond b [] (record { id = j; phase = Held } ∷ []) ++ slots d s ks) → is_final (rule.verdict k) ≡ false
           two true q = again m q
           two false q = again (suc m) q.1
 

@@ -13,18 +13,18 @@ use Rattle.wt_wire.specs.declared.side.Side.{Side}
 use Rattle.wt_wire.specs.declared.side.Side.TheVariants.{Client, Server}
 
 pub record Among (kind n count k : ℕ) : Type 0 where
-  pub place : ℕ
-  pub from : n ≤ place
-  pub below : place < n + count
-  pub is : k ≡ 4 * place + kind
+  pub index : ℕ
+  pub from : n ≤ index
+  pub below : index < n + count
+  pub is : k ≡ 4 * index + kind
 
 pub among : (kind n count k : ℕ) → has k (stream_ids kind n count) ≡ true → Among kind n count k
 among kind n zero k e = absurd cc
 among kind n (suc count) k e = by (4 * n + kind == k) refl e (among kind (suc n) count k)
   where
     by : (b : Bool) → (4 * n + kind == k) ≡ b → (b || has k (stream_ids kind (suc n) count)) ≡ true → (has k (stream_ids kind (suc n) count) ≡ true → Among kind (suc n) count k) → Among kind n (suc count) k
-    by true f g again = record { place = n; from = omega arith; below = omega arith; is = sym (eqb-true (4 * n + kind) k f) }
-    by false f g again = let a = again g in record { place = a.place; from = omega arith; below = omega arith; is = a.is }
+    by true f g again = record { index = n; from = omega arith; below = omega arith; is = sym (eqb-true (4 * n + kind) k f) }
+    by false f g again = let a = again g in record { index = a.index; from = omega arith; below = omega arith; is = a.is }
 
 misses : (kind n count k : ℕ) → (Among kind n count k → ⊥) → has k (stream_ids kind n count) ≡ false
 misses kind n count k none = false_from_ne_true (has k (stream_ids kind n count)) (λ e. none (among kind n count k e))

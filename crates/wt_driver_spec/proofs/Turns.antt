@@ -1,4 +1,4 @@
--- Each turn leads to a log whose entries might follow each other, with all at rest behind it.
+-- Each turn leads to a log whose entries might follow each other, with all at rest after it.
 use Rattle.std.proofs.Common.{arith, ◌≡◌, ℕ, ℤ, ◌+◌, ◌*◌, ◌%◌, Bool, true, false, List, [], ◌∷◌, ◌++◌, length, refl, sym, ap, ◌∙◌, ◌⊎◌, inl, inr}
 use Rattle.std.specs.Prelude.{bytes_eq, ◌/◌, Option, Some, None, Result, Ok, Err, codes, is_some, nat_lt, not, ◌==◌, ◌||◌, if◌then◌else◌}
 use Rattle.std.specs.List.{list_any}
@@ -246,7 +246,7 @@ module _ (side : Side) (log : Log) (held : FitsAndRests side log) where
   response-leads : (id : ℕ) (own : List Action) (w : ResponseWalk) → Leads side (read_response side log id own w)
   response-leads id own (responses.Fault code) = failed-leads (own ++ close_when_open log (code_of code)) _
   response-leads id own responses.Ended = failed-leads (own ++ close_when_open log 0) _
-  response-leads id own responses.Waiting = either side (is_open log) _ _ (polls own _) (failed-leads own _)
+  response-leads id own responses.Incomplete = either side (is_open log) _ _ (polls own _) (failed-leads own _)
   response-leads id own (responses.Response fields at) =
       either side (not (has_success fields)) _ _ (failed-leads (own ++ close_when_open log 0) _) (either side (is_open log) _ _ (establish-leads own id at) (failed-leads own _))
 
@@ -367,7 +367,7 @@ bytes-lead side (b ∷ bytes) log k facts = bytes-lead side bytes (if is_open lo
     by true = moment-leads side log (Received k b) tt refl facts
     by false = facts
 
--- What holds as far as a driver is concerned holds behind each turn.
+-- What holds as far as a driver is concerned holds after each turn.
 pub turn-leads : (side : Side) (log : Log) (turn : Turn) → FitsAndRests side log → FitsAndRests side (log_after side log turn)
 turn-leads side log (turns.Bytes id piece) facts = bytes-lead side piece log id facts
 turn-leads side log (turns.Call call) facts = (call-leads side log facts call).facts

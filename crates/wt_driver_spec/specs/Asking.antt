@@ -33,7 +33,7 @@ pub record SparesControl (side : Side) (log : Log) (a : Action) : Type 0 where
   pub finishes : finishes (local_uni side) a ≡ false
   pub resets : resets (local_uni side) (Sent a) ≡ false
 
--- each of these actions does, behind those before it
+-- each of these actions does, after those before it
 abbrev pub SparesControlAll : Side → Log → List Action → Type 0
 SparesControlAll side log [] = Unit {0}
 SparesControlAll side log (a ∷ later) = SparesControl side log a × SparesControlAll side (Sent a ∷ log) later
@@ -42,11 +42,12 @@ SparesControlAll side log (a ∷ later) = SparesControl side log a × SparesCont
 pub record AwaitsResponse (side : Side) (log : Log) (id : ℕ) : Type 0 where
   pub role : role_of side id ≡ ForRequest
   pub unestablished : established_session (calls_of log) ≡ None
-  pub goes_on : (use_of id (calls_of log)).is_over ≡ false
+  pub still_going : (use_of id (calls_of log)).is_over ≡ false
 
--- a client establishes its session with the response that it awaits, behind it; a server asks nothing more
+-- a client establishes its session with the response that it awaits, after it; a server asks nothing more
 abbrev pub Establishes : Side → Log → ℕ → ℕ → Type 0
-Establishes Client log id at = AwaitsResponse Client log id × (response_offset (response_walk_of (contents log id) (end_of (events_of log) id)) ≡ Some at)
+Establishes Client log id at = AwaitsResponse Client log id
+    × (response_offset (response_walk_of (contents log id) (end_of (events_of log) id)) ≡ Some at)
 Establishes Server log id at = Unit {0}
 
 -- by what the call did: the stream has the half that it is about, a reset that isn't sent comes after
@@ -58,7 +59,7 @@ HalfAsks side log (ResetUnsent id code) = (is_open log ≡ false) × (can_send s
 HalfAsks side log (SessionEstablished id at) = Establishes side log id at
 HalfAsks side log _ = Unit {0}
 
--- A call's record may come now: it may follow the log, and the driver may send on behind it.
+-- A call's record may come now: it may follow the log, and the driver may send on after it.
 pub record MayBeCalled (side : Side) (log : Log) (r : CallRecord) : Type 0 where
   pub may : MayRecord side log r
   pub can : MayUse side log r

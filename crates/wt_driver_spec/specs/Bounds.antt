@@ -1,12 +1,12 @@
--- Behind the first few slots of a kind none is dequeued, and no stream has two slots.
+-- After the first few slots of a kind none is dequeued, and no stream has two slots.
 use Rattle.std.specs.Prelude.{[], ◌<◌, ◌==◌, ◌^◌, ◌||◌, ◌∷◌, ◌≡◌, Bool, List, false, nat_lt, suc, true, ℕ}
 use Rattle.wt_proto.specs.declared.verdict.Verdict.{Verdict}
 use Rattle.wt_driver_spec.specs.DriverState.{Arrived, DriverState, Slot}
 
--- behind so many slots, each that stands beyond the most that may be dequeued only arrived
+-- after so many slots, each that stands beyond the most that may be dequeued only arrived
 abbrev pub IsBounded : ℕ → ℕ → List Slot → Type 0
 IsBounded most n [] = Unit {0}
-IsBounded most n (slot ∷ slots) = (nat_lt n most ≡ false → slot.place ≡ Arrived) × IsBounded most (suc n) slots
+IsBounded most n (slot ∷ slots) = (nat_lt n most ≡ false → slot.phase ≡ Arrived) × IsBounded most (suc n) slots
 
 -- at most 4 unidirectional slots and 1 bidirectional one are dequeued
 pub record Bounded (s : DriverState) : Type 0 where

@@ -19,10 +19,11 @@ use Rattle.wt_driver_spec.specs.Rest.{AtRest, RestsWhileOpen, state_at_rest}
 use Rattle.wt_driver_spec.specs.Step.{begin_scan}
 use Rattle.wt_reply.specs.declared.reply.Reply.TheVariants as replies
 
--- one entry more: the state behind its moment is the step's, and what goes out is what the step sends
+-- one entry more: the state after its moment is the step's, and what goes out is what the step sends
 pub record MomentFollows (side : Side) (log : Log) (e : Entry) : Type 0 where
   pub state : state_of side (log_and_flush side log e) ≡ moment_state (transport_view side log) (transport_view side (e ∷ log)) e (state_of side log)
-  pub actions : log_and_flush side log e ≡ with_actions (moment_actions (transport_view side log) (transport_view side (e ∷ log)) e (state_of side log)) (e ∷ log)
+  pub actions : log_and_flush side log e
+      ≡ with_actions (moment_actions (transport_view side log) (transport_view side (e ∷ log)) e (state_of side log)) (e ∷ log)
 
 -- an accept of a stream of this kind: the reply, the actions and the state are those of the call on what is kept
 abbrev pub AcceptFollows : Side → Log → (ℕ → Reply) → ℕ → ℕ → Type 0
@@ -37,8 +38,10 @@ ReceiveFollows side log session =
 
 -- a call that gives nothing leaves nothing that it could have given
 pub record NothingLeft (side : Side) (log : Log) (session : ℕ) : Type 0 where
-  pub unis : (accept_outcome side (peer_uni side) log session).given ≡ None → next_due side (accept_outcome side (peer_uni side) log session).state (peer_uni side) session ≡ None
-  pub bis : (accept_outcome side (peer_bi side) log session).given ≡ None → next_due side (accept_outcome side (peer_bi side) log session).state (peer_bi side) session ≡ None
+  pub unis : (accept_outcome side (peer_uni side) log session).given ≡ None
+      → next_due side (accept_outcome side (peer_uni side) log session).state (peer_uni side) session ≡ None
+  pub bis : (accept_outcome side (peer_bi side) log session).given ≡ None
+      → next_due side (accept_outcome side (peer_bi side) log session).state (peer_bi side) session ≡ None
   pub datagrams : (receive_outcome side log session).given ≡ None → next_datagram side (receive_outcome side log session).state ≡ None
 
 -- an entry at rest: it is itself alone, nothing goes out, and all stays at rest
@@ -56,7 +59,8 @@ pub record ByteRests (side : Side) (log : Log) (id byte : ℕ) : Type 0 where
 -- what was known of a stream stays so: dequeued, classified with its verdict, released
 pub record StreamsStay (side : Side) (log : Log) (e : Entry) : Type 0 where
   pub dequeued : (k : ℕ) → has k (stream_table side log).dequeued ≡ true → has k (stream_table side (e ∷ log)).dequeued ≡ true
-  pub classified : (k : ℕ) (v : Verdict) → verdict_of k (stream_table side log).classified ≡ Some v → verdict_of k (stream_table side (e ∷ log)).classified ≡ Some v
+  pub classified : (k : ℕ) (v : Verdict) → verdict_of k (stream_table side log).classified ≡ Some v
+      → verdict_of k (stream_table side (e ∷ log)).classified ≡ Some v
   pub released : (k : ℕ) (v : Verdict) → verdict_of k (stream_table side log).classified ≡ Some v → is_released ((call_view log).released k) v ≡ true
       → is_released ((call_view (e ∷ log)).released k) v ≡ true
 

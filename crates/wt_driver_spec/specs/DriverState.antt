@@ -9,15 +9,15 @@ use Rattle.wt_turn.specs.Log.{Log, is_open}
 use Rattle.wt_wire.specs.declared.side.Side.{Side}
 
 -- how far a stream in a slot is
-pub data SlotPlace : Type 0 where
-  Arrived : SlotPlace  -- it isn't dequeued
-  Dequeued : SlotPlace  -- its header is read, and doesn't tell yet what it is
-  Held : SlotPlace  -- it is classified, and holds its slot until an accept releases it
+pub data SlotPhase : Type 0 where
+  Arrived : SlotPhase  -- it isn't dequeued
+  Dequeued : SlotPhase  -- its header is read, and doesn't tell yet what it is
+  Held : SlotPhase  -- it is classified, and holds its slot until an accept releases it
 
 -- a stream of the peer's that isn't released
 pub record Slot : Type 0 where
   pub id : ℕ
-  pub place : SlotPlace
+  pub phase : SlotPhase
 
 -- what a driver keeps
 pub record DriverState : Type 0 where
@@ -32,8 +32,8 @@ pub record DriverState : Type 0 where
 
 -- the slot of a stream, by what is known of it: none once it is released
 abbrev pub slot_by : ℕ → Bool → Bool → Option Verdict → List Slot
-slot_by k by_accept dequeued None = record { id = k; place = if dequeued then Dequeued else Arrived } ∷ []
-slot_by k by_accept dequeued (Some v) = if is_released by_accept v then [] else record { id = k; place = Held } ∷ []
+slot_by k by_accept dequeued None = record { id = k; phase = if dequeued then Dequeued else Arrived } ∷ []
+slot_by k by_accept dequeued (Some v) = if is_released by_accept v then [] else record { id = k; phase = Held } ∷ []
 
 -- the slot of stream k, or none
 abbrev pub slot_of : CallView → StreamTable → ℕ → List Slot

@@ -1,7 +1,7 @@
 -- Which of the peer's streams a moment looks at first: the unidirectional ones, then the bidirectional ones, and those of a
 -- kind in the order in which the peer opened them. (The order is this repository's rule.)
 use Rattle.std.specs.Prelude.{[], ◌%◌, ◌++◌, ◌<◌, ◌==◌, ◌∷◌, ◌≡◌, Bool, List, false, if◌then◌else◌, nat_lt, true, ℕ}
-use Rattle.wt_driver_spec.specs.Dequeued.{is_classified, is_dequeued, stream_id, tells, unreleased_before}
+use Rattle.wt_driver_spec.specs.Dequeued.{is_classified, is_dequeued, stream_id, has_final_verdict, unreleased_before}
 use Rattle.wt_proto.specs.Bi.{bi_verdict_of}
 use Rattle.wt_proto.specs.Uni.{uni_verdict_of}
 use Rattle.wt_proto.specs.declared.verdict.Verdict.{Verdict}
@@ -34,16 +34,18 @@ pub record ClassifiesNow (side : Side) (e : Entry) (log : Log) (k : ℕ) : Type 
 -- Of one kind of the peer's streams, with so many slots and this verdict over what came for a stream: where the entry classifies
 -- stream k, it passed over none of those that are looked at before it.
 pub record PassesOverNone (side : Side) (e : Entry) (log : Log) (kind slots : ℕ) (verdict : List ℕ → StreamEnd → Verdict) : Type 0 where
-  pub dequeued : (k n : ℕ) → ClassifiesNow side e log k → looks_before side (stream_id kind n) k ≡ true → n < peer_count side (events_of (e ∷ log)) kind → settings_ready side (e ∷ log) ≡ true
-      → unreleased_before side (e ∷ log) kind n < slots → is_dequeued side (e ∷ log) (stream_id kind n) ≡ true  -- each that is behind fewer than so many unreleased ones is dequeued, where this end is ready
-  pub classified : (k n : ℕ) → ClassifiesNow side e log k → looks_before side (stream_id kind n) k ≡ true → n < peer_count side (events_of (e ∷ log)) kind → is_dequeued side (e ∷ log) (stream_id kind n) ≡ true
-      → tells (e ∷ log) verdict (stream_id kind n) ≡ true → is_classified side (e ∷ log) (stream_id kind n) ≡ true  -- each dequeued one that tells what it is is classified
+  pub dequeued : (k n : ℕ) → ClassifiesNow side e log k → looks_before side (stream_id kind n) k ≡ true
+      → n < peer_count side (events_of (e ∷ log)) kind → settings_ready side (e ∷ log) ≡ true
+      → unreleased_before side (e ∷ log) kind n < slots → is_dequeued side (e ∷ log) (stream_id kind n) ≡ true  -- each that is after fewer than so many unreleased ones is dequeued, where this end is ready
+  pub classified : (k n : ℕ) → ClassifiesNow side e log k → looks_before side (stream_id kind n) k ≡ true
+      → n < peer_count side (events_of (e ∷ log)) kind → is_dequeued side (e ∷ log) (stream_id kind n) ≡ true
+      → has_final_verdict (e ∷ log) verdict (stream_id kind n) ≡ true → is_classified side (e ∷ log) (stream_id kind n) ≡ true  -- each dequeued one that tells what it is is classified
 
--- The streams that an entry classifies stand behind those that were classified before, in the order in which it looks at
+-- The streams that an entry classifies stand after those that were classified before, in the order in which it looks at
 -- them, and it passes over none. So of several streams with faults the first in this order ends the connection.
 pub record LooksInOrder (side : Side) (e : Entry) (log : Log) : Type 0 where
   pub new : List Classified
-  pub behind : (stream_table side (e ∷ log)).classified ≡ (stream_table side log).classified ++ new
+  pub appended : (stream_table side (e ∷ log)).classified ≡ (stream_table side log).classified ++ new
   pub in_order : AreInLookOrder side new
   pub unis : PassesOverNone side e log (peer_uni side) 4 uni_verdict_of
   pub bis : PassesOverNone side e log (peer_bi side) 1 bi_verdict_of

@@ -6,12 +6,12 @@ use Rattle.wt_spec.specs.Scan.{SlotRule, bi_rule, check_control, check_session, 
 use Rattle.wt_spec.specs.StreamTable.{DriverProgress, TransportView}
 use Rattle.wt_turn.specs.Log.{Log, is_open}
 use Rattle.wt_wire.specs.declared.side.Side.{Side}
-use Rattle.wt_driver_spec.specs.DriverState.{Arrived, Dequeued, DriverState, Held, Slot, SlotPlace, state_of}
+use Rattle.wt_driver_spec.specs.DriverState.{Arrived, Dequeued, DriverState, Held, Slot, SlotPhase, state_of}
 use Rattle.wt_driver_spec.specs.Moment.{Fits}
 use Rattle.wt_driver_spec.specs.Step.{begin_scan, kept_calls, step_actions, with_no_stops}
 
--- a visit leaves the slot of stream k as it is, behind so many others
-abbrev pub RestsAt : Bool → SlotRule → ℕ → ℕ → SlotPlace → Type 0
+-- a visit leaves the slot of stream k as it is, after so many others
+abbrev pub RestsAt : Bool → SlotRule → ℕ → ℕ → SlotPhase → Type 0
 RestsAt ready rule n k Arrived = (ready && nat_lt n rule.slots) ≡ false
 RestsAt ready rule n k Dequeued = is_final (rule.verdict k) ≡ false
 RestsAt ready rule n k Held = Unit {0}
@@ -19,7 +19,7 @@ RestsAt ready rule n k Held = Unit {0}
 -- a scan leaves the slots as they are
 abbrev pub Rests : Bool → SlotRule → ℕ → List Slot → Type 0
 Rests ready rule n [] = Unit {0}
-Rests ready rule n (slot ∷ slots) = RestsAt ready rule n slot.id slot.place × Rests ready rule (suc n) slots
+Rests ready rule n (slot ∷ slots) = RestsAt ready rule n slot.id slot.phase × Rests ready rule (suc n) slots
 
 -- each check finds nothing new
 abbrev pub AllStay : List (DriverProgress → DriverProgress) → DriverProgress → Type 0
@@ -64,7 +64,8 @@ with_contents t bytes = record t { contents = bytes }
 -- the stream, where it is dequeued, still doesn't tell what it is
 abbrev pub StillReads : SlotRule → ℕ → List Slot → Type 0
 StillReads rule id [] = Unit {0}
-StillReads rule id (slot ∷ slots) = ((id == slot.id) ≡ true → slot.place ≡ Dequeued → is_final (rule.verdict slot.id) ≡ false) × StillReads rule id slots
+StillReads rule id (slot ∷ slots) = ((id == slot.id) ≡ true → slot.phase ≡ Dequeued
+    → is_final (rule.verdict slot.id) ≡ false) × StillReads rule id slots
 
 -- these bytes of one stream say nothing new: neither its header, nor the session's walk, nor the control stream's
 pub record IsQuiet (t : TransportView) (bytes : ℕ → List ℕ) (id : ℕ) (s : DriverState) : Type 0 where

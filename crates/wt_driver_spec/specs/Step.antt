@@ -1,4 +1,4 @@
--- One moment on what a driver keeps: the scan of the slots and the checks behind it, what goes out, and what an entry of
+-- One moment on what a driver keeps: the scan of the slots and the checks after it, what goes out, and what an entry of
 -- the log changes.
 use Rattle.std.specs.Prelude.{[], ◌&&◌, ◌*◌, ◌++◌, ◌+◌, ◌==◌, ◌||◌, ◌∷◌, Bool, List, None, Option, Some, false, if◌then◌else◌, length, nat_lt, not, suc, true, ℕ}
 use Rattle.wt_proto.specs.Uni.{is_final}
@@ -9,7 +9,7 @@ use Rattle.wt_spec.specs.Scan.{SlotRule, bi_rule, checks, in_order, is_released,
 use Rattle.wt_spec.specs.StreamTable.{CallView, Classified, Consequence, Dispatched, Ending, DriverProgress, TransportView, kept_if, only, or_later}
 use Rattle.wt_turn.specs.Log.{CallRecord, Called, DatagramPassed, DatagramReceived, Entry, Event, PeerBi, PeerUni, Reported, RequestDelivered, Sent, SessionEstablished, StreamAccepted, StreamPassed, ends_by}
 use Rattle.wt_turn.specs.declared.action.Action.{Action}
-use Rattle.wt_driver_spec.specs.DriverState.{Arrived, Dequeued, DriverState, Held, Slot, SlotPlace, slot_by}
+use Rattle.wt_driver_spec.specs.DriverState.{Arrived, Dequeued, DriverState, Held, Slot, SlotPhase, slot_by}
 use Rattle.wt_turn.specs.declared.action.Action.TheVariants as actions
 use Rattle.wt_proto.specs.declared.verdict.Verdict.TheVariants as verdicts
 
@@ -65,7 +65,7 @@ classify_as consequence k v n known = record {
 
 -- a dequeued stream, by whether its verdict is final
 abbrev pub classify_slot : Bool → SlotRule → ℕ → ℕ → Known → Visited
-classify_slot false rule k n known = keep_slot (record { id = k; place = Dequeued }) n known
+classify_slot false rule k n known = keep_slot (record { id = k; phase = Dequeued }) n known
 classify_slot true rule k n known = classify_as rule.consequence k (rule.verdict k) n known
 
 -- a stream that isn't classified, by whether it may be dequeued
@@ -73,8 +73,8 @@ abbrev pub dequeue_slot : Bool → SlotRule → Slot → ℕ → Known → Visit
 dequeue_slot false rule slot n known = keep_slot slot n known
 dequeue_slot true rule slot n known = classify_slot (is_final (rule.verdict slot.id)) rule slot.id n known
 
--- a slot behind so many others
-abbrev pub visit_slot : Bool → SlotRule → SlotPlace → Slot → ℕ → Known → Visited
+-- a slot after so many others
+abbrev pub visit_slot : Bool → SlotRule → SlotPhase → Slot → ℕ → Known → Visited
 visit_slot ready rule Held slot n known = keep_slot slot n known
 visit_slot ready rule Dequeued slot n known = dequeue_slot true rule slot n known
 visit_slot ready rule Arrived slot n known = dequeue_slot (ready && nat_lt n rule.slots) rule slot n known
@@ -83,21 +83,21 @@ visit_slot ready rule Arrived slot n known = dequeue_slot (ready && nat_lt n rul
 abbrev pub after_slots : List Slot → Scanned → Scanned
 after_slots slots s = record { slots = slots ++ s.slots; known = s.known }
 
--- nothing is done behind the ending
+-- nothing is done after the ending
 abbrev pub unless_ended_slots : Option Ending → (Known → Scanned) → List Slot → Known → Scanned
 unless_ended_slots None f slots known = f known
 unless_ended_slots (Some e) f slots known = record { slots = slots; known = known }
 
--- what is left of a slot, then the scan of those behind it
+-- what is left of a slot, then the scan of those after it
 abbrev pub scan_on : (ℕ → Known → Scanned) → Visited → Scanned
 scan_on again v = after_slots v.slots (again v.occupied v.known)
 
--- the slots of a kind, one after another, behind so many that are occupied
+-- the slots of a kind, one after another, after so many that are occupied
 abbrev pub scan_slots : Bool → SlotRule → ℕ → List Slot → Known → Scanned
 scan_slots ready rule n [] known = record { slots = []; known = known }
 scan_slots ready rule n (slot ∷ slots) known =
     unless_ended_slots known.progress.ending
-    (λ k. scan_on (λ m later. scan_slots ready rule m slots later) (visit_slot ready rule slot.place slot n k)) (slot ∷ slots) known
+    (λ k. scan_on (λ m later. scan_slots ready rule m slots later) (visit_slot ready rule slot.phase slot n k)) (slot ∷ slots) known
 
 -- a visit as code gives it: the slot that is left, or none
 abbrev pub visited_as : Option Slot → ℕ → Known → Visited
@@ -130,7 +130,7 @@ scan_bi_slots t s = with_scanned_bis s (scan_slots t.ready (bi_rule t) 0 s.bis (
 abbrev pub kept_calls : ℕ → Option (ℕ × ℕ) → CallView
 kept_calls datagrams session = record { released = λ k. false; delivered = λ k. false; datagrams = datagrams; session = session }
 
--- the checks behind the slots
+-- the checks after the slots
 abbrev pub run_checks : TransportView → DriverState → DriverState
 run_checks t s = record s { progress = in_order (checks t (kept_calls s.datagrams s.session) s.dispatched) s.progress }
 
@@ -184,7 +184,7 @@ remove_request id s = record s { dispatched = record s.dispatched { requests = o
 
 -- a stream that the peer opened
 abbrev pub new_slot : ℕ → Slot
-new_slot id = record { id = id; place = Arrived }
+new_slot id = record { id = id; phase = Arrived }
 
 -- an event, by what the transport told before it
 abbrev pub with_arrival : TransportView → Event → DriverState → DriverState

@@ -124,14 +124,18 @@ RequestOpened Server log = Unit {0}
 -- the request; streams of sessions are given or passed; what the application reads of its streams came, and so did each
 -- datagram that a call settles
 abbrev pub MayUse : Side → Log → CallRecord → Type 0
-MayUse side log (ConnectStarted reserved head) = (side ≡ Client) × (established_session (calls_of log) ≡ None) × ((use_of 0 (calls_of log)).is_over ≡ false)
+MayUse side log (ConnectStarted reserved head) = (side ≡ Client) × (established_session (calls_of log) ≡ None)
+    × ((use_of 0 (calls_of log)).is_over ≡ false)
 MayUse side log (RequestDelivered id) = is_some (queued_at (classified_of id (stream_table side log).classified)) ≡ true
 MayUse side log (ResponseStarted accepts head) = (side ≡ Server) × (awaits_answer (handshake_state (calls_of log)) ≡ true)
-MayUse side log (SessionEstablished id at) = (session_at side (role_of side id) (classified_of id (stream_table side log).classified) at ≡ Some at) × RequestOpened side log
-MayUse side log (StreamAccepted id) = (may_give (role_of side id) (classified_of id (stream_table side log).classified) ≡ true) × (list_any (passes id) (calls_of log) ≡ false)
+MayUse side log (SessionEstablished id at) = (session_at side (role_of side id) (classified_of id (stream_table side log).classified) at ≡ Some at)
+    × RequestOpened side log
+MayUse side log (StreamAccepted id) = (may_give (role_of side id) (classified_of id (stream_table side log).classified) ≡ true)
+    × (list_any (passes id) (calls_of log) ≡ false)
 MayUse side log (StreamPassed id) = (is_sessions (classified_of id (stream_table side log).classified) ≡ true) × (is_accepted log id ≡ false)
 MayUse side log (OpeningStarted id session) = may_give (role_of side id) None ≡ true
-MayUse side log (BytesRead id count) = (is_for_application (role_of side id) (classified_of id (stream_table side log).classified) ≡ true) × (count ≤ length (unread_body side log id))
+MayUse side log (BytesRead id count) = (is_for_application (role_of side id) (classified_of id (stream_table side log).classified) ≡ true)
+    × (count ≤ length (unread_body side log id))
 MayUse side log (StreamGivenUp id) = is_for_application (role_of side id) (classified_of id (stream_table side log).classified) ≡ true
 MayUse side log DatagramReceived = settled_datagrams (calls_of log) < length (datagrams_of (events_of log))
 MayUse side log DatagramPassed = settled_datagrams (calls_of log) < length (datagrams_of (events_of log))

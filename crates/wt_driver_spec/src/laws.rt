@@ -27,18 +27,19 @@ pub fn turns_keep_what_a_driver_asks()
     ensures turns { (side : Side) (all : List Turn) → FitsAndRests side (log_from side [] all) }
 {}
 
-/// One entry more, whatever it is: what is kept behind its moment is the step of what was kept, and
+/// One entry more, whatever it is: what is kept after its moment is the step of what was kept, and
 /// what goes out is what the step sends.
 #[tactic(auto, using(crate::proofs::Theorems::moment_theorem))]
 pub fn moments_are_followed()
-    ensures moment { (side : Side) (log : Log) (e : Entry) → MayFollow side log e → Fits side log → MomentFollows side log e }
+    ensures entry { (side : Side) (log : Log) (e : Entry) → MayFollow side log e → Fits side log → MomentFollows side log e }
 {}
 
 /// Accepts that pass streams of other sessions, and receives that pass datagrams, are those of the
 /// definitions; and where they give nothing, nothing is left that they could give.
 #[tactic(auto, using(crate::proofs::Theorems::accept_theorem, crate::proofs::Theorems::receive_theorem, crate::proofs::Theorems::nothing_theorem))]
 pub fn accepts_and_receives_are_followed()
-    ensures accept { (side : Side) (log : Log) (reply : ℕ → Reply) (kind session : ℕ) → FitsAndRests side log → AcceptFollows side log reply kind session }
+    ensures accept { (side : Side) (log : Log) (reply : ℕ → Reply) (kind session : ℕ) → FitsAndRests side log
+        → AcceptFollows side log reply kind session }
     ensures receive { (side : Side) (log : Log) (session : ℕ) → FitsAndRests side log → ReceiveFollows side log session }
     ensures nothing { (side : Side) (log : Log) (session : ℕ) → FitsAndRests side log → NothingLeft side log session }
 {}
@@ -47,14 +48,16 @@ pub fn accepts_and_receives_are_followed()
 /// nothing new, are then themselves alone.
 #[tactic(auto, using(crate::proofs::Theorems::rest_theorem, crate::proofs::Theorems::call_theorem, crate::proofs::Theorems::byte_theorem))]
 pub fn one_scan_brings_to_rest()
-    ensures rest { (side : Side) (log : Log) (e : Entry) → MayFollow side log e → Fits side log → is_moment e ≡ true → RestsWhileOpen side (log_and_flush side log e) }
-    ensures call { (side : Side) (log : Log) (r : CallRecord) → MayRecord side log r → FitsAndRests side log → after_call r (state_of side log) ≡ state_of side log
+    ensures rest { (side : Side) (log : Log) (e : Entry) → MayFollow side log e → Fits side log → is_moment e ≡ true
+        → RestsWhileOpen side (log_and_flush side log e) }
+    ensures call { (side : Side) (log : Log) (r : CallRecord) → MayRecord side log r → FitsAndRests side log
+        → after_call r (state_of side log) ≡ state_of side log
         → RestsOn side log (Called r) }
     ensures byte { (side : Side) (log : Log) (id byte : ℕ) → Fits side log → is_open log ≡ true → AtRest side log
         → IsQuiet (transport_view side log) (contents (Received id byte ∷ log)) id (state_of side log) → ByteRests side log id byte }
 {}
 
-/// Behind the first few slots of a kind none is dequeued, and no stream has two slots.
+/// After the first few slots of a kind none is dequeued, and no stream has two slots.
 #[tactic(auto, using(crate::proofs::Theorems::bounded_theorem, crate::proofs::Theorems::distinct_theorem))]
 pub fn few_slots_are_dequeued()
     ensures bounded { (side : Side) (log : Log) → Fits side log → Bounded (state_of side log) }
@@ -71,9 +74,9 @@ pub fn streams_are_classified_once()
         → verdict_of k (stream_table side log).classified ≡ None → DequeuedAsk side log k }
 {}
 
-/// Of the peer's streams of each kind: while the connection is open and this end ready, each behind few
+/// Of the peer's streams of each kind: while the connection is open and this end ready, each after few
 /// enough that aren't released is dequeued; and while it is open, each dequeued one whose verdict is
-/// final is classified. A dequeued one is behind so few, and a classified one is dequeued.
+/// final is classified. A dequeued one is after so few, and a classified one is dequeued.
 pub fn streams_are_dequeued_in_turn()
     ensures dequeued { (side : Side) (log : Log) → FitsAndRests side log → StreamsDequeued side log }
     ensures turns { (side : Side) (all : List Turn) → StreamsDequeued side (log_from side [] all) }

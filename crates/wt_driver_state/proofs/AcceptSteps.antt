@@ -6,7 +6,7 @@ use Rattle.wt_driver_state.proofs.AcceptLooks.{LooksOn, enough-looks, none-due, 
 use Rattle.wt_driver_state.proofs.AcceptUses.{MayPass, datagram-kept, due-kept, due-parts, may-give, may-pass-due, may-settle, other-open, passed-less}
 use Rattle.wt_driver_state.specs.DriverValue.{DriverValue}
 use Rattle.wt_dispatch.specs.Found.{due_as}
-use Rattle.wt_driver_state.specs.Given.{ended_or_pending, given_by, is_own, next_datagram_now, payload_by, payload_in}
+use Rattle.wt_driver_state.specs.PollResults.{ended_or_pending, given_by, is_own, next_datagram_now, payload_by, payload_in}
 use Rattle.wt_driver_state.specs.Moving.{front_of}
 use Rattle.wt_driver_state.specs.Tie.{Follows, unsettled_datagrams}
 use Rattle.wt_driver_spec.specs.Asking.{MayBeCalled}
@@ -25,18 +25,18 @@ use Rattle.wt_wire.specs.declared.side.Side.{Side}
 -- ---- any call
 
 module _ {T : Type 0} (side : Side) (taken : ℕ) (rule : DueRule Log T) (whole : DueOutcome Log T) where
-  module _ (log : Log) (left : ℕ) (behind : whole ≡ take_due rule left log) where
-    -- a look is left behind a pass
+  module _ (log : Log) (left : ℕ) (whole_is : whole ≡ take_due rule left log) where
+    -- a look is left after a pass
     pub looks-again : (d : DriverValue) → Follows side d log taken → 0 < left → LooksOn side taken rule whole (left - 1) d
     looks-again d f more = record {
       log_now = log;
       follows = f;
-      same = behind ∙ ap (λ n. take_due rule n log) (let one : left ≡ suc (left - 1) = omega arith in one);
+      same = whole_is ∙ ap (λ n. take_due rule n log) (let one : left ≡ suc (left - 1) = omega arith in one);
     }
 
     -- none is left
     looks-end : left ≡ 0 → whole ≡ record { state = log; given = None }
-    looks-end none = behind ∙ ap (λ n. take_due rule n log) none
+    looks-end none = whole_is ∙ ap (λ n. take_due rule n log) none
 
     pub end-follows : (d : DriverValue) → left ≡ 0 → Follows side d log taken → Follows side d whole.state taken
     end-follows d none f = subst (λ (x : DueOutcome Log T). Follows side d x.state taken) (sym (looks-end none)) f

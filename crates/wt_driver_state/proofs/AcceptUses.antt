@@ -8,7 +8,7 @@ use Rattle.wt_driver_state.proofs.Receives.{named-receives}
 use Rattle.wt_driver_state.proofs.StageUses.{due-uses, table-with}
 use Rattle.wt_driver_state.proofs.StageWork.{passed-waits, slice-front, unsettled-with}
 use Rattle.wt_driver_state.specs.DriverValue.{DriverValue, without_first}
-use Rattle.wt_driver_state.specs.Given.{next_datagram_now}
+use Rattle.wt_driver_state.specs.PollResults.{next_datagram_now}
 use Rattle.wt_driver_state.specs.Moving.{front_of}
 use Rattle.wt_driver_state.specs.Tie.{Follows, TakenIn, unsettled_datagrams}
 use Rattle.wt_driver_spec.proofs.Accepting.{due-named, may-release}
@@ -38,7 +38,7 @@ call-sends side log r none spares sends o = record {
   session = λ s e. (sends o).session s (sym (ap (λ (x : Option (ℕ × ℕ)). or_earlier x (established_session (calls_of log))) none) ∙ e);
 }
 
--- a call that records nothing else may come behind each log
+-- a call that records nothing else may come after each log
 pub may-poll : (side : Side) (log : Log) (taken : ℕ) (d : DriverValue) → Follows side d log taken → MayBeCalled side log Polled
 may-poll side log taken d f = record { may = tt; can = tt; sends = call-sends side log Polled refl (λ k. refl) f.sends; half = tt }
 
@@ -88,7 +88,7 @@ due-parts session c x e = (ap item-in e, ap own-in e)
 -- A stream of another session may be stopped, then passed.
 pub record MayPass (side : Side) (log : Log) (id : ℕ) : Type 0 where
   pub act : MayAct side log (passing_stop id)
-  pub called : MayBeCalled side (Sent (passing_stop id) ∷ log) (StreamPassed id)
+  pub may_record : MayBeCalled side (Sent (passing_stop id) ∷ log) (StreamPassed id)
 
 module _ (side : Side) (log : Log) (taken : ℕ) (d : DriverValue) (f : Follows side d log taken) (kind session id : ℕ) where
   named : (own : Bool) → due_stream session (next_due side log kind session) ≡ Some (record { item = id; is_own = own }) → names_session (verdict_of id (stream_table side log).classified) ≡ true
@@ -118,7 +118,7 @@ module _ (side : Side) (log : Log) (taken : ℕ) (d : DriverValue) (f : Follows 
           let uses = subst (λ k. MayUse side log (StreamPassed k)) parts.0 (due-uses side log kind session c f.refines.fits g).1 in
           record {
             act = (other-open side log kind session c g parts.1, named-receives side log id f.refines.fits (named false e));
-            called = record {
+            may_record = record {
               may = ap (λ (t : StreamTable). may_release side t.classified id) (table-with side (passing_stop id ∷ []) log) ∙ may-release side log log id (named false e);
               can = (ap (λ (t : StreamTable). is_sessions (classified_of id t.classified)) (table-with side (passing_stop id ∷ []) log) ∙ uses.0, uses.1);
               sends = call-sends side (Sent (passing_stop id) ∷ log) (StreamPassed id) refl (λ k. refl) (acted-sends side log (passing_stop id) (passing-spares side log id) f.sends);

@@ -1,4 +1,4 @@
--- An action of a call that went out: what the driver follows behind it.
+-- An action of a call that went out: what the driver follows after it.
 use Rattle.std.proofs.Common.{◌≡◌, ◌+◌, ◌||◌, ℕ, Bool, true, false, List, [], ◌∷◌, refl, sym, ap, subst, ◌∙◌, add-zero}
 use Rattle.std.specs.Prelude.{◌&&◌, if◌then◌else◌, not}
 use Rattle.std.proofs.lemmas.Bool.{and_parts}

@@ -22,15 +22,15 @@ use Rattle.wt_wire.specs.declared.side.Side.{Side}
 -- ---- a scan that finds nothing to do
 
 module _ (ready : Bool) (d : CallView) (rule : SlotRule) where
-  -- behind the first stream
+  -- after the first stream
   module _ (k : ℕ) (ks : List ℕ) (p : Scan)
       (again : (n : ℕ) → Rests ready rule n (slots d p.table ks) → (scan ready d rule ks (record p { occupied = n })).table ≡ p.table) where
-    held : (b : Bool) → Rests ready rule p.occupied ((if b then [] else record { id = k; place = Held } ∷ []) ++ slots d p.table ks)
+    held : (b : Bool) → Rests ready rule p.occupied ((if b then [] else record { id = k; phase = Held } ∷ []) ++ slots d p.table ks)
         → (scan ready d rule ks (record p { occupied = occupied b p.occupied })).table ≡ p.table
     held true r = again p.occupied r
     held false r = again (suc p.occupied) r.1
 
-    free : (b : Bool) → has k p.table.dequeued ≡ b → Rests ready rule p.occupied (record { id = k; place = if b then Dequeued else Arrived } ∷ slots d p.table ks)
+    free : (b : Bool) → has k p.table.dequeued ≡ b → Rests ready rule p.occupied (record { id = k; phase = if b then Dequeued else Arrived } ∷ slots d p.table ks)
         → (scan ready d rule ks (dequeue (b || (ready && nat_lt p.occupied rule.slots)) d rule k p)).table ≡ p.table
     free true e r = rw (r.0, e) (again (suc p.occupied) r.1)
     free false e r = rw r.0 (again (suc p.occupied) r.1)
@@ -137,7 +137,7 @@ module _ (side : Side) (log : Log) (r : CallRecord) (taken : ℕ) (d : DriverVal
 
   settings : KeepsSettings side (Called r ∷ log) d.settings
   settings = record {
-    came = in_.settings.came ∙ sym came-same;
+    has_come = in_.settings.has_come ∙ sym came-same;
     read = λ s is. ap (λ (cs : List Classified). settings_read t (first_at control_start cs)) classified-same ∙ in_.settings.read s is;
   }
 

@@ -84,7 +84,7 @@ queue-so DatagramReceived log = received-waits log
 queue-so DatagramPassed log = passed-waits log
 queue-so _ log = refl
 
--- What letting the response go ensures where a session is established: a client reads on behind it.
+-- What letting the response go ensures where a session is established: a client reads on after it.
 abbrev pub ReleasesResponse : DriverValue → DriverValue → ℕ → ℕ → Type 0
 ReleasesResponse d new id at = (log : Log) (stage : ℕ → Stage) (untaken : List Action) → inboxes.Refines Client d.inbox log stage untaken → awaits_response (stage id) ≡ true
     → response_offset (response_walk_of (contents log id) (end_of (events_of log) id)) ≡ Some at → inboxes.Refines Client new.inbox log (with_stage stage id (Body at)) untaken
@@ -113,7 +113,7 @@ module _ (side : Side) (log : Log) (taken : ℕ) (d : DriverValue) (f : Follows 
     queue_is = q ∙ ap (called_queue r) f.refines.queue_is ∙ sym (queue-so r log);
     settings = subst (KeepsSettings side log) (sym k) f.refines.settings;
     within = f.within;
-    moment = refl;
+    at_moment = refl;
     may = a.may;
     can = a.can;
     fits = f.refines.fits;
@@ -145,8 +145,8 @@ module _ (side : Side) (log : Log) (taken : ℕ) (d : DriverValue) (f : Follows 
   opened : d.state.is_open ≡ (state_of side log).is_open
   opened = ap (λ (s : DriverState). s.is_open) f.refines.state_is
 
-  behind : (r : CallRecord) (x : InboxState) (stage : ℕ → Stage) → inboxes.Refines side x (Called r ∷ log) stage (untaken_since taken log) → x.transport.is_open ≡ (state_of side log).is_open
-  behind r x stage s = open-is side (Called r ∷ log) (untaken_since taken log) x stage s ∙ open-says side log
+  open-stays : (r : CallRecord) (x : InboxState) (stage : ℕ → Stage) → inboxes.Refines side x (Called r ∷ log) stage (untaken_since taken log) → x.transport.is_open ≡ (state_of side log).is_open
+  open-stays r x stage s = open-is side (Called r ∷ log) (untaken_since taken log) x stage s ∙ open-says side log
 
   kept : (r : CallRecord) → TellsNothing r → inboxes.Refines side d.inbox (Called r ∷ log) f.refines.stage (untaken_since taken log)
   kept r n = inbox-kept side d.inbox log f.refines.stage (untaken_since taken log) r n f.refines.inbox
@@ -174,7 +174,7 @@ module _ (side : Side) (log : Log) (taken : ℕ) (d : DriverValue) (f : Follows 
         let stage = established_stages side id at f.refines.stage in
         let x = established-inbox side log taken d new id at f client server a.half in
         let y = inbox-kept side new.inbox log stage (untaken_since taken log) (SessionEstablished id at) tt x in
-        call-taken side log taken d f (SessionEstablished id at) a new new.inbox.transport.is_open y s (behind (SessionEstablished id at) new.inbox stage y) q k
+        call-taken side log taken d f (SessionEstablished id at) a new new.inbox.transport.is_open y s (open-stays (SessionEstablished id at) new.inbox stage y) q k
 
     pub accepted-taken : (id : ℕ) → (IsAmong 4 id d.state.unis → IsAmong 1 id d.state.bis → new ≡ with_state d (release id d.state)) → Asks (StreamAccepted id) → TakenIn side log (Called (StreamAccepted id)) new taken
     accepted-taken id e a = subst (λ (v : DriverValue). TakenIn side log (Called (StreamAccepted id)) v taken) (sym (e (first id a.may).unis (first id a.may).bis))
@@ -199,7 +199,7 @@ module _ (side : Side) (log : Log) (taken : ℕ) (d : DriverValue) (f : Follows 
         let z : inboxes.Refines side new.inbox log (with_stage f.refines.stage id GivenUp) (untaken_since taken log) =
         subst (λ (b : Bool). inboxes.Refines side new.inbox log (with_stage f.refines.stage id (unless_given_up b (f.refines.stage id))) (untaken_since taken log)) can x in
         let y = inbox-kept side new.inbox log (with_stage f.refines.stage id GivenUp) (untaken_since taken log) (StreamPassed id) tt z in
-        call-taken side log taken d f (StreamPassed id) a new new.inbox.transport.is_open y (s (first id a.may).unis (first id a.may).bis) (behind (StreamPassed id) new.inbox (with_stage f.refines.stage id GivenUp) y) q k
+        call-taken side log taken d f (StreamPassed id) a new new.inbox.transport.is_open y (s (first id a.may).unis (first id a.may).bis) (open-stays (StreamPassed id) new.inbox (with_stage f.refines.stage id GivenUp) y) q k
 
     -- a stream that is given up was let go where it was there
     pub given-up-taken : (id : ℕ) → inboxes.Refines side new.inbox log (with_stage f.refines.stage id (unless_given_up (can_receive side log id) (f.refines.stage id))) (untaken_since taken log)
@@ -210,7 +210,7 @@ module _ (side : Side) (log : Log) (taken : ℕ) (d : DriverValue) (f : Follows 
         let z : inboxes.Refines side new.inbox log later (untaken_since taken log) =
         subst (λ (b : Bool). inboxes.Refines side new.inbox log (with_stage f.refines.stage id (unless_given_up b (f.refines.stage id))) (untaken_since taken log)) same x in
         let y = inbox-kept side new.inbox log later (untaken_since taken log) (StreamGivenUp id) tt z in
-        call-taken side log taken d f (StreamGivenUp id) a new new.inbox.transport.is_open y s (behind (StreamGivenUp id) new.inbox later y) q k
+        call-taken side log taken d f (StreamGivenUp id) a new new.inbox.transport.is_open y s (open-stays (StreamGivenUp id) new.inbox later y) q k
 
     pub read-taken : (id count : ℕ)
         → ((offset : ℕ) → body_offset (f.refines.stage id) ≡ Some offset → count ≤ length (drop offset (contents log id)) → inboxes.Refines side new.inbox log (with_stage f.refines.stage id (Body (offset + count))) (untaken_since taken log))
@@ -221,13 +221,13 @@ module _ (side : Side) (log : Log) (taken : ℕ) (d : DriverValue) (f : Follows 
         let z = x at e a.can.1 in
         let w = subst (λ (to : Stage). inboxes.Refines side new.inbox log (with_stage f.refines.stage id to) (untaken_since taken log)) (sym (read-so count at (f.refines.stage id) e)) z in
         let y = inbox-kept side new.inbox log (called_stages side log (BytesRead id count) f.refines.stage) (untaken_since taken log) (BytesRead id count) tt w in
-        call-taken side log taken d f (BytesRead id count) a new new.inbox.transport.is_open y s (behind (BytesRead id count) new.inbox (called_stages side log (BytesRead id count) f.refines.stage) y) q k
+        call-taken side log taken d f (BytesRead id count) a new new.inbox.transport.is_open y s (open-stays (BytesRead id count) new.inbox (called_stages side log (BytesRead id count) f.refines.stage) y) q k
 
     pub told-taken : (r : CallRecord) → after_call r d.state ≡ d.state → called_queue r d.queue ≡ d.queue → called_stages side log r f.refines.stage ≡ f.refines.stage → inboxes.Refines side new.inbox (Called r ∷ log) f.refines.stage (untaken_since taken log)
         → new.state ≡ record d.state { is_open = new.inbox.transport.is_open } → new.queue ≡ d.queue → new.settings ≡ d.settings → Asks r → TakenIn side log (Called r) new taken
     told-taken r same same_queue same_stages x s q k a =
         call-taken side log taken d f r a new new.inbox.transport.is_open (subst (λ (z : ℕ → Stage). inboxes.Refines side new.inbox (Called r ∷ log) z (untaken_since taken log)) (sym same_stages) x)
-        (s ∙ (λ i. record (sym same i) { is_open = new.inbox.transport.is_open })) (behind r new.inbox f.refines.stage x) (q ∙ sym same_queue) k
+        (s ∙ (λ i. record (sym same i) { is_open = new.inbox.transport.is_open })) (open-stays r new.inbox f.refines.stage x) (q ∙ sym same_queue) k
 
 -- a call that isn't one of these leaves a driver at rest
 pub no-other : (call : Record) → ((id : ℕ) → call ≡ records.RequestDelivered id → ⊥) → ((id at : ℕ) → call ≡ records.SessionEstablished id at → ⊥) → ((id : ℕ) → call ≡ records.StreamAccepted id → ⊥)

@@ -1,4 +1,4 @@
--- A stream that may be released has its slot among the first few: those behind them only arrived.
+-- A stream that may be released has its slot among the first few: those after them only arrived.
 use Rattle.std.proofs.Common.{arith, ◌≡◌, ◌≤◌, ◌+◌, ℕ, zero, suc, Bool, true, false, List, [], ◌∷◌, ◌++◌, drop, refl, sym, subst, ◌∙◌}
 use Rattle.std.specs.Prelude.{◌==◌, ◌||◌, Option, Some, None, if◌then◌else◌, is_some, nat_lt}
 use Rattle.std.proofs.lemmas.Bool.{eqb-true, ltb-true}
@@ -22,7 +22,7 @@ use Rattle.wt_wire.specs.declared.side.Side.{Side}
 -- the slots of this stream hold it: it is classified
 abbrev HeldOnly : ℕ → List Slot → Type 0
 HeldOnly id [] = Unit {0}
-HeldOnly id (l ∷ ls) = ((l.id == id) ≡ true → l.place ≡ Held) × HeldOnly id ls
+HeldOnly id (l ∷ ls) = ((l.id == id) ≡ true → l.phase ≡ Held) × HeldOnly id ls
 
 held-both : (id : ℕ) (xs ys : List Slot) → HeldOnly id xs → HeldOnly id ys → HeldOnly id (xs ++ ys)
 held-both id [] ys a b = b
@@ -35,7 +35,7 @@ held-slot id k released dequeued None f = (λ e. absurd (no (f e)), tt)
     no e = cc
 held-slot id k released dequeued (Some v) f = by (is_released released v)
   where
-    by : (b : Bool) → HeldOnly id (if b then [] else record { id = k; place = Held } ∷ [])
+    by : (b : Bool) → HeldOnly id (if b then [] else record { id = k; phase = Held } ∷ [])
     by true = tt
     by false = (λ e. refl, tt)
 
@@ -45,7 +45,7 @@ held-slots id d s local (k ∷ ks) peers f =
     held-both id (slot_by k (d.released k) (has k s.dequeued) (verdict_of k s.classified)) (slots d s ks)
     (held-slot id k (d.released k) (has k s.dequeued) (verdict_of k s.classified) (λ e. f k e peers.0)) (held-slots id d s local ks peers.1 f)
 
--- a slot that holds its stream isn't behind the first few
+-- a slot that holds its stream isn't after the first few
 not-behind : (id most k n : ℕ) (ls : List Slot) → most ≤ n + k → IsBounded most n ls → HeldOnly id ls → has_slot id (drop k ls) ≡ false
 not-behind id most zero n [] le b h = refl
 not-behind id most (suc k) n [] le b h = refl

@@ -1,4 +1,4 @@
--- What a driver follows behind its calls for a session.
+-- What a driver follows after its calls for a session.
 use Rattle.std.proofs.Common.{arith, ◌≡◌, ℕ, ◌+◌, ◌*◌, ◌%◌, Bool, true, false, List, [], ◌∷◌, ◌⊎◌, inl, refl, sym, ap, subst, ◌∙◌}
 use Rattle.std.specs.Prelude.{◌&&◌, ◌==◌, Option, Some, None, Result, OnOk, if◌then◌else◌, is_some, not}
 use Rattle.std.proofs.lemmas.Bool.{true≢false}
@@ -63,7 +63,7 @@ module _ (side : Side) (log : Log) (taken : ℕ) (d new : DriverValue) (f : Foll
 
   pub request-follows : (asked : ℕ × Fields × ℕ) → Some asked ≡ first_request d.state.dispatched.requests
       → (MayBeCalled side log (RequestDelivered asked.0) → Follows side new (log_and_flush side log (Called (RequestDelivered asked.0))) taken) → Follows side new (first_given side log (waiting_requests side log)) taken
-  request-follows asked e work = by (waiting_requests side log) refl (e ∙ ap (λ (cs : List Classified). first_request cs) queued-now)
+  request-follows asked e flushed = by (waiting_requests side log) refl (e ∙ ap (λ (cs : List Classified). first_request cs) queued-now)
     where
       by : (cs : List Classified) → waiting_requests side log ≡ cs → Some asked ≡ first_request cs → Follows side new (first_given side log cs) taken
       by [] g h = absurd cc
@@ -71,7 +71,7 @@ module _ (side : Side) (log : Log) (taken : ℕ) (d new : DriverValue) (f : Foll
           let same : asked.0 ≡ c.id = request-id c.id c.verdict asked h in
           let inside : In c (waiting_requests side log) = subst (λ (cs : List Classified). In c cs) (sym g) (inl refl) in
           subst (λ (k : ℕ). Follows side new (log_and_flush side log (Called (RequestDelivered k))) taken) same
-          (work (subst (λ (k : ℕ). MayBeCalled side log (RequestDelivered k)) (sym same) (may-deliver side log taken d f c inside)))
+          (flushed (subst (λ (k : ℕ). MayBeCalled side log (RequestDelivered k)) (sym same) (may-deliver side log taken d f c inside)))
 
   -- without one the log stays
   pub none-follows : None ≡ first_request d.state.dispatched.requests → Follows side d (first_given side log (waiting_requests side log)) taken
@@ -134,9 +134,9 @@ shut-out false b e = refl
 module _ (side : Side) (log : Log) (taken : ℕ) (d new : DriverValue) (f : Follows side d log taken) (id at : ℕ) where
   pub registered-done : {T E : Type 0} (r : Result T E) → is_open log ≡ true → d.state.session ≡ None → (may_register log ≡ true → MayBeCalled side log (SessionEstablished id at))
       → (MayBeCalled side log (SessionEstablished id at) → OnOk r (Follows side new (log_and_flush side log (Called (SessionEstablished id at))) taken)) → OnOk r (Follows side new (log_once_registered side log id at) taken)
-  registered-done r o none may work =
+  registered-done r o none may flushed =
       let can : may_register log ≡ true = registers (is_open log) (established_session (calls_of log)) o (sym (session-now side log taken d f) ∙ none) in
-      subst (λ (b : Bool). OnOk r (Follows side new (if b then log_and_flush side log (Called (SessionEstablished id at)) else log) taken)) (sym can) (work (may can))
+      subst (λ (b : Bool). OnOk r (Follows side new (if b then log_and_flush side log (Called (SessionEstablished id at)) else log) taken)) (sym can) (flushed (may can))
 
   pub registered-before : (s : ℕ × ℕ) → d.state.session ≡ Some s → Follows side d (log_once_registered side log id at) taken
   registered-before s some =

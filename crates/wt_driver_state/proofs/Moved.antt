@@ -144,13 +144,13 @@ unless-over None f s g = absurd (g refl)
 unless-over (Some x) f s g = refl
 
 -- a datagram that is due is dequeued
-pub datagram-due : (t : TransportView) (settled : ℕ) (p : DriverProgress) (front : Option (List ℕ)) → p.ending ≡ None → (t.ready && settled == p.datagrams) ≡ true → t.datagram settled ≡ front
-    → datagram_checked t settled p ≡ dequeued_datagram front p
-datagram-due t settled p front e m f =
-    unless-open p.ending (λ q. check_datagram (t.ready && settled == q.datagrams) t q) p e
+pub datagram-due : (t : TransportView) (settled_count : ℕ) (p : DriverProgress) (front : Option (List ℕ)) → p.ending ≡ None → (t.ready && settled_count == p.datagrams) ≡ true → t.datagram settled_count ≡ front
+    → datagram_checked t settled_count p ≡ dequeued_datagram front p
+datagram-due t settled_count p front e m f =
+    unless-open p.ending (λ q. check_datagram (t.ready && settled_count == q.datagrams) t q) p e
     ∙ ap (λ (b : Bool). check_datagram b t p) m
-    ∙ ap (λ (o : Option (List ℕ)). dequeued_datagram o p) (ap t.datagram (sym (eqb-true settled p.datagrams (and_parts_right t.ready (settled == p.datagrams) m))) ∙ f)
+    ∙ ap (λ (o : Option (List ℕ)). dequeued_datagram o p) (ap t.datagram (sym (eqb-true settled_count p.datagrams (and_parts_right t.ready (settled_count == p.datagrams) m))) ∙ f)
 
-pub datagram-not-due : (t : TransportView) (settled : ℕ) (p : DriverProgress) → p.ending ≡ None → (t.ready && settled == p.datagrams) ≡ false → datagram_checked t settled p ≡ p
-datagram-not-due t settled p e m =
-    unless-open p.ending (λ q. check_datagram (t.ready && settled == q.datagrams) t q) p e ∙ ap (λ (b : Bool). check_datagram b t p) m
+pub datagram-not-due : (t : TransportView) (settled_count : ℕ) (p : DriverProgress) → p.ending ≡ None → (t.ready && settled_count == p.datagrams) ≡ false → datagram_checked t settled_count p ≡ p
+datagram-not-due t settled_count p e m =
+    unless-open p.ending (λ q. check_datagram (t.ready && settled_count == q.datagrams) t q) p e ∙ ap (λ (b : Bool). check_datagram b t p) m

@@ -36,7 +36,7 @@ module _ (side : Side) (log : Log) where
   slot-receives k released dequeued None later can rest = (can, rest)
   slot-receives k released dequeued (Some v) later can rest = by (is_released released v)
     where
-      by : (b : Bool) → SlotsReceive side log ((if b then [] else record { id = k; place = Held } ∷ []) ++ later)
+      by : (b : Bool) → SlotsReceive side log ((if b then [] else record { id = k; phase = Held } ∷ []) ++ later)
       by true = rest
       by false = (can, rest)
 

@@ -30,7 +30,7 @@ distinct-drop zero ls d = d
 distinct-drop (suc n) [] d = tt
 distinct-drop (suc n) (l ∷ ls) d = distinct-drop n ls d.1
 
--- what isn't behind the first few isn't behind more
+-- what isn't after the first few isn't after more
 later-none : (id n : ℕ) (ls : List Slot) → has_slot id ls ≡ false → has_slot id (drop n ls) ≡ false
 later-none id zero ls e = e
 later-none id (suc n) [] e = refl

@@ -7,7 +7,7 @@ use Rattle.wt_driver_state.specs.DriverValue.{DriverValue}
 use Rattle.wt_driver_state.specs.PeerSettings.{KeepsSettings, peer_control, peer_settings, settings_checked, settings_read, settings_scanned, unless_given}
 use Rattle.wt_driver_state.specs.Results.{due_settings}
 use Rattle.wt_driver_state.specs.Stages.{datagram_checked, session_checked}
-use Rattle.wt_driver_spec.specs.DriverState.{Arrived, Dequeued, DriverState, Held, Slot, SlotPlace, state_of}
+use Rattle.wt_driver_spec.specs.DriverState.{Arrived, Dequeued, DriverState, Held, Slot, SlotPhase, state_of}
 use Rattle.wt_driver_spec.specs.Step.{Known, after_entry, begin_scan, classify_slot, dequeue_slot, dispatch_by, known_of, run_checks, scan_bi_slots, scan_on, scan_slots, scan_state, scan_uni_slots, unless_ended_slots, visit_slot}
 use Rattle.wt_message.specs.Datagram.{datagram_of}
 use Rattle.wt_message.specs.declared.settings.Settings.{Settings}
@@ -33,13 +33,13 @@ use Rattle.wt_wire.specs.declared.side.StreamEnd.TheVariants as ends
 
 -- ---- what was read stays read
 
--- what is left of more bytes, behind so many of all
-abbrev behind : ℕ → List ℕ → List ℕ → List ℕ
-behind zero xs more = more
-behind (suc n) [] more = drop (suc n) more
-behind (suc n) (x ∷ xs) more = behind n xs more
+-- what is left of more bytes, after so many of all
+abbrev left_after : ℕ → List ℕ → List ℕ → List ℕ
+left_after zero xs more = more
+left_after (suc n) [] more = drop (suc n) more
+left_after (suc n) (x ∷ xs) more = left_after n xs more
 
-drop-behind : (n : ℕ) (xs more : List ℕ) → drop n (xs ++ more) ≡ drop n xs ++ behind n xs more
+drop-behind : (n : ℕ) (xs more : List ℕ) → drop n (xs ++ more) ≡ drop n xs ++ left_after n xs more
 drop-behind zero [] more = refl
 drop-behind zero (x ∷ xs) more = refl
 drop-behind (suc n) [] more = refl
@@ -60,7 +60,7 @@ with-brought k _ before = sym (append-nil before)
 
 drop-stays : (at : ℕ) (xs more : List ℕ) (end later : StreamEnd) (s : Settings) → (control_walk_of (drop at xs) end).settings ≡ Some s → (control_walk_of (drop at (xs ++ more)) later).settings ≡ Some s
 drop-stays at xs more end later s e =
-    ap (λ (ys : List ℕ). (control_walk_of ys later).settings) (drop-behind at xs more) ∙ settings_stay (drop at xs) (behind at xs more) end later s e
+    ap (λ (ys : List ℕ). (control_walk_of ys later).settings) (drop-behind at xs more) ∙ settings_stay (drop at xs) (left_after at xs more) end later s e
 
 read-stays : (side : Side) (log : Log) (e : Entry) (o : Option (ℕ × ℕ)) (s : Settings) → settings_read (transport_view side log) o ≡ Some s → settings_read (transport_view side (e ∷ log)) o ≡ Some s
 read-stays side log e None s f = absurd cc
@@ -75,7 +75,7 @@ idle-table side log e idle = ap (λ (b : Bool). apply_if b (scan_order (transpor
 
 pub idle-keeps : (side : Side) (log : Log) (e : Entry) (kept : Option Settings) → (is_moment e && is_open (e ∷ log)) ≡ false → KeepsSettings side log kept → KeepsSettings side (e ∷ log) kept
 idle-keeps side log e kept idle k = record {
-  came = k.came ∙ ap (λ (x : StreamTable). x.progress.settings) (sym same);
+  has_come = k.has_come ∙ ap (λ (x : StreamTable). x.progress.settings) (sym same);
   read = λ s is. ap (λ (x : StreamTable). settings_read (transport_view side (e ∷ log)) (first_at control_start x.classified)) same ∙ read-stays side log e (peer_control side log) s (k.read s is);
 }
   where
@@ -88,20 +88,20 @@ sent-keeps side (a ∷ later) log kept k = sent-keeps side later (Sent a ∷ log
 
 pub start-keeps : (side : Side) → KeepsSettings side [] None
 unfolding stream_table
-start-keeps side = record { came = refl; read = λ s e. absurd cc }
+start-keeps side = record { has_come = refl; read = λ s e. absurd cc }
 
 -- ---- the scan of the slots
 
 -- a scan leaves whether SETTINGS came, and the control stream that was classified
 record GoesOn (c d : Known) : Type 0 where
-  came : d.progress.settings ≡ c.progress.settings
+  has_come : d.progress.settings ≡ c.progress.settings
   control : (x : ℕ × ℕ) → c.dispatched.control ≡ Some x → d.dispatched.control ≡ Some x
 
 goes-same : (c : Known) → GoesOn c c
-goes-same c = record { came = refl; control = λ x e. e }
+goes-same c = record { has_come = refl; control = λ x e. e }
 
 goes-then : (c d e : Known) → GoesOn c d → GoesOn d e → GoesOn c e
-goes-then c d e a b = record { came = b.came ∙ a.came; control = λ x i. b.control x (a.control x i) }
+goes-then c d e a b = record { has_come = b.has_come ∙ a.has_come; control = λ x i. b.control x (a.control x i) }
 
 control-stays : (v : Verdict) (r : Classified) (d : Dispatched) (x : ℕ × ℕ) → d.control ≡ Some x → (dispatch_by v r d).control ≡ Some x
 control-stays (verdicts.Control at) r d x e = ap (λ (o : Option (ℕ × ℕ)). or_later o (Some (r.id, at))) e
@@ -111,7 +111,7 @@ module _ (ready : Bool) (rule : SlotRule) where
   classified-goes-on : (b : Bool) (k n : ℕ) (c : Known) → GoesOn c (classify_slot b rule k n c).known
   classified-goes-on false k n c = goes-same c
   classified-goes-on true k n c = record {
-    came = refl;
+    has_come = refl;
     control = λ x e. control-stays (rule.verdict k) (record { id = k; verdict = rule.verdict k; surplus = (rule.consequence c.dispatched k (rule.verdict k)).surplus }) c.dispatched x e;
   }
 
@@ -119,7 +119,7 @@ module _ (ready : Bool) (rule : SlotRule) where
   dequeued-goes-on false l n c = goes-same c
   dequeued-goes-on true l n c = classified-goes-on (is_final (rule.verdict l.id)) l.id n c
 
-  visited-goes-on : (p : SlotPlace) (l : Slot) (n : ℕ) (c : Known) → GoesOn c (visit_slot ready rule p l n c).known
+  visited-goes-on : (p : SlotPhase) (l : Slot) (n : ℕ) (c : Known) → GoesOn c (visit_slot ready rule p l n c).known
   visited-goes-on Held l n c = goes-same c
   visited-goes-on Dequeued l n c = dequeued-goes-on true l n c
   visited-goes-on Arrived l n c = dequeued-goes-on (ready && nat_lt n rule.slots) l n c
@@ -128,11 +128,11 @@ module _ (ready : Bool) (rule : SlotRule) where
   slots-go-on [] n c = goes-same c
   slots-go-on (l ∷ ls) n c =
       by c.progress.ending
-      (goes-then c (visit_slot ready rule l.place l n c).known (scan_slots ready rule (visit_slot ready rule l.place l n c).occupied ls (visit_slot ready rule l.place l n c).known).known (visited-goes-on l.place l n c)
-      (slots-go-on ls (visit_slot ready rule l.place l n c).occupied (visit_slot ready rule l.place l n c).known))
+      (goes-then c (visit_slot ready rule l.phase l n c).known (scan_slots ready rule (visit_slot ready rule l.phase l n c).occupied ls (visit_slot ready rule l.phase l n c).known).known (visited-goes-on l.phase l n c)
+      (slots-go-on ls (visit_slot ready rule l.phase l n c).occupied (visit_slot ready rule l.phase l n c).known))
     where
-      by : (o : Option Ending) → GoesOn c (scan_slots ready rule (visit_slot ready rule l.place l n c).occupied ls (visit_slot ready rule l.place l n c).known).known
-          → GoesOn c (unless_ended_slots o (λ k. scan_on (λ m later. scan_slots ready rule m ls later) (visit_slot ready rule l.place l n k)) (l ∷ ls) c).known
+      by : (o : Option Ending) → GoesOn c (scan_slots ready rule (visit_slot ready rule l.phase l n c).occupied ls (visit_slot ready rule l.phase l n c).known).known
+          → GoesOn c (unless_ended_slots o (λ k. scan_on (λ m later. scan_slots ready rule m ls later) (visit_slot ready rule l.phase l n k)) (l ∷ ls) c).known
       by None g = g
       by (Some x) g = goes-same c
 
@@ -210,12 +210,12 @@ last-came t s p is =
 
 -- what is kept agrees with the state: some exactly where SETTINGS came, and those that the walk reads
 record Agrees (t : TransportView) (s : DriverState) (kept : Option Settings) : Type 0 where
-  came : is_some kept ≡ s.progress.settings
+  has_come : is_some kept ≡ s.progress.settings
   read : (x : Settings) → kept ≡ Some x → settings_read t s.dispatched.control ≡ Some x
 
 agrees-on : (t : TransportView) (s u : DriverState) (kept : Option Settings) → u.progress.settings ≡ s.progress.settings → ((x : ℕ × ℕ) → s.dispatched.control ≡ Some x → u.dispatched.control ≡ Some x)
     → Agrees t s kept → Agrees t u kept
-agrees-on t s u kept came control k = record { came = k.came ∙ sym came; read = λ x is. by x s.dispatched.control refl (k.read x is) }
+agrees-on t s u kept has_come control k = record { has_come = k.has_come ∙ sym has_come; read = λ x is. by x s.dispatched.control refl (k.read x is) }
   where
     by : (x : Settings) (o : Option (ℕ × ℕ)) → s.dispatched.control ≡ o → settings_read t o ≡ Some x → settings_read t u.dispatched.control ≡ Some x
     by x None e r = absurd cc
@@ -223,7 +223,7 @@ agrees-on t s u kept came control k = record { came = k.came ∙ sym came; read 
 
 module _ (t : TransportView) (s : DriverState) (kept : Option Settings) (k : Agrees t s kept) (p : DriverProgress) (is : p ≡ session_checked t s.session (datagram_checked t s.datagrams s.progress)) where
   before-came : is_some kept ≡ p.settings
-  before-came = k.came ∙ sym (three-came t s) ∙ ap (λ (x : DriverProgress). x.settings) (sym is)
+  before-came = k.has_come ∙ sym (three-came t s) ∙ ap (λ (x : DriverProgress). x.settings) (sym is)
 
   noted-came : (e : Option Ending) (o : Option Settings) → settings_read t s.dispatched.control ≡ o → is_some (unless_ended e (λ x. option_or o x) kept) ≡ (unless_ended e (check_control t s.dispatched.control) p).settings
   noted-came (Some x) o f = before-came
@@ -239,7 +239,7 @@ checked-agrees : (t : TransportView) (s : DriverState) (kept : Option Settings) 
 checked-agrees t s kept k =
     let p : DriverProgress = session_checked t s.session (datagram_checked t s.datagrams s.progress) in
     record {
-      came = noted-came t s kept k p refl p.ending (settings_read t s.dispatched.control) refl ∙ sym (last-came t s p refl);
+      has_come = noted-came t s kept k p refl p.ending (settings_read t s.dispatched.control) refl ∙ sym (last-came t s p refl);
       read = λ x g. noted-read t s kept k p refl p.ending (settings_read t s.dispatched.control) refl x g;
     }
 
@@ -250,7 +250,7 @@ scanned-agrees t s kept k =
     let b : DriverState = scan_bi_slots t a in
     let unis = slots-go-on t.ready (uni_rule t) w.unis 0 (known_of w) in
     let bis = slots-go-on t.ready (bi_rule t) a.bis 0 (known_of a) in
-    checked-agrees t b kept (agrees-on t a b kept bis.came bis.control (agrees-on t w a kept unis.came unis.control (record { came = k.came; read = k.read })))
+    checked-agrees t b kept (agrees-on t a b kept bis.has_come bis.control (agrees-on t w a kept unis.has_come unis.control (record { has_come = k.has_come; read = k.read })))
 
 -- ---- a moment
 
@@ -275,17 +275,17 @@ pub scanned-keeps : (side : Side) (log : Log) (m : Entry) (s : DriverState) (kep
     → scan_state (transport_view side (m ∷ log)) s ≡ state_of side (m ∷ log) → KeepsSettings side log kept → KeepsSettings side (m ∷ log) (settings_scanned (transport_view side (m ∷ log)) s kept)
 scanned-keeps side log m s kept here there k =
     let u : TransportView = transport_view side (m ∷ log) in
-    let came : s.progress.settings ≡ settings_came side log =
+    let has_come : s.progress.settings ≡ settings_came side log =
     ap (λ (x : DriverState). x.progress.settings) here ∙ (entry-keeps (transport_view side log) m (state_of side log)).0 ∙ came-says side log in
     let control : s.dispatched.control ≡ peer_control side log =
     ap (λ (x : DriverState). x.dispatched.control) here ∙ (entry-keeps (transport_view side log) m (state_of side log)).1 ∙ control-says side log in
     let first : Agrees u s kept = record {
-      came = k.came ∙ sym came;
+      has_come = k.has_come ∙ sym has_come;
       read = λ x is. ap (λ (o : Option (ℕ × ℕ)). settings_read u o) control ∙ read-stays side log m (peer_control side log) x (k.read x is);
     } in
     let last : Agrees u (scan_state u s) (settings_scanned u s kept) = scanned-agrees u s kept first in
     record {
-      came = last.came ∙ ap (λ (x : DriverState). x.progress.settings) there ∙ came-says side (m ∷ log);
+      has_come = last.has_come ∙ ap (λ (x : DriverState). x.progress.settings) there ∙ came-says side (m ∷ log);
       read = λ x is. ap (λ (o : Option (ℕ × ℕ)). settings_read u o) (sym (ap (λ (y : DriverState). y.dispatched.control) there ∙ control-says side (m ∷ log))) ∙ last.read x is;
     }
 
@@ -293,11 +293,11 @@ scanned-keeps side log m s kept here there k =
 
 -- what is kept is the peer's SETTINGS
 pub kept-are : (side : Side) (log : Log) (kept : Option Settings) → KeepsSettings side log kept → kept ≡ peer_settings side log
-kept-are side log None k = ap (λ (b : Bool). if b then settings_read (transport_view side log) (peer_control side log) else None) k.came
+kept-are side log None k = ap (λ (b : Bool). if b then settings_read (transport_view side log) (peer_control side log) else None) k.has_come
 kept-are side log (Some s) k =
-    sym (k.read s refl) ∙ ap (λ (b : Bool). if b then settings_read (transport_view side log) (peer_control side log) else None) k.came
+    sym (k.read s refl) ∙ ap (λ (b : Bool). if b then settings_read (transport_view side log) (peer_control side log) else None) k.has_come
 
-due : (came given : Bool) (kept o : Option Settings) → is_some kept ≡ came → kept ≡ o → (if came && not given then kept else None) ≡ unless_given given o
+due : (has_come given : Bool) (kept o : Option Settings) → is_some kept ≡ has_come → kept ≡ o → (if has_come && not given then kept else None) ≡ unless_given given o
 due true true kept o n e = refl
 due true false kept o n e = e
 due false true kept o n e = refl
@@ -306,7 +306,7 @@ due false false (Some x) o n e = absurd cc
 
 pub due-settings-are : (side : Side) (log : Log) (d : DriverValue) → KeepsSettings side log d.settings → d.state.progress.settings ≡ settings_came side log
     → due_settings d ≡ unless_given d.has_given_settings (peer_settings side log)
-due-settings-are side log d k same = due d.state.progress.settings d.has_given_settings d.settings (peer_settings side log) (k.came ∙ sym same) (kept-are side log d.settings k)
+due-settings-are side log d k same = due d.state.progress.settings d.has_given_settings d.settings (peer_settings side log) (k.has_come ∙ sym same) (kept-are side log d.settings k)
 
 pub state-came : (side : Side) (log : Log) (s : DriverState) → s ≡ state_of side log → s.progress.settings ≡ settings_came side log
 state-came side log s is = ap (λ (x : DriverState). x.progress.settings) is ∙ came-says side log

@@ -38,13 +38,13 @@ slots-await side did half d table stage [] kinds f = tt
 slots-await side did half d table stage (k ∷ ks) kinds f = by (classified_of k table.classified) refl (slots-await side did half d table stage ks kinds.1 f)
   where
     first : (half : Half) (role : StreamRole) → role ≡ peer_role half → FirstSays role (did k) table.progress.ending (stage k) → (dequeued : Bool) → AllAwait half stage (slots d table ks)
-        → AllAwait half stage (record { id = k; place = cond dequeued Dequeued Arrived } ∷ slots d table ks)
+        → AllAwait half stage (record { id = k; phase = cond dequeued Dequeued Arrived } ∷ slots d table ks)
     first Uni role e f true rest = ((rw e at f).0, rest)
     first Uni role e f false rest = ((rw e at f).0, rest)
     first Bi role e f true rest = ((rw e at f).0, rest)
     first Bi role e f false rest = ((rw e at f).0, rest)
 
-    held : (b : Bool) → AllAwait half stage (slots d table ks) → AllAwait half stage (cond b [] (record { id = k; place = Held } ∷ []) ++ slots d table ks)
+    held : (b : Bool) → AllAwait half stage (slots d table ks) → AllAwait half stage (cond b [] (record { id = k; phase = Held } ∷ []) ++ slots d table ks)
     held true rest = rest
     held false rest = (tt, rest)
 
@@ -159,7 +159,7 @@ local-bi-role Server k e other =
 
 -- ---- reads
 
--- the application reads a stream from behind its header on, and what it read before
+-- the application reads a stream from the end of its header on, and what it read before
 pub read-staged : (side : Side) (log : Log) (stage : ℕ → Stage) (k : ℕ) → Fits side log → Uses side log → StagesFit side log stage → has_receiving_half side log k ≡ true
     → body_offset (stage k) ≡ Some (halves.body_start (verdict_of k (stream_table side log).classified) + total_read k (calls_of log))
 read-staged side log stage k fits uses f half =
@@ -241,10 +241,10 @@ module _ (side : Side) (log : Log) (stage : ℕ → Stage) (id : ℕ) (fits : Fi
   -- a response that is awaited can be read
   pub response-staged : awaits_response (stage id) ≡ true
   response-staged =
-      says-awaits (role_of side id) (call_use side log id) (stream_table side log).progress.ending (classified_of id (stream_table side log).classified) (stage id) a.role none (use-session id (calls_of log) ∙ a.unestablished) a.goes_on (f id)
+      says-awaits (role_of side id) (call_use side log id) (stream_table side log).progress.ending (classified_of id (stream_table side log).classified) (stage id) a.role none (use-session id (calls_of log) ∙ a.unestablished) a.still_going (f id)
 
   -- the stages fit once it is being read
   pub response-fits : StagesFit side log (with_stage stage id ResponseHead)
   response-fits =
       with-fits (StageFits side (call_use side log) (stream_table side log)) stage id ResponseHead (λ k e. f k)
-      (awaits-says (role_of side id) (call_use side log id) (stream_table side log).progress.ending (classified_of id (stream_table side log).classified) ResponseHead a.role none (use-session id (calls_of log) ∙ a.unestablished) a.goes_on refl)
+      (awaits-says (role_of side id) (call_use side log id) (stream_table side log).progress.ending (classified_of id (stream_table side log).classified) ResponseHead a.role none (use-session id (calls_of log) ∙ a.unestablished) a.still_going refl)

@@ -31,7 +31,7 @@ use Rattle.wt_turn.specs.Log.{Entry, Log, calls_of, is_open}
 use Rattle.wt_wire.specs.declared.side.Side.{Side}
 use Rattle.wt_wire.specs.declared.side.Side.TheVariants.{Client, Server}
 
--- What the checks behind the slots ask of the stages: the session's walk begins where it may, and that of the control stream.
+-- What the checks after the slots ask of the stages: the session's walk begins where it may, and that of the control stream.
 pub record ChecksAsk (t : TransportView) (s : DriverState) (stage : ℕ → Stage) : Type 0 where
   pub session : (id at : ℕ) → s.session ≡ Some (id, at) → (datagram_checked t s.datagrams s.progress).ending ≡ None → session_offset (stage id) ≡ Some at
   pub control : (id at : ℕ) → s.dispatched.control ≡ Some (id, at)
@@ -53,7 +53,7 @@ session-read Server role (Some c) done s ending stage own is at e f = by c.surpl
     by true _ g f = absurd cc
     by false _ g f = absurd cc
 
--- the control stream's walk begins behind its type
+-- the control stream's walk begins after its type
 control-read : (role : StreamRole) (o : Option Classified) (done : CallUse) (ending : Option Ending) (at : ℕ) (stage : Stage) → verdict_in o ≡ Some (verdicts.Control at) → StageSays role done ending o stage → control_offset stage ≡ Some at
 control-read role None done ending at stage e f = absurd cc
 control-read role (Some c) done ending at stage e f = let same : c.verdict ≡ verdicts.Control at = cc in subst (λ v. ClassifiedSays c.surplus v done ending stage) same f
@@ -84,11 +84,11 @@ module _ (t : TransportView) (d : CallView) (sent : ControlSent) (open_ : Bool) 
   abbrev begun : StreamTable
   begun = without_stops s
 
-  -- behind the unidirectional streams
+  -- after the unidirectional streams
   abbrev unis : StreamTable
   unis = scan_unis t d begun
 
-  -- behind the bidirectional ones
+  -- after the bidirectional ones
   abbrev bis : StreamTable
   bis = scan_bis t d unis
 
@@ -119,19 +119,19 @@ asked-where false side log m stage e un own once placed bounded f = absurd cc
 asked-where true side log m stage e un own once placed bounded f =
     table-asks (transport_view side (m ∷ log)) (call_view (m ∷ log)) (control_sent side (m ∷ log)) (is_open (m ∷ log)) (call_use side (m ∷ log)) (stream_table side log) un stage f own once (λ k. use-session k (calls_of (m ∷ log))) placed bounded
 
--- The scan of each moment finds what it asks, where the stages fit behind the entry.
+-- The scan of each moment finds what it asks, where the stages fit after the entry.
 pub scan-asked : (side : Side) (log : Log) (m : Entry) (stage : ℕ → Stage) → MayFollow side log m → MayUseBy side log m → Fits side log → Uses side log → (is_moment m && is_open (m ∷ log)) ≡ true
     → TableFits side (call_use side (m ∷ log)) (stream_table side log) stage → ScanAsks (transport_view side (m ∷ log)) (begin_scan (after_entry (transport_view side log) m (state_of side log))) stage
 unfolding state_of stream_table
-scan-asked side log m stage may can fits uses moment f =
+scan-asked side log m stage may can fits uses at_moment f =
     let same = taken-in side log m may (sound side log fits) in
     let bounded : Bounded (after_entry (transport_view side log) m (state_of side log)) = takes-bounded (transport_view side log) m (state_of side log) (log-bounded side log fits) in
     subst (λ (x : DriverState). ScanAsks (transport_view side (m ∷ log)) (begin_scan x) stage) same
-    (asked-where (is_moment m && is_open (m ∷ log)) side log m stage moment (untouched-entry side log m may (sound side log fits).untouched)
+    (asked-where (is_moment m && is_open (m ∷ log)) side log m stage at_moment (untouched-entry side log m may (sound side log fits).untouched)
     (is-own side (m ∷ log) (may, fits)) (sound side (m ∷ log) (may, fits)).once (λ x e. session-is side (m ∷ log) x (can, uses) e)
     (subst (λ (x : DriverState). Bounded (begin_scan x)) (sym same) (record { unis = bounded.unis; bis = bounded.bis })) f)
 
 -- It does, where the stages fit before the entry.
 pub entry-asked : (side : Side) (log : Log) (m : Entry) (stage : ℕ → Stage) → MayFollow side log m → MayUseBy side log m → Fits side log → Uses side log → (is_moment m && is_open (m ∷ log)) ≡ true
     → StagesFit side log stage → ScanAsks (transport_view side (m ∷ log)) (begin_scan (after_entry (transport_view side log) m (state_of side log))) (entry_stages side log m stage)
-entry-asked side log m stage may can fits uses moment f = scan-asked side log m (entry_stages side log m stage) may can fits uses moment (entry-fits side log stage m (is-own side log fits) can f)
+entry-asked side log m stage may can fits uses at_moment f = scan-asked side log m (entry_stages side log m stage) may can fits uses at_moment (entry-fits side log stage m (is-own side log fits) can f)

@@ -1,4 +1,4 @@
--- The checks behind the slots leave each stream at a stage that fits.
+-- The checks after the slots leave each stream at a stage that fits.
 use Rattle.std.proofs.Common.{◌≡◌, ℕ, Bool, true, false, List, [], ◌∷◌, drop, refl, sym, ap, subst, ◌∙◌}
 use Rattle.std.specs.Prelude.{Option, Some, None, ◌==◌, ◌&&◌, if◌then◌else◌}
 use Rattle.std.proofs.lemmas.Bool.{eq-eqb, eqb-true}
@@ -32,7 +32,7 @@ control-found k at (c ∷ cs) once e = by c.verdict refl e (control-found k at c
     later f false g = f
 
     here : (n : ℕ) → c.verdict ≡ verdicts.Control n → c.id ≡ k → n ≡ at → (if c.id == k then Some c.verdict else verdict_of k cs) ≡ Some (verdicts.Control at)
-    here n v same place = rw (eq-eqb c.id k same, v, place) refl
+    here n v same phase = rw (eq-eqb c.id k same, v, phase) refl
 
     by : (v : Verdict) → c.verdict ≡ v → or_later (offset_with_id c.id (control_start v)) (first_at control_start cs) ≡ Some (k, at) → (first_at control_start cs ≡ Some (k, at) → verdict_of k cs ≡ Some (verdicts.Control at))
         → (if c.id == k then Some c.verdict else verdict_of k cs) ≡ Some (verdicts.Control at)
@@ -97,12 +97,12 @@ module _ (side : Side) (did : ℕ → CallUse) (cs : List Classified) (t : Trans
     session-fits : (p : DriverProgress) (stage : ℕ → Stage) → p.ending ≡ None → FitAt p.ending stage → FitAt (check_session t session p).ending (session_stages t session stage)
     session-fits p stage runs f = by session refl
       where
-        here : (s : ℕ × ℕ) → session ≡ Some s → (over : Bool) → is_session_over t s ≡ over → StageSays (role_of side s.0) (did s.0) (check_session t (Some s) p).ending (classified_of s.0 cs) (session_stage over s.1)
-        here s e over is =
-            session-says side (role_of side s.0) (classified_of s.0 cs) (did s.0) s (check_session t (Some s) p).ending (session_stage over s.1)
-            (own-none side cs s.0 s.1 own (placed s e)) (kept s.0 ∙ e) (placed s e) (read over is)
+        here : (s : ℕ × ℕ) → session ≡ Some s → (ended : Bool) → is_session_over t s ≡ ended → StageSays (role_of side s.0) (did s.0) (check_session t (Some s) p).ending (classified_of s.0 cs) (session_stage ended s.1)
+        here s e ended is =
+            session-says side (role_of side s.0) (classified_of s.0 cs) (did s.0) s (check_session t (Some s) p).ending (session_stage ended s.1)
+            (own-none side cs s.0 s.1 own (placed s e)) (kept s.0 ∙ e) (placed s e) (read ended is)
           where
-            read : (over : Bool) → is_session_over t s ≡ over → (check_session t (Some s) p).ending ≡ None → session_offset (session_stage over s.1) ≡ Some s.1
+            read : (ended : Bool) → is_session_over t s ≡ ended → (check_session t (Some s) p).ending ≡ None → session_offset (session_stage ended s.1) ≡ Some s.1
             read false is g = refl
             read true is g = absurd (over-ends (session_walk_of (drop s.1 (t.contents s.0)) (t.end s.0)) (is_over (session_walk_of (drop s.1 (t.contents s.0)) ends.Running)) p is g)
 

@@ -84,10 +84,10 @@ dropped-says role before true ending o stage app says = by role o app
     by _ None e = absurd cc
 
 -- of a classified stream as much is said, whatever session there is
-any-session : (surplus : Bool) (v : Verdict) (before : CallUse) (session : Option (ℕ × ℕ)) (over : Bool) (ending : Option Ending) (stage : Stage) → ClassifiedSays surplus v before ending stage
-    → ClassifiedSays surplus v (record before { session = session; is_over = over }) ending stage
-any-session surplus (verdicts.WebTransport s at) before session over ending stage f = f
-any-session surplus _ before session over ending stage f = f
+any-session : (surplus : Bool) (v : Verdict) (before : CallUse) (session : Option (ℕ × ℕ)) (ended : Bool) (ending : Option Ending) (stage : Stage) → ClassifiedSays surplus v before ending stage
+    → ClassifiedSays surplus v (record before { session = session; is_over = ended }) ending stage
+any-session surplus (verdicts.WebTransport s at) before session ended ending stage f = f
+any-session surplus _ before session ended ending stage f = f
 
 -- it ends the handshake
 over-says : (role : StreamRole) (before : CallUse) (ending : Option Ending) (o : Option Classified) (stage : Stage) → StageSays role before ending o stage → StageSays role (record before { is_over = true }) ending o stage
@@ -122,7 +122,7 @@ request-id false false false true at e = absurd cc
 request-id false false false false at e = absurd cc
 
 module _ (log : Log) (table : StreamTable) (stage : ℕ → Stage) where
-  -- a session is established: a client reads the request's stream behind the response
+  -- a session is established: a client reads the request's stream after the response
   pub client-established : (id at : ℕ) → id ≡ 0 → ((k : ℕ) → (id == k) ≡ false → StageFits Client (call_use Client log) table k (stage k)) → session_offset (stage id) ≡ Some at → classified_of id table.classified ≡ None
       → TableFits Client (call_use Client (Called (SessionEstablished id at) ∷ log)) table stage
   client-established id at zero-id f read none k = by (id == k) refl

@@ -50,11 +50,11 @@ module _ (t : TransportView) (d : CallView) (sent : ControlSent) (open_ : Bool) 
   abbrev pub begun : StreamTable
   begun = without_stops s
 
-  -- behind the unidirectional streams
+  -- after the unidirectional streams
   abbrev pub unis : StreamTable
   unis = scan_unis t d begun
 
-  -- behind the bidirectional ones
+  -- after the bidirectional ones
   abbrev pub bis : StreamTable
   bis = scan_bis t d unis
 
@@ -127,7 +127,7 @@ pub same-stages : (side : Side) (log : Log) (m : Entry) (stage : ℕ → Stage) 
 unfolding state_of
 same-stages side log m stage may s = λ i. apply_if (is_moment m && open-more m log i) (scanned_stages (transport_view side (m ∷ log)) (taken-in side log m may s i)) stage
 
--- where the stages fit behind the entry, they do behind its scan
+-- where the stages fit after the entry, they do after its scan
 pub scan-staged : (side : Side) (log : Log) (m : Entry) (stage : ℕ → Stage) → MayFollow side log m → MayUseBy side log m → Fits side log → Uses side log → TableFits side (call_use side (m ∷ log)) (stream_table side log) stage
     → StagesFit side (m ∷ log) (apply_if (scans m (after_entry (transport_view side log) m (state_of side log))) (scanned_stages (transport_view side (m ∷ log)) (after_entry (transport_view side log) m (state_of side log))) stage)
 unfolding stream_table
@@ -172,7 +172,7 @@ pub moment-staged : (side : Side) (log : Log) (m : Entry) (stage : ℕ → Stage
 moment-staged side log m stage may can fits uses f =
     flush-staged side log m (moment_stages log (transport_view side log) (transport_view side (m ∷ log)) m (state_of side log) stage) (entry-staged side log m stage may can fits uses f)
 
--- ---- what may follow, behind a moment
+-- ---- what may follow, after a moment
 
 pub actions-use : (side : Side) (acts : List Action) (log : Log) → Uses side log → Uses side (with_actions acts log)
 actions-use side [] log uses = uses

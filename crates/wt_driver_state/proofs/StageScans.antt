@@ -9,7 +9,7 @@ use Rattle.wt_driver_spec.specs.Uses.{CallUse, ForRequest, OfLocalUni, StreamRol
 use Rattle.wt_dispatch.specs.declared.slot.Half.{Half}
 use Rattle.wt_dispatch.specs.declared.slot.Half.TheVariants.{Bi, Uni}
 use Rattle.wt_driver_spec.proofs.ScanSlots.{ArePeers, IsDistinct, Same, Untouched, apart, has-here, known, scan-same, scan-slots, slots-same, untouched-later, visit-later}
-use Rattle.wt_driver_spec.specs.DriverState.{Arrived, Dequeued, Held, Slot, SlotPlace, slot_by, slots}
+use Rattle.wt_driver_spec.specs.DriverState.{Arrived, Dequeued, Held, Slot, SlotPhase, slot_by, slots}
 use Rattle.wt_driver_spec.specs.Step.{Known, Scanned, dequeue_slot, known_after, scan_slots, visit_slot}
 use Rattle.wt_inbox.specs.Stage.{Body, GivenUp, Stage, control_offset, stage_from, with_stage}
 use Rattle.wt_proto.specs.Uni.{is_final}
@@ -70,12 +70,12 @@ once-plain (Some x) = refl
 at-body : (surplus : Bool) (at : ℕ) → surplus ≡ false → unless_given_up (surplus || false) (Body at) ≡ Body at
 at-body surplus at e = rw e refl
 
--- a request is read on behind it, unless it is surplus
+-- a request is read on after it, unless it is surplus
 at-request : (surplus : Bool) (at : ℕ) (ending : Option Ending) → RequestSays surplus at ending (unless_given_up (surplus || false) (Body at))
 at-request false at ending = λ _. refl
 at-request true at ending = refl
 
--- a stream of a session is read from behind its header on
+-- a stream of a session is read from the end of its header on
 at-session : (done : CallUse) (at : ℕ) → done.read ≡ 0 → done.is_dropped ≡ false → BodySays done at (Body at)
 at-session done at none kept = up-to done.is_dropped (at + done.read) (Body at) kept (ap (λ (n : ℕ). Some n) (sym (add-zero at)) ∙ ap (λ (n : ℕ). Some (at + n)) (sym none))
 
@@ -111,7 +111,7 @@ header-says : (half : Half) (role : StreamRole) (done : CallUse) (ending : Optio
 header-says Uni role done ending e f g = rw e (refl, f, g)
 header-says Bi role done ending e f g = rw e (refl, f, g)
 
--- what is said of a stage is said behind an ending too
+-- what is said of a stage is said after an ending too
 pub weaker-says : (role : StreamRole) (done : CallUse) (ending later : Option Ending) (o : Option Classified) (stage : Stage) → (later ≡ None → ending ≡ None) → StageSays role done ending o stage → StageSays role done later o stage
 weaker-says role done ending later (Some c) stage runs f = by c.verdict f
   where
@@ -124,8 +124,8 @@ weaker-says role done ending later (Some c) stage runs f = by c.verdict f
     by _ f = f
 weaker-says ForRequest done ending later None stage runs f = by done.session done.is_over f
   where
-    by : (s : Option (ℕ × ℕ)) (over : Bool) → ResponseSays s over ending stage → ResponseSays s over later stage
-    by (Some s) over f = λ g. f (runs g)
+    by : (s : Option (ℕ × ℕ)) (ended : Bool) → ResponseSays s ended ending stage → ResponseSays s ended later stage
+    by (Some s) ended f = λ g. f (runs g)
     by None true f = tt
     by None false f = f
 weaker-says OfLocalUni done ending later None stage runs f = tt
@@ -145,7 +145,7 @@ module _ (side : Side) (did : ℕ → CallUse) (ready : Bool) (half : Half) (t :
 
   stages-cons : (n : ℕ) (l : Slot) (ls : List Slot) (c : Known) (stages : ℕ → Stage) → c.progress.ending ≡ None
       → scan_stages ready half rule n (l ∷ ls) c stages
-      ≡ stages_on (λ m later s. scan_stages ready half rule m ls later s) (visit_slot ready rule l.place l n c) (with_stage stages l.id (visit_stage ready half rule l.place l.id n c (stages l.id)))
+      ≡ stages_on (λ m later s. scan_stages ready half rule m ls later s) (visit_slot ready rule l.phase l n c) (with_stage stages l.id (visit_stage ready half rule l.phase l.id n c (stages l.id)))
   stages-cons n l ls c stages e = rw e refl
 
   stages-ended : (n : ℕ) (ls : List Slot) (c : Known) (stages : ℕ → Stage) (e : Ending) → c.progress.ending ≡ Some e → scan_stages ready half rule n ls c stages ≡ stages
@@ -186,8 +186,8 @@ module _ (side : Side) (did : ℕ → CallUse) (ready : Bool) (half : Half) (t :
       abbrev found : Classified
       found = record { id = k; verdict = rule.verdict k; surplus = leads.surplus }
 
-      settled : TableFits side did (with_classified k (rule.verdict k) leads (with_dequeued k p.table)) (with_stage stage k (classified_stage leads.surplus (rule.verdict k)))
-      settled =
+      classified-fits : TableFits side did (with_classified k (rule.verdict k) leads (with_dequeued k p.table)) (with_stage stage k (classified_stage leads.surplus (rule.verdict k)))
+      classified-fits =
           with-fits (StageFits side did (with_classified k (rule.verdict k) leads (with_dequeued k p.table))) stage k (classified_stage leads.surplus (rule.verdict k))
           (λ j e. rw (added-other found j p.table.classified e) (weaker-says (role_of side j) (did j) p.table.progress.ending (fault_ending leads.fault) (classified_of j p.table.classified) (stage j) (λ g. runs) (f j)))
           (rw (added-here found p.table.classified no-classified) (newly half t (dispatched_streams d p.table.classified) k (rule.verdict k) (did k) (fault_ending leads.fault) untouched.1 untouched.2))
@@ -205,33 +205,33 @@ module _ (side : Side) (did : ℕ → CallUse) (ready : Bool) (half : Half) (t :
           after : known d (scan ready d rule (k ∷ []) alone).table ≡ known d (with_classified k (rule.verdict k) leads (with_dequeued k p.table))
           after = rw (runs, none, has-here k [], final) refl
 
-      classified-on : (b : Bool) → is_final (rule.verdict k) ≡ b → (place : SlotPlace) → visit_slot ready rule place (record { id = k; place = place }) p.occupied (known d p.table) ≡ dequeue_slot true rule (record { id = k; place = place }) p.occupied (known d p.table)
-          → visit_stage ready half rule place k p.occupied (known d p.table) (stage k) ≡ dequeue_stage true half rule k (known d p.table) (stage k)
-          → Stepped p (classify b d rule k (record p { table = with_dequeued k p.table })) (record { id = k; place = place } ∷ []) ls stage
-      classified-on false final place visits stages = record {
+      classified-on : (b : Bool) → is_final (rule.verdict k) ≡ b → (phase : SlotPhase) → visit_slot ready rule phase (record { id = k; phase = phase }) p.occupied (known d p.table) ≡ dequeue_slot true rule (record { id = k; phase = phase }) p.occupied (known d p.table)
+          → visit_stage ready half rule phase k p.occupied (known d p.table) (stage k) ≡ dequeue_stage true half rule k (known d p.table) (stage k)
+          → Stepped p (classify b d rule k (record p { table = with_dequeued k p.table })) (record { id = k; phase = phase } ∷ []) ls stage
+      classified-on false final phase visits stages = record {
         new = with_stage stage k (header_stage half);
         fits = header;
-        on = stages-cons p.occupied (record { id = k; place = place }) ls (known d p.table) stage runs ∙ rw (visits, stages, final) refl;
+        on = stages-cons p.occupied (record { id = k; phase = phase }) ls (known d p.table) stage runs ∙ rw (visits, stages, final) refl;
       }
-      classified-on true final place visits stages = record {
+      classified-on true final phase visits stages = record {
         new = with_stage stage k (classified_stage leads.surplus (rule.verdict k));
-        fits = settled;
+        fits = classified-fits;
         on =
-            stages-cons p.occupied (record { id = k; place = place }) ls (known d p.table) stage runs
+            stages-cons p.occupied (record { id = k; phase = phase }) ls (known d p.table) stage runs
             ∙ rw (visits, stages, final, un.released k peers none, added-known final) refl;
       }
 
-      none-step : (b : Bool) → has k p.table.dequeued ≡ b → Stepped p (dequeue (b || (ready && nat_lt p.occupied rule.slots)) d rule k p) (record { id = k; place = cond b Dequeued Arrived } ∷ []) ls stage
+      none-step : (b : Bool) → has k p.table.dequeued ≡ b → Stepped p (dequeue (b || (ready && nat_lt p.occupied rule.slots)) d rule k p) (record { id = k; phase = cond b Dequeued Arrived } ∷ []) ls stage
       none-step true e = classified-on (is_final (rule.verdict k)) refl Dequeued refl refl
       none-step false e = by (ready && nat_lt p.occupied rule.slots) refl
         where
-          by : (b : Bool) → (ready && nat_lt p.occupied rule.slots) ≡ b → Stepped p (dequeue b d rule k p) (record { id = k; place = Arrived } ∷ []) ls stage
+          by : (b : Bool) → (ready && nat_lt p.occupied rule.slots) ≡ b → Stepped p (dequeue b d rule k p) (record { id = k; phase = Arrived } ∷ []) ls stage
           by true g = classified-on (is_final (rule.verdict k)) refl Arrived (rw g refl) (rw g refl)
-          by false g = record { new = with_stage stage k (stage k); fits = unchanged; on = stages-cons p.occupied (record { id = k; place = Arrived }) ls (known d p.table) stage runs ∙ rw g refl }
+          by false g = record { new = with_stage stage k (stage k); fits = unchanged; on = stages-cons p.occupied (record { id = k; phase = Arrived }) ls (known d p.table) stage runs ∙ rw g refl }
 
-    some-step : (v : Verdict) (b : Bool) → is_released (d.released k) v ≡ b → Stepped p (record p { occupied = occupied b p.occupied }) (cond b [] (record { id = k; place = Held } ∷ [])) ls stage
+    some-step : (v : Verdict) (b : Bool) → is_released (d.released k) v ≡ b → Stepped p (record p { occupied = occupied b p.occupied }) (cond b [] (record { id = k; phase = Held } ∷ [])) ls stage
     some-step v true e = record { new = stage; fits = f; on = refl }
-    some-step v false e = record { new = with_stage stage k (stage k); fits = unchanged; on = stages-cons p.occupied (record { id = k; place = Held }) ls (known d p.table) stage runs }
+    some-step v false e = record { new = with_stage stage k (stage k); fits = unchanged; on = stages-cons p.occupied (record { id = k; phase = Held }) ls (known d p.table) stage runs }
 
     step : (o : Option Verdict) → verdict_of k p.table.classified ≡ o → Stepped p (visit ready d rule k o p) (slot_by k (d.released k) (has k p.table.dequeued) o) ls stage
     step None e = none-step e (has k p.table.dequeued) refl

@@ -132,8 +132,8 @@ receive-uses side session zero log uses = called-uses side log [] Polled uses tt
 receive-uses side session (suc n) log uses = by (next_datagram side log) refl (λ later. receive-uses side session n later)
   where
     one : (b : Bool) (payload : List ℕ) → settled_datagrams (calls_of log) < length (datagrams_of (events_of log)) → ((later : Log) → Uses side later → LeadsUses side (receive_first n side session later)) → LeadsUses side (receive_or_pass b side (λ later. receive_first n side session later) log payload)
-    one true payload came again = called-uses side (log_call side log [] DatagramReceived) [] Polled (moment-uses side log (Called DatagramReceived) came uses) tt
-    one false payload came again = again (log_call side log [] DatagramPassed) (moment-uses side log (Called DatagramPassed) came uses)
+    one true payload has_come again = called-uses side (log_call side log [] DatagramReceived) [] Polled (moment-uses side log (Called DatagramReceived) has_come uses) tt
+    one false payload has_come again = again (log_call side log [] DatagramPassed) (moment-uses side log (Called DatagramPassed) has_come uses)
 
     by : (o : Option (ℕ × List ℕ)) → next_datagram side log ≡ o → ((later : Log) → Uses side later → LeadsUses side (receive_first n side session later)) → LeadsUses side (receive_next side (λ later. receive_first n side session later) session log o)
     by None e again = called-uses side log [] Polled uses tt
@@ -319,7 +319,7 @@ module _ (log : Log) (fits : Fits Client log) (uses : Uses Client log) where
   response-uses : (own : List Action) (w : ResponseWalk) → RequestOpened Client (with_actions own log) → LeadsUses Client (read_response Client log 0 own w)
   response-uses own (responses.Fault code) o = failed-uses Client log fits uses (own ++ close_when_open log (code_of code)) _
   response-uses own responses.Ended o = failed-uses Client log fits uses (own ++ close_when_open log 0) _
-  response-uses own responses.Waiting o = either Client (is_open log) _ _ (polls Client log fits uses own _) (failed-uses Client log fits uses own _)
+  response-uses own responses.Incomplete o = either Client (is_open log) _ _ (polls Client log fits uses own _) (failed-uses Client log fits uses own _)
   response-uses own (responses.Response fields at) o =
       either Client (not (has_success fields)) _ _ (failed-uses Client log fits uses (own ++ close_when_open log 0) _)
       (either Client (is_open log) _ _ (establish-uses Client log fits uses own 0 at (refl, o)) (failed-uses Client log fits uses own _))

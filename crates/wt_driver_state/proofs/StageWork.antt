@@ -28,7 +28,7 @@ use Rattle.wt_turn.specs.Log.{Called, Datagram, DatagramPassed, DatagramReceived
 use Rattle.wt_turn.specs.declared.action.Action.{Action}
 use Rattle.wt_wire.specs.declared.side.Side.{Side}
 
--- the first of what is left behind so many
+-- the first of what is left after so many
 pub slice-front : (xs : List (List ℕ)) (n : ℕ) → slice_get xs n ≡ front_of (drop n xs)
 slice-front [] zero = refl
 slice-front [] (suc n) = refl
@@ -48,13 +48,13 @@ more-came _ n xs le = le
 
 pub settled-came : (side : Side) (log : Log) → Uses side log → settled_datagrams (calls_of log) ≤ length (datagrams_of (events_of log))
 settled-came side [] uses = omega arith
-settled-came side (Called DatagramReceived ∷ log) uses = let came = uses.0 in omega arith
-settled-came side (Called DatagramPassed ∷ log) uses = let came = uses.0 in omega arith
+settled-came side (Called DatagramReceived ∷ log) uses = let has_come = uses.0 in omega arith
+settled-came side (Called DatagramPassed ∷ log) uses = let has_come = uses.0 in omega arith
 settled-came side (Called _ ∷ log) uses = settled-came side log uses.1
 settled-came side (Reported e ∷ log) uses = more-came e (settled_datagrams (calls_of log)) (datagrams_of (events_of log)) (settled-came side log uses.1)
 settled-came side (_ ∷ log) uses = settled-came side log uses.1
 
--- one more waits behind the others
+-- one more waits after the others
 pub datagram-waits : (side : Side) (log : Log) (piece : List ℕ) → Uses side log → unsettled_datagrams (Reported (Datagram piece) ∷ log) ≡ unsettled_datagrams log ++ piece ∷ []
 datagram-waits side log piece uses = drop-append-le (settled_datagrams (calls_of log)) (datagrams_of (events_of log)) (piece ∷ []) (settled-came side log uses)
 
@@ -83,17 +83,17 @@ module _ (side : Side) (log : Log) (m : Entry) (stage : ℕ → Stage) (may : Ma
   u = transport_view side (m ∷ log)
 
   -- so many datagrams are settled
-  settled : d.state.datagrams ≡ settled_datagrams (calls_of (m ∷ log))
+  datagrams-are : d.state.datagrams ≡ settled_datagrams (calls_of (m ∷ log))
   unfolding state_of
-  settled = ap (λ (s : DriverState). s.datagrams) (here ∙ sym (taken-in side log m may (sound side log fits)))
+  datagrams-are = ap (λ (s : DriverState). s.datagrams) (here ∙ sym (taken-in side log m may (sound side log fits)))
 
   -- the datagram that is due waits in front
   pub work-datagram : HasDatagram side (m ∷ log) d
-  work-datagram = ap u.datagram settled ∙ slice-front (datagrams_of (events_of (m ∷ log))) (settled_datagrams (calls_of (m ∷ log))) ∙ ap (λ (xs : List (List ℕ)). front_of xs) (sym waits)
+  work-datagram = ap u.datagram datagrams-are ∙ slice-front (datagrams_of (events_of (m ∷ log))) (settled_datagrams (calls_of (m ∷ log))) ∙ ap (λ (xs : List (List ℕ)). front_of xs) (sym waits)
 
   -- the scan finds what it asks
   pub work-asks : (is_moment m && is_open (m ∷ log)) ≡ true → ScanAsks u (begin_scan d.state) stage
-  work-asks moment = subst (λ (s : DriverState). ScanAsks u (begin_scan s) stage) (sym here) (scan-asked side log m stage may can fits uses moment f)
+  work-asks at_moment = subst (λ (s : DriverState). ScanAsks u (begin_scan s) stage) (sym here) (scan-asked side log m stage may can fits uses at_moment f)
 
   counts : scans m d.state ≡ (is_moment m && is_open (m ∷ log))
   unfolding state_of
@@ -129,13 +129,13 @@ module _ (side : Side) (log : Log) (m : Entry) (stage : ℕ → Stage) (may : Ma
       → inboxes.Refines side last.inbox (with_actions (step_actions u scanned.state) (m ∷ log)) (scanned_stages u d.state stage) later → last.state ≡ state_after_flush u scanned.state → last.queue ≡ scanned.queue → last.settings ≡ scanned.settings → KeepsSettings side log d.settings
       → Refines side last (log_and_flush side log m) later
   unfolding flush
-  work-refines scanned last untaken later moment moved r state queue settings k =
-      let same : scanned.state ≡ state_of side (m ∷ log) = moved.state_is ∙ sym (state-so ∙ ap (λ b. apply_if b (scan_state u) d.state) moment) in
+  work-refines scanned last untaken later at_moment moved r state queue settings k =
+      let same : scanned.state ≡ state_of side (m ∷ log) = moved.state_is ∙ sym (state-so ∙ ap (λ b. apply_if b (scan_state u) d.state) at_moment) in
       let out : step_actions u scanned.state ≡ pending_actions side (m ∷ log) = ap (step_actions u) same ∙ sym (scanned-out side (m ∷ log)) in
-      rw moment (record {
+      rw at_moment (record {
         stage = scanned_stages u d.state stage;
         inbox = subst (λ (acts : List Action). inboxes.Refines side last.inbox (with_actions acts (m ∷ log)) (scanned_stages u d.state stage) later) out r;
-        staged = actions-staged side (pending_actions side (m ∷ log)) (m ∷ log) (scanned_stages u d.state stage) (rw moment at staged-so);
+        staged = actions-staged side (pending_actions side (m ∷ log)) (m ∷ log) (scanned_stages u d.state stage) (rw at_moment at staged-so);
         state_is = state ∙ ap (state_after_flush u) same ∙ sym (sent_at_once u (state_of side (m ∷ log))) ∙ sym (flushed-state side (m ∷ log));
         queue_is = queue ∙ moved.queue ∙ waits ∙ sym (unsettled-with (pending_actions side (m ∷ log)) (m ∷ log));
         settings =

@@ -54,16 +54,16 @@ event-sends side log e f = record {
   session = λ s is. sends-on side e log s.0 (f.session s is);
 }
 
--- ---- what waits behind an event
+-- ---- what waits after an event
 
 event-waits : (side : Side) (log : Log) (e : Event) → Uses side log → unsettled_datagrams (Reported e ∷ log) ≡ with_datagram e (unsettled_datagrams log)
 event-waits side log (Datagram piece) uses = datagram-waits side log piece uses
 event-waits side log _ uses = refl
 
 -- the connection stands as the log says
-stands : (side : Side) (log : Log) (m : Entry) (x : InboxState) (stage : ℕ → Stage) (untaken : List Action) → inboxes.Refines side x (m ∷ log) stage untaken
+open-after : (side : Side) (log : Log) (m : Entry) (x : InboxState) (stage : ℕ → Stage) (untaken : List Action) → inboxes.Refines side x (m ∷ log) stage untaken
     → x.transport.is_open ≡ (not (ends_by m) && (state_of side log).is_open)
-stands side log m x stage untaken r = open-is side (m ∷ log) untaken x stage r ∙ open-more m log ∙ ap (λ b. not (ends_by m) && b) (open-says side log)
+open-after side log m x stage untaken r = open-is side (m ∷ log) untaken x stage r ∙ open-more m log ∙ ap (λ b. not (ends_by m) && b) (open-says side log)
 
 module _ (side : Side) (log : Log) (taken : ℕ) (d : DriverValue) (f : Follows side d log taken) where
   -- an event was taken in
@@ -73,11 +73,11 @@ module _ (side : Side) (log : Log) (taken : ℕ) (d : DriverValue) (f : Follows 
     stage = f.refines.stage;
     inbox = r;
     fit = f.refines.staged;
-    state_is = s ∙ (λ i. record (with_arrival (transport_view side log) e (f.refines.state_is i)) { is_open = stands side log (Reported e) new.inbox f.refines.stage (untaken_since taken log) r i });
+    state_is = s ∙ (λ i. record (with_arrival (transport_view side log) e (f.refines.state_is i)) { is_open = open-after side log (Reported e) new.inbox f.refines.stage (untaken_since taken log) r i });
     queue_is = q ∙ ap (with_datagram e) f.refines.queue_is ∙ sym (event-waits side log e f.refines.uses);
     settings = subst (KeepsSettings side log) (sym k) f.refines.settings;
     within = f.within;
-    moment = refl;
+    at_moment = refl;
     may = tt;
     can = tt;
     fits = f.refines.fits;
@@ -95,7 +95,7 @@ module _ (side : Side) (log : Log) (taken : ℕ) (d : DriverValue) (f : Follows 
       stage = f.refines.stage;
       inbox = r;
       staged = late-staged side log e f.refines.stage f.refines.staged;
-      state_is = s ∙ (λ i. record (f.refines.state_is i) { is_open = stands side log (ReportedLate e) new.inbox f.refines.stage (untaken_since taken log) r i }) ∙ sym (late-followed side log e f.refines.fits);
+      state_is = s ∙ (λ i. record (f.refines.state_is i) { is_open = open-after side log (ReportedLate e) new.inbox f.refines.stage (untaken_since taken log) r i }) ∙ sym (late-followed side log e f.refines.fits);
       queue_is = q ∙ f.refines.queue_is;
       settings = idle-keeps side log (ReportedLate e) new.settings refl (subst (KeepsSettings side log) (sym k) f.refines.settings);
       fits = (tt, f.refines.fits);
@@ -119,11 +119,11 @@ module _ (side : Side) (log : Log) (taken : ℕ) (d : DriverValue) (f : Follows 
     stage = f.refines.stage;
     inbox = r;
     fit = f.refines.staged;
-    state_is = s ∙ (λ i. record (f.refines.state_is i) { is_open = stands side log (Received id byte) new.inbox f.refines.stage (untaken_since taken log) r i });
+    state_is = s ∙ (λ i. record (f.refines.state_is i) { is_open = open-after side log (Received id byte) new.inbox f.refines.stage (untaken_since taken log) r i });
     queue_is = q ∙ f.refines.queue_is;
     settings = subst (KeepsSettings side log) (sym k) f.refines.settings;
     within = f.within;
-    moment = refl;
+    at_moment = refl;
     may = tt;
     can = tt;
     fits = f.refines.fits;
@@ -217,21 +217,21 @@ after-event-turn side log _ e is = ap (λ (x : Event). flush side (event_entry (
 -- an event's moment, by whether the connection is open
 pub event-follows : (side : Side) (log : Log) (taken : ℕ) (turn : Turn) (e : Event) (d new : DriverValue) (r : Result (Unit {0}) OutOfMemory) → event_of turn ≡ Some e → EventTaken side log e d taken
     → ((m : Entry) → TakenIn side log m d taken → OnOk r (Follows side new (log_and_flush side log m) taken)) → OnOk r (d.state.is_open ≡ false → new ≡ d) → OnOk r (Follows side new (log_after side log turn) taken)
-event-follows side log taken turn e d new r is t work same = subst (λ (l : Log). OnOk r (Follows side new l taken)) (sym (after-event-turn side log turn e is)) (by (is_open log) refl)
+event-follows side log taken turn e d new r is t flushed same = subst (λ (l : Log). OnOk r (Follows side new l taken)) (sym (after-event-turn side log turn e is)) (by (is_open log) refl)
   where
     by : (o : Bool) → is_open log ≡ o → OnOk r (Follows side new (flush side (event_entry o e ∷ log)) taken)
-    by true o = work (Reported e) (t.counted o)
+    by true o = flushed (Reported e) (t.count_is o)
     by false o = on_ok_weaker r (λ (g : d.state.is_open ≡ false → new ≡ d). subst (λ (v : DriverValue). Follows side v (log_and_flush side log (ReportedLate e)) taken) (sym (g (t.ended o))) (t.late o)) same
 
 -- a byte's moment
 pub byte-follows : (side : Side) (log : Log) (taken : ℕ) (d : DriverValue) (f : Follows side d log taken) (id byte : ℕ) (mid new : DriverValue) (r : Result (Unit {0}) OutOfMemory)
     → inboxes.Refines side mid.inbox (log_turn log (turns.Bytes id (byte ∷ []))) f.refines.stage (untaken_since taken log) → mid.state ≡ record d.state { is_open = mid.inbox.transport.is_open } → mid.queue ≡ d.queue → mid.settings ≡ d.settings
     → ((m : Entry) → TakenIn side log m mid taken → OnOk r (Follows side new (log_and_flush side log m) taken)) → OnOk r (mid.state.is_open ≡ false → new ≡ mid) → OnOk r (Follows side new (receive side log id (byte ∷ [])) taken)
-byte-follows side log taken d f id byte mid new r x s q k work same = by (is_open log) refl x
+byte-follows side log taken d f id byte mid new r x s q k flushed same = by (is_open log) refl x
   where
     by : (o : Bool) → is_open log ≡ o → inboxes.Refines side mid.inbox (log_bytes_if o log id (byte ∷ [])) f.refines.stage (untaken_since taken log)
         → OnOk r (Follows side new (if o then log_and_flush side log (Received id byte) else log) taken)
-    by true o y = work (Received id byte) (byte-taken side log taken d f id byte mid o y s q k)
+    by true o y = flushed (Received id byte) (byte-taken side log taken d f id byte mid o y s q k)
     by false o y =
         on_ok_weaker r
         (λ (g : mid.state.is_open ≡ false → new ≡ mid).
@@ -250,7 +250,7 @@ pub event-noted : (side : Side) (log : Log) (taken : ℕ) (d : DriverValue) (f :
     → (is_open log ≡ true → mid ≡ after_arrival (transport_view side log) (event_of turn) d) → (d.state.is_open ≡ false → mid ≡ d)
     → inboxes.Refines side new.inbox (log_turn log turn) f.refines.stage (untaken_since taken log) → new.state ≡ record mid.state { is_open = new.inbox.transport.is_open } → new.queue ≡ mid.queue → new.settings ≡ mid.settings → EventTaken side log e new taken
 event-noted side log taken d f turn e mid new is here shut r s q k = record {
-  counted = λ o.
+  count_is = λ o.
       let m : mid ≡ after_arrival (transport_view side log) (Some e) d = here o ∙ ap (λ (x : Option Event). after_arrival (transport_view side log) x d) is in
       event-taken side log taken d f e new o (entered true o)
       (s ∙ (λ i. record (m i).state { is_open = new.inbox.transport.is_open }))
@@ -298,9 +298,9 @@ module _ (side : Side) (log : Log) (stage : ℕ → Stage) (untaken : List Actio
 -- a piece is its bytes
 pub piece-follows : (side : Side) (log : Log) (taken : ℕ) (d : DriverValue) → Follows side d log taken → (turn : Turn) (id : ℕ) (piece : List ℕ) (new : DriverValue) (r : Result (Unit {0}) OutOfMemory) → turn ≡ turns.Bytes id piece
     → IsTrue (fits_now d.inbox.transport turn) → (fits side log (turns.Bytes id piece) ≡ true → OnOk r (Follows side new (receive side log id piece) taken)) → OnOk r (Follows side new (log_after side log turn) taken)
-piece-follows side log taken d f turn id piece new r is may work =
+piece-follows side log taken d f turn id piece new r is may flushed =
     subst (λ (t : Turn). OnOk r (Follows side new (log_after side log t) taken)) (sym is)
-    (work
+    (flushed
     (ap (fits side log) (sym is)
     ∙ sym (refined_fits side d.inbox.transport log f.refines.inbox.position (untaken_since taken log) f.refines.inbox.transport turn)
     ∙ may))
@@ -308,12 +308,12 @@ piece-follows side log taken d f turn id piece new r is may work =
 -- any other turn but a call is an event
 pub turn-follows : (side : Side) (log : Log) (taken : ℕ) (d : DriverValue) (turn : Turn) (new : DriverValue) (r : Result (Unit {0}) OutOfMemory) → is_call turn ≡ false
     → ((id : ℕ) (piece : List ℕ) → turn ≡ turns.Bytes id piece → ⊥) → ((e : Event) → event_of turn ≡ Some e → OnOk r (Follows side new (log_after side log turn) taken)) → OnOk r (Follows side new (log_after side log turn) taken)
-turn-follows side log taken d turn new r no-call no-bytes work = by (event_of turn) refl
+turn-follows side log taken d turn new r no-call no-bytes flushed = by (event_of turn) refl
   where
     none : (t : Turn) → is_call t ≡ false → ((id : ℕ) (piece : List ℕ) → t ≡ turns.Bytes id piece → ⊥) → event_of t ≡ None → ⊥
     none (turns.Bytes id piece) a b e = b id piece refl
     none _ a b e = cc
 
     by : (x : Option Event) → event_of turn ≡ x → OnOk r (Follows side new (log_after side log turn) taken)
-    by (Some e) is = work e is
+    by (Some e) is = flushed e is
     by None is = absurd (none turn no-call no-bytes is)

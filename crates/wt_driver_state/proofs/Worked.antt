@@ -1,4 +1,4 @@
--- The work of a moment, from its parts: the log that the driver follows behind it.
+-- The work of a moment, from its parts: the log that the driver follows after it.
 use Rattle.std.proofs.Common.{arith, ◌≡◌, ◌≤◌, ◌-◌, ℕ, suc, Bool, true, false, List, [], ◌∷◌, ◌++◌, length, take, drop, refl, sym, ap, subst, ◌∙◌}
 use Rattle.std.specs.Prelude.{◌&&◌, ◌||◌, Option, Some, None, not}
 use Rattle.wt_flush.proofs.Flushed.{send-later}
@@ -50,7 +50,7 @@ pub within-with : (taken : ℕ) (acts : List Action) (log : Log) → taken ≤ l
 within-with taken [] log le = le
 within-with taken (a ∷ later) log le = within-with taken later (Sent a ∷ log) (within-sent taken a log le)
 
--- all that goes out behind it wasn't
+-- all that goes out after it wasn't
 pub untaken-with : (taken : ℕ) (acts : List Action) (log : Log) → taken ≤ length (actions_of log) → untaken_since taken (with_actions acts log) ≡ newest_first acts (untaken_since taken log)
 untaken-with taken [] log le = refl
 untaken-with taken (a ∷ later) log le =
@@ -112,7 +112,7 @@ sends-with side (a ∷ later) log s f =
 -- what goes out at a moment leaves it so
 pub sends-flush : (side : Side) (log : Log) (m : Entry) → is_moment m ≡ true → SendsWhileOpen side (m ∷ log) → SendsWhileOpen side (log_and_flush side log m)
 unfolding flush
-sends-flush side log m moment sends o = by (still-open side log m moment o)
+sends-flush side log m at_moment sends o = by (still-open side log m at_moment o)
   where
     opened : (a b : Bool) → (a && b) ≡ true → b ≡ true
     opened true b e = e
@@ -131,7 +131,7 @@ module _ (side : Side) (log : Log) (m : Entry) (taken : ℕ) (d : DriverValue) (
   acts = pending_actions side (m ∷ log)
 
   counts : (b : Bool) → is_open (m ∷ log) ≡ b → (is_moment m && is_open (m ∷ log)) ≡ b
-  counts b o = (λ i. in_.moment i && o i)
+  counts b o = (λ i. in_.at_moment i && o i)
 
   -- nothing is done once the connection is closed
   pub idle-follows : is_open (m ∷ log) ≡ false → Follows side d (log_and_flush side log m) taken
@@ -142,8 +142,8 @@ module _ (side : Side) (log : Log) (m : Entry) (taken : ℕ) (d : DriverValue) (
       record {
         refines = rw idle (rw idle at refined);
         within = rw idle in_.within;
-        rests = moment-rests-open side log m in_.may in_.fits in_.moment;
-        sends = sends-flush side log m in_.moment in_.sends;
+        rests = moment-rests-open side log m in_.may in_.fits in_.at_moment;
+        sends = sends-flush side log m in_.at_moment in_.sends;
       }
 
   module _ (o : is_open (m ∷ log) ≡ true) where
@@ -171,7 +171,7 @@ module _ (side : Side) (log : Log) (m : Entry) (taken : ℕ) (d : DriverValue) (
 
       pub flush-may : MayFlush side (m ∷ log) scanned.state.session scanned.state.progress
       unfolding state_of
-      flush-may = subst (λ (s : DriverState). MayFlush side (m ∷ log) s.session s.progress) (sym scanned-state) (may_flush side log m in_.rests in_.moment o (in_.sends o))
+      flush-may = subst (λ (s : DriverState). MayFlush side (m ∷ log) s.session s.progress) (sym scanned-state) (may_flush side log m in_.rests in_.at_moment o (in_.sends o))
 
       -- then all of it went out
       pub work-follows : (last : DriverValue) → Flushes side (m ∷ log) (scanned_stages u d.state in_.stage) (untaken_since taken (m ∷ log)) (actions_after u (control_sent side (m ∷ log)) scanned.state.session scanned.state.progress) last.inbox last.state.control_sent
@@ -179,7 +179,7 @@ module _ (side : Side) (log : Log) (m : Entry) (taken : ℕ) (d : DriverValue) (
           → Follows side last (log_and_flush side log m) taken
       unfolding flush
       work-follows last f rest queue settings opens =
-          let moment = counts true o in
+          let at_moment = counts true o in
           let out : actions_after u (control_sent side (m ∷ log)) scanned.state.session scanned.state.progress ≡ step_actions u scanned.state =
           ap (λ (s : ControlSent). actions_after u s scanned.state.session scanned.state.progress) flush-control in
           let inbox = subst (λ (xs : List Action). inboxes.Refines side last.inbox (with_actions xs (m ∷ log)) (scanned_stages u d.state in_.stage) (newest_first xs (untaken_since taken (m ∷ log)))) out f.inbox in
@@ -189,13 +189,13 @@ module _ (side : Side) (log : Log) (m : Entry) (taken : ℕ) (d : DriverValue) (
           ap (λ (xs : List Action). is_open (with_actions xs (m ∷ log))) pending
           ∙ open-says side (with_actions acts (m ∷ log))
           ∙ ap (λ (s : DriverState). s.is_open) (flushed-state side (m ∷ log) ∙ sent_at_once u (state_of side (m ∷ log)) ∙ ap (state_after_flush u) (sym scanned-state)) in
-          let stands : last.state.is_open ≡ (state_after_flush u scanned.state).is_open = opens ∙ ap (λ (t : TransportState). t.is_open) inbox.transport.state ∙ whole in
+          let open_is : last.state.is_open ≡ (state_after_flush u scanned.state).is_open = opens ∙ ap (λ (t : TransportState). t.is_open) inbox.transport.state ∙ whole in
           let own : last.state.control_sent ≡ (state_after_flush u scanned.state).control_sent = f.control_is ∙ ap (control_flushed u.may_open u.credit) flush-control in
-          let state : last.state ≡ state_after_flush u scanned.state = rest ∙ (λ i. record scanned.state { control_sent = own i; is_open = stands i }) in
-          let refined = work-refines side log m in_.stage in_.may in_.can in_.fits in_.uses in_.fit d in_.state_is in_.queue_is scanned last (untaken_since taken (m ∷ log)) late moment moved inbox state queue settings in_.settings in
+          let state : last.state ≡ state_after_flush u scanned.state = rest ∙ (λ i. record scanned.state { control_sent = own i; is_open = open_is i }) in
+          let refined = work-refines side log m in_.stage in_.may in_.can in_.fits in_.uses in_.fit d in_.state_is in_.queue_is scanned last (untaken_since taken (m ∷ log)) late at_moment moved inbox state queue settings in_.settings in
           record {
-            refines = subst (Refines side last (log_and_flush side log m)) (ap (λ (xs : List Action). newest_first xs (untaken_since taken (m ∷ log))) pending ∙ sym (rw moment (untaken-with taken acts (m ∷ log) in_.within))) refined;
-            within = rw moment (within-with taken acts (m ∷ log) in_.within);
-            rests = moment-rests-open side log m in_.may in_.fits in_.moment;
-            sends = sends-flush side log m in_.moment in_.sends;
+            refines = subst (Refines side last (log_and_flush side log m)) (ap (λ (xs : List Action). newest_first xs (untaken_since taken (m ∷ log))) pending ∙ sym (rw at_moment (untaken-with taken acts (m ∷ log) in_.within))) refined;
+            within = rw at_moment (within-with taken acts (m ∷ log) in_.within);
+            rests = moment-rests-open side log m in_.may in_.fits in_.at_moment;
+            sends = sends-flush side log m in_.at_moment in_.sends;
           }

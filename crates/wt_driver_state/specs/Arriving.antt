@@ -16,6 +16,6 @@ after_arrival t (Some e) d = record d { state = with_arrival t e d.state; queue 
 
 -- A driver took in an event: its moment's work is to be done, or it came after the end, and that is all.
 pub record EventTaken (side : Side) (log : Log) (e : Event) (d : DriverValue) (taken : ℕ) : Type 0 where
-  pub counted : is_open log ≡ true → TakenIn side log (Reported e) d taken
+  pub count_is : is_open log ≡ true → TakenIn side log (Reported e) d taken
   pub late : is_open log ≡ false → Follows side d (log_and_flush side log (ReportedLate e)) taken
   pub ended : is_open log ≡ false → d.state.is_open ≡ false

@@ -8,7 +8,7 @@ pub record IsEarly (d : DriverValue) (id : ℕ) : Type 0 where
   pub unis : IsAmong 4 id d.state.unis
   pub bis : IsAmong 1 id d.state.bis
 
--- the datagrams that wait behind a call
+-- the datagrams that wait after a call
 abbrev pub called_queue : CallRecord → List (List ℕ) → List (List ℕ)
 called_queue DatagramReceived q = without_first q
 called_queue DatagramPassed q = without_first q

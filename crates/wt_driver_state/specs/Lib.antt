@@ -1,4 +1,4 @@
-pub mod Given
+pub mod PollResults
 pub mod Stages
 pub mod Moving
 pub mod DriverValue

@@ -44,7 +44,7 @@ session_checked_stages t s stage = unless_ended_stage s.progress.ending (session
 abbrev pub datagram_checked_state : TransportView → DriverState → DriverState
 datagram_checked_state t s = record s { progress = datagram_checked t s.datagrams s.progress }
 
--- What the checks behind the slots ask of a driver in this state, with streams at these stages.
+-- What the checks after the slots ask of a driver in this state, with streams at these stages.
 pub record MayCheck (t : TransportView) (s : DriverState) (stage : ℕ → Stage) : Type 0 where
   pub session : (datagram_checked_state t s).progress.ending ≡ None → WalkFrom session_offset stage s.session
   pub control : WalkFrom control_offset (session_checked_stages t (datagram_checked_state t s) stage) s.dispatched.control

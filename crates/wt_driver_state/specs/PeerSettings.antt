@@ -15,7 +15,7 @@ use Rattle.wt_wire.specs.declared.side.Side.{Side}
 
 -- ---- of a log
 
--- the SETTINGS that the walk over a control stream reads in all bytes that came behind its type
+-- the SETTINGS that the walk over a control stream reads in all bytes that came after its type
 abbrev pub settings_read : TransportView → Option (ℕ × ℕ) → Option Settings
 settings_read t None = None
 settings_read t (Some control) = (control_walk_of (drop control.1 (t.contents control.0)) (t.end control.0)).settings
@@ -34,7 +34,7 @@ unless_given given settings = if given then None else settings
 
 -- SETTINGS are kept exactly where they came, and they are those that the walk over the peer's control stream reads.
 pub record KeepsSettings (side : Side) (log : Log) (kept : Option Settings) : Type 0 where
-  pub came : is_some kept ≡ settings_came side log
+  pub has_come : is_some kept ≡ settings_came side log
   pub read : (settings : Settings) → kept ≡ Some settings → settings_read (transport_view side log) (peer_control side log) ≡ Some settings
 
 -- ---- at a moment

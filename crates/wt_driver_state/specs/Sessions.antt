@@ -1,4 +1,4 @@
--- What the driver's calls for a session answer, and the log that it follows behind them.
+-- What the driver's calls for a session answer, and the log that it follows after them.
 use Rattle.std.specs.Prelude.{[], ◌&&◌, ◌∷◌, Bool, Err, List, None, Ok, Option, Result, Some, if◌then◌else◌, is_some, not, ℕ}
 use Rattle.wt_error.specs.declared.driver_error.DriverError.{DriverError}
 use Rattle.wt_error.specs.declared.driver_error.DriverError.TheVariants as errors

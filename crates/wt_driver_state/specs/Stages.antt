@@ -60,11 +60,11 @@ BodySays done at stage = ReadUpTo done.is_dropped (at + done.read) stage
 
 -- the response is to be read, then the session's part; nothing once the handshake failed
 abbrev pub ResponseSays : Option (ℕ × ℕ) → Bool → Option Ending → Stage → Type 0
-ResponseSays (Some session) over ending stage = ending ≡ None → session_offset stage ≡ Some session.1
+ResponseSays (Some session) ended ending stage = ending ≡ None → session_offset stage ≡ Some session.1
 ResponseSays None true ending stage = Unit {0}
 ResponseSays None false ending stage = awaits_response stage ≡ true
 
--- the session's part may be read behind a request; nothing of a surplus one is kept
+-- the session's part may be read after a request; nothing of a surplus one is kept
 abbrev pub RequestSays : Bool → ℕ → Option Ending → Stage → Type 0
 RequestSays false at ending stage = ending ≡ None → session_offset stage ≡ Some at
 RequestSays true at ending stage = stage ≡ GivenUp
@@ -117,7 +117,7 @@ abbrev pub offset_plus : ℕ → Option ℕ → Option ℕ
 offset_plus count None = None
 offset_plus count (Some offset) = Some (offset + count)
 
--- the stages once a session is established: a client reads on behind the response
+-- the stages once a session is established: a client reads on after the response
 abbrev pub established_stages : Side → ℕ → ℕ → (ℕ → Stage) → ℕ → Stage
 established_stages Client id at stage = with_stage stage id (Body at)
 established_stages Server id at stage = stage
@@ -140,7 +140,7 @@ abbrev pub entry_stages : Side → Log → Entry → (ℕ → Stage) → ℕ →
 entry_stages side log (Called r) stage = called_stages side log r stage
 entry_stages side log _ stage = stage
 
--- nothing is read behind the ending
+-- nothing is read after the ending
 abbrev pub unless_ended_stage : Option Ending → (ℕ → Stage) → (ℕ → Stage) → ℕ → Stage
 unless_ended_stage None to stage = to
 unless_ended_stage (Some e) to stage = stage
@@ -166,7 +166,7 @@ control_stages (Some c) stage = with_stage stage c.0 (ControlBody c.1)
 
 -- what is known after the check of the datagrams
 abbrev pub datagram_checked : TransportView → ℕ → DriverProgress → DriverProgress
-datagram_checked t settled p = unless_ended p.ending (λ q. check_datagram (t.ready && settled == q.datagrams) t q) p
+datagram_checked t settled_count p = unless_ended p.ending (λ q. check_datagram (t.ready && settled_count == q.datagrams) t q) p
 
 -- then of the session, and of this end's control stream
 abbrev pub session_checked : TransportView → Option (ℕ × ℕ) → DriverProgress → DriverProgress
@@ -174,7 +174,7 @@ session_checked t session p =
     let q = unless_ended p.ending (check_session t session) p in
     unless_ended q.ending (critical_if t.control_stopped) q
 
--- the stages after the checks behind the slots
+-- the stages after the checks after the slots
 abbrev pub check_stages : TransportView → DriverState → (ℕ → Stage) → ℕ → Stage
 check_stages t s stage =
     let p = datagram_checked t s.datagrams s.progress in

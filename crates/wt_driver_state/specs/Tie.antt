@@ -54,7 +54,7 @@ pub record TakenIn (side : Side) (log : Log) (m : Entry) (d : DriverValue) (take
   pub queue_is : d.queue ≡ unsettled_datagrams (m ∷ log)
   pub settings : KeepsSettings side log d.settings
   pub within : taken ≤ length (actions_of (m ∷ log))
-  pub moment : is_moment m ≡ true
+  pub at_moment : is_moment m ≡ true
   pub may : MayFollow side log m
   pub can : MayUseBy side log m
   pub fits : Fits side log

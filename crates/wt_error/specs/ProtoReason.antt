@@ -5,7 +5,7 @@ use Rattle.std.specs.Cmp.{IsEquivalence, and_equiv, on_equiv, nat_eq_equiv}
 use Rattle.std.specs.Cmp.Lexicographic.{pointwise, nat_list_eq_equiv, options_equiv}
 use Rattle.std.specs.Fmt.{decimal}
 use Rattle.wt_error.specs.declared.connection_error.Reason.{Reason}
-use Rattle.wt_error.specs.declared.connection_error.Reason.TheVariants.{VersionMismatched, HasBeenReset, Told}
+use Rattle.wt_error.specs.declared.connection_error.Reason.TheVariants.{VersionMismatched, HasBeenReset, Described}
 
 -- a code where there is one, and the text of a reason
 pub record ProtoError : Type 0 where
@@ -16,7 +16,7 @@ pub record ProtoError : Type 0 where
 abbrev pub reason_text : Reason → List ℕ
 reason_text VersionMismatched = codes "QUIC protocol version mismatched"
 reason_text HasBeenReset = codes "connection has been reset"
-reason_text (Told reason) = reason
+reason_text (Described reason) = reason
 
 -- the reason, and the code where there is one
 abbrev pub proto_error_text : Option ℕ → List ℕ → List ℕ

@@ -62,7 +62,7 @@ impl fmt::Display for H3Error {
 enum Reason {
     VersionMismatched,
     HasBeenReset,
-    Told(Text),
+    Described(Text),
 }
 
 impl Reason {
@@ -72,7 +72,7 @@ impl Reason {
         match self {
             Reason::VersionMismatched => "QUIC protocol version mismatched",
             Reason::HasBeenReset => "connection has been reset",
-            Reason::Told(text) => text.as_str(),
+            Reason::Described(text) => text.as_str(),
         }
     }
 }
@@ -99,7 +99,7 @@ impl QuicProtoError {
     {
         QuicProtoError {
             code,
-            reason: Reason::Told(reason),
+            reason: Reason::Described(reason),
         }
     }
 

@@ -86,7 +86,7 @@ module _ (side : Side) (log : Log) (stage : ℕ → Stage) (untaken : List Actio
     control_is = (λ i. record { opened = so i; sent = s.sent_is i }) ∙ sym (λ i. control_flushed (may i) credit_now (e i));
   }
 
-  -- ---- behind it the stops, then the end
+  -- ---- after it the stops, then the end
   module _ (session : Option (ℕ × ℕ)) (p : DriverProgress) (o : is_open log ≡ true) (may : MayFlush side log session p) where
     abbrev control_part : List Action
     control_part = control_actions (transport_view side log).may_open id credit_now own

@@ -20,7 +20,8 @@ use Rattle.wt_wire.specs.declared.side.Side.{Side}
 pub record ControlRuns (side : Side) (log : Log) : Type 0 where
   pub unfinished : is_finished (actions_of log) (local_uni side) ≡ false
   pub unreset : is_reset log (local_uni side) ≡ false
-  pub silent : is_some (stop_of (events_of log) (local_uni side)) ≡ true → control_actions (transport_view side log).may_open (local_uni side) (transport_view side log).credit (control_sent side log) ≡ []
+  pub silent : is_some (stop_of (events_of log) (local_uni side)) ≡ true
+      → control_actions (transport_view side log).may_open (local_uni side) (transport_view side log).credit (control_sent side log) ≡ []
 
 -- each stream that is to be stopped is there, and has a receiving half
 abbrev pub CanStop : Side → Log → List Stopped → Type 0

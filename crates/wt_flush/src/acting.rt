@@ -31,7 +31,8 @@ fn open(inbox: &mut Inbox, id: StreamId) -> Result<(), OutOfMemory>
 }
 
 fn send(inbox: &mut Inbox, id: StreamId, piece: &Piece) -> Result<(), OutOfMemory>
-    ensures log { OfEachLog inbox.old (λ side log stage untaken. may_send side log id ≡ true → actions_to_send log id piece.now ≡ actions.Send id piece.now ∷ []
+    ensures log { OfEachLog inbox.old (λ side log stage untaken. may_send side log id ≡ true
+        → actions_to_send log id piece.now ≡ actions.Send id piece.now ∷ []
         → OnOk result (Refines side inbox.new (Sent (actions.Send id piece.now) ∷ log) stage (actions.Send id piece.now ∷ untaken))) }
 {
     if inbox.may_send(id) {
@@ -41,7 +42,8 @@ fn send(inbox: &mut Inbox, id: StreamId, piece: &Piece) -> Result<(), OutOfMemor
 }
 
 fn finish(inbox: &mut Inbox, id: StreamId) -> Result<(), OutOfMemory>
-    ensures log { OfEachLog inbox.old (λ side log stage untaken. may_send side log id ≡ true → OnOk result (Refines side inbox.new (Sent (actions.Finish id) ∷ log) stage (actions.Finish id ∷ untaken))) }
+    ensures log { OfEachLog inbox.old (λ side log stage untaken. may_send side log id ≡ true
+        → OnOk result (Refines side inbox.new (Sent (actions.Finish id) ∷ log) stage (actions.Finish id ∷ untaken))) }
 {
     if inbox.may_send(id) {
         inbox.finish(id)?;
@@ -53,7 +55,8 @@ fn finish(inbox: &mut Inbox, id: StreamId) -> Result<(), OutOfMemory>
 pub fn reset(inbox: &mut Inbox, id: StreamId, code: VarInt) -> Result<(), OutOfMemory>
     ensures log { OfEachLog inbox.old (λ side log stage untaken. is_open log ≡ true → can_send side log id ≡ true
         → OnOk result (Refines side inbox.new (Sent (actions.ResetOut id code) ∷ log) stage (actions.ResetOut id code ∷ untaken))) }
-    ensures unsent { OfEachLog inbox.old (λ side log stage untaken. is_open log ≡ false → can_send side log id ≡ true → OnOk result (Refines side inbox.new (Called (ResetUnsent id code) ∷ log) stage untaken)) }
+    ensures unsent { OfEachLog inbox.old (λ side log stage untaken. is_open log ≡ false → can_send side log id ≡ true
+        → OnOk result (Refines side inbox.new (Called (ResetUnsent id code) ∷ log) stage untaken)) }
 {
     if inbox.can_send(id) {
         inbox.reset(id, code)?;
@@ -73,7 +76,8 @@ pub fn stop(inbox: &mut Inbox, id: StreamId, code: VarInt) -> Result<(), OutOfMe
 }
 
 fn dial(inbox: &mut Inbox, address: Addr, name: Text) -> Result<(), OutOfMemory>
-    ensures log { OfEachLog inbox.old (λ side log stage untaken. is_open log ≡ true → OnOk result (Refines side inbox.new (Sent (actions.Dial address name) ∷ log) stage (actions.Dial address name ∷ untaken))) }
+    ensures log { OfEachLog inbox.old (λ side log stage untaken. is_open log ≡ true
+        → OnOk result (Refines side inbox.new (Sent (actions.Dial address name) ∷ log) stage (actions.Dial address name ∷ untaken))) }
 {
     if inbox.is_open() {
         inbox.dial(address, name)?;
@@ -82,7 +86,8 @@ fn dial(inbox: &mut Inbox, address: Addr, name: Text) -> Result<(), OutOfMemory>
 }
 
 fn datagram_out(inbox: &mut Inbox, piece: Piece) -> Result<(), OutOfMemory>
-    ensures log { OfEachLog inbox.old (λ side log stage untaken. is_open log ≡ true → OnOk result (Refines side inbox.new (Sent (actions.DatagramOut piece) ∷ log) stage (actions.DatagramOut piece ∷ untaken))) }
+    ensures log { OfEachLog inbox.old (λ side log stage untaken. is_open log ≡ true
+        → OnOk result (Refines side inbox.new (Sent (actions.DatagramOut piece) ∷ log) stage (actions.DatagramOut piece ∷ untaken))) }
 {
     if inbox.is_open() {
         inbox.datagram_out(piece)?;
@@ -92,14 +97,16 @@ fn datagram_out(inbox: &mut Inbox, piece: Piece) -> Result<(), OutOfMemory>
 
 /// Closes the connection, where it is open.
 pub fn close(inbox: &mut Inbox, code: VarInt, reason: Piece) -> Result<(), OutOfMemory>
-    ensures log { OfEachLog inbox.old (λ side log stage untaken. is_open log ≡ true → OnOk result (Refines side inbox.new (Sent (actions.Close code reason) ∷ log) stage (actions.Close code reason ∷ untaken))) }
+    ensures log { OfEachLog inbox.old (λ side log stage untaken. is_open log ≡ true
+        → OnOk result (Refines side inbox.new (Sent (actions.Close code reason) ∷ log) stage (actions.Close code reason ∷ untaken))) }
 {
     inbox.close(code, reason)
 }
 
 /// An action of a call goes out.
 pub fn act(inbox: &mut Inbox, action: Action) -> Result<(), OutOfMemory>
-    ensures log { OfEachLog inbox.old (λ side log stage untaken. MayAct side log action → OnOk result (Refines side inbox.new (Sent action ∷ log) stage (action ∷ untaken))) }
+    ensures log { OfEachLog inbox.old (λ side log stage untaken. MayAct side log action
+        → OnOk result (Refines side inbox.new (Sent action ∷ log) stage (action ∷ untaken))) }
 {
     match action {
         Action::Dial { address, name } => dial(inbox, address, name),

@@ -17,7 +17,7 @@ use crate::acting::{close, reset, stop};
 use std::alloc::Global;
 use wt_dispatch::classified::Stopped;
 use wt_dispatch::ending::{Ending, EndingKind};
-use wt_dispatch::progress::Progress;
+use wt_dispatch::progress::ConnectionProgress;
 use wt_inbox::Inbox;
 use wt_proto::outgoing::control_stream_head;
 use wt_turn::piece::Piece;
@@ -29,7 +29,7 @@ use wt_wire::varint::VarInt;
 // ---- this end's control stream
 
 /// The bytes from this offset on; none past the end.
-fn after(bytes: &[u8], at: usize) -> &[u8]
+fn bytes_after(bytes: &[u8], at: usize) -> &[u8]
     ensures { result.now ≡ drop at bytes.now }
 {
     if at < bytes.len() {
@@ -51,7 +51,8 @@ fn control_id(side: Side) -> StreamId
 
 /// Opens the control stream where it isn't.
 fn open_control(inbox: &mut Inbox, opened: &mut bool) -> Result<(), OutOfMemory>
-    ensures log { OfEachLog inbox.old (λ side log stage untaken. is_open log ≡ true → (control_sent side log).opened ≡ opened.old → (transport_view side log).may_open ≡ true
+    ensures log { OfEachLog inbox.old (λ side log stage untaken. is_open log ≡ true → (control_sent side log).opened ≡ opened.old
+        → (transport_view side log).may_open ≡ true
         → OnOk result (OpensControl side log stage untaken (opened_if (not opened.old) (local_uni side)) inbox.new opened.new)) }
 {
     if !*opened {
@@ -63,7 +64,9 @@ fn open_control(inbox: &mut Inbox, opened: &mut bool) -> Result<(), OutOfMemory>
 
 /// Sends the bytes of the control stream that are left, as far as credit goes.
 fn send_control(inbox: &mut Inbox, alloc: Global, sent: &mut usize) -> Result<(), OutOfMemory>
-    ensures log { OfEachLog inbox.old (λ side log stage untaken. is_open log ≡ true → control_sent side log ≡ record { opened = true; sent = sent.old } → ControlRuns side log → (transport_view side log).may_open ≡ true
+    ensures log { OfEachLog inbox.old (λ side log stage untaken. is_open log ≡ true
+        → control_sent side log ≡ record { opened = true; sent = sent.old } → ControlRuns side log
+        → (transport_view side log).may_open ≡ true
         → OnOk result (SendsControl side log stage untaken (send_of (local_uni side) (drop sent.old (take (transport_view side log).credit local_control_bytes))) inbox.new sent.new (sent.old + length (drop sent.old (take (transport_view side log).credit local_control_bytes))))) }
 {
     let id = control_id(inbox.side());
@@ -71,7 +74,7 @@ fn send_control(inbox: &mut Inbox, alloc: Global, sent: &mut usize) -> Result<()
         return Ok(());
     }
     let head = control_stream_head(alloc)?;
-    let count = inbox.send(id, after(head.as_slice(), *sent))?;
+    let count = inbox.send(id, bytes_after(head.as_slice(), *sent))?;
     match sent.checked_add(count) {
         None => Err(OutOfMemory),
         Some(sum) => {
@@ -88,7 +91,8 @@ fn flush_control(
     opened: &mut bool,
     sent: &mut usize,
 ) -> Result<(), OutOfMemory>
-    ensures log { OfEachLog inbox.old (λ side log stage untaken. is_open log ≡ true → control_sent side log ≡ record { opened = opened.old; sent = sent.old } → ControlRuns side log
+    ensures log { OfEachLog inbox.old (λ side log stage untaken. is_open log ≡ true
+        → control_sent side log ≡ record { opened = opened.old; sent = sent.old } → ControlRuns side log
         → OnOk result (Flushes side log stage untaken (control_actions (transport_view side log).may_open (local_uni side) (transport_view side log).credit (control_sent side log)) inbox.new (record { opened = opened.new; sent = sent.new }))) }
 {
     if inbox.may_open_uni() {
@@ -108,7 +112,8 @@ fn stop_one(inbox: &mut Inbox, stopped: &Stopped) -> Result<(), OutOfMemory>
 }
 
 fn stop_all(inbox: &mut Inbox, stops: &[Stopped]) -> Result<(), OutOfMemory>
-    ensures log { OfEachLog inbox.old (λ side log stage untaken. is_open log ≡ true → CanStop side log stops.now → OnOk result (Sends side log stage untaken (stop_actions stops.now) inbox.new)) }
+    ensures log { OfEachLog inbox.old (λ side log stage untaken. is_open log ≡ true → CanStop side log stops.now
+        → OnOk result (Sends side log stage untaken (stop_actions stops.now) inbox.new)) }
 {
     let mut at = 0;
     while at < stops.len() {
@@ -131,7 +136,8 @@ fn session_id(session: Option<(StreamId, usize)>) -> StreamId
 
 /// Resets the session's stream, where a capsule closed the session.
 fn reset_if(inbox: &mut Inbox, by_capsule: bool, id: StreamId) -> Result<(), OutOfMemory>
-    ensures log { OfEachLog inbox.old (λ side log stage untaken. is_open log ≡ true → (by_capsule ≡ true → can_send side log id ≡ true) → OnOk result (Sends side log stage untaken (reset_if by_capsule id) inbox.new)) }
+    ensures log { OfEachLog inbox.old (λ side log stage untaken. is_open log ≡ true → (by_capsule ≡ true → can_send side log id ≡ true)
+        → OnOk result (Sends side log stage untaken (reset_if by_capsule id) inbox.new)) }
 {
     if by_capsule {
         reset(inbox, id, ErrorCode::NoError.to_code())?;
@@ -140,7 +146,8 @@ fn reset_if(inbox: &mut Inbox, by_capsule: bool, id: StreamId) -> Result<(), Out
 }
 
 fn close_with(inbox: &mut Inbox, alloc: Global, code: ErrorCode) -> Result<(), OutOfMemory>
-    ensures log { OfEachLog inbox.old (λ side log stage untaken. is_open log ≡ true → OnOk result (Sends side log stage untaken (actions.Close (code_of code) [] ∷ []) inbox.new)) }
+    ensures log { OfEachLog inbox.old (λ side log stage untaken. is_open log ≡ true
+        → OnOk result (Sends side log stage untaken (actions.Close (code_of code) [] ∷ []) inbox.new)) }
 {
     close(inbox, code.to_code(), Piece::new(alloc))
 }
@@ -180,9 +187,10 @@ pub fn flush(
     opened: &mut bool,
     sent: &mut usize,
     session: Option<(StreamId, usize)>,
-    progress: &Progress,
+    progress: &ConnectionProgress,
 ) -> Result<(), OutOfMemory>
-    ensures log { OfEachLog inbox.old (λ side log stage untaken. is_open log ≡ true → control_sent side log ≡ record { opened = opened.old; sent = sent.old } → MayFlush side log session progress.now
+    ensures log { OfEachLog inbox.old (λ side log stage untaken. is_open log ≡ true
+        → control_sent side log ≡ record { opened = opened.old; sent = sent.old } → MayFlush side log session progress.now
         → OnOk result (Flushes side log stage untaken (actions_after (transport_view side log) (control_sent side log) session progress.now) inbox.new (record { opened = opened.new; sent = sent.new }))) }
 {
     flush_control(inbox, alloc, opened, sent)?;

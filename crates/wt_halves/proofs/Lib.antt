@@ -1,4 +1,4 @@
 pub mod Answering
-pub mod Told
+pub mod DriverAnswered
 pub mod Sending
 pub mod Receiving

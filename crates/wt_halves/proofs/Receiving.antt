@@ -5,7 +5,7 @@ use Rattle.std.proofs.Math.ListN.{drop_of_length-le}
 use Rattle.std.proofs.Math.Seq.{take-append_seam, take-length}
 use Rattle.std.proofs.lemmas.Bool.{ltb-true}
 use Rattle.std.proofs.lemmas.List.{length-take-le}
-use Rattle.wt_halves.proofs.Told.{facts_told, leads, tells, told}
+use Rattle.wt_halves.proofs.DriverAnswered.{facts_told, leads, says, reported}
 use Rattle.wt_driver_state.specs.DriverValue.{DriverValue}
 use Rattle.wt_driver_state.specs.Tie.{Follows}
 use Rattle.wt_laws.specs.Reachable.{IsReachable}
@@ -126,13 +126,13 @@ exact-front open_ e us buffer old size l Pending ea eb = refl
 
 module _ (side : Side) (d : DriverValue) (log : Log) (taken : ℕ) (f : Follows side d log taken) (r : IsReachable side log) (id : ℕ) (h : has_receiving_half side log id ≡ true) where
   abbrev now : CallFacts
-  now = facts_now d.inbox.transport (told side d log taken f r)
+  now = facts_now d.inbox.transport (reported side d log taken f r)
 
   had : (p : Plan) → p ≡ with_receiving (facts_of side log) (session_state log) id p
   had p = sym (ap (λ b. with_half b p) (same-receiving side log id ∙ h))
 
   unread_is : unread_now d.inbox.transport id ≡ unread_body side log id
-  unread_is = plans.unread_had side log d.inbox.transport (told side d log taken f r) (tells side d log taken f r) id h
+  unread_is = plans.unread_had side log d.inbox.transport (reported side d log taken f r) (says side d log taken f r) id h
 
   pub read_by_log : (size : ℕ) → read_plan now id size ≡ plan_of (facts_of side log) (session_state log) (calls.Read id size)
   unfolding plan_of
@@ -157,7 +157,7 @@ module _ (side : Side) (d : DriverValue) (log : Log) (taken : ℕ) (f : Follows 
   pub stop_planned : (v : ℕ) (t : TransportState) → t ≡ d.inbox.transport → (p : planning.Plan) → ((x : DriverAnswers) → defined_plan p ≡ stop_plan (facts_now t x) id v)
       → defined_plan p ≡ plan_of (facts_of side log) (session_state log) (calls.StopRecv id v)
   stop_planned v t same p e =
-      e (told side d log taken f r) ∙ ap (λ (u : TransportState). stop_plan (facts_now u (told side d log taken f r)) id v) same ∙ stop_by_log v
+      e (reported side d log taken f r) ∙ ap (λ (u : TransportState). stop_plan (facts_now u (reported side d log taken f r)) id v) same ∙ stop_by_log v
 
   pub stop_replies : (v : ℕ) → replies.Done ≡ (call_effect side log (calls.StopRecv id v)).reply
   stop_replies v = ap (λ (x : Effect). x.reply) (leads side log (calls.StopRecv id v) (stop_plan now id v) (stop_by_log v))

@@ -2,7 +2,7 @@
 use Rattle.std.specs.Prelude.{[], ◌∷◌, ◌≡◌, Bool, Err, List, Ok, Result, false, if◌then◌else◌, true, ℕ, ℤ}
 use Rattle.std.proofs.Common.{◌∙◌, ap, refl, sym}
 use Rattle.wt_halves.specs.Replies.{reset_reply}
-use Rattle.wt_halves.proofs.Told.{facts_told, leads, tells, told}
+use Rattle.wt_halves.proofs.DriverAnswered.{facts_told, leads, says, reported}
 use Rattle.wt_driver_state.specs.DriverValue.{DriverValue}
 use Rattle.wt_driver_state.specs.Tie.{Follows}
 use Rattle.wt_laws.specs.Reachable.{IsReachable}
@@ -65,10 +65,10 @@ reset-reply side log x id code = at (is_closed (x.sending id)) x.is_open
 module _ (side : Side) (d : DriverValue) (log : Log) (taken : ℕ) (f : Follows side d log taken) (r : IsReachable side log) (id : ℕ) (h : has_sending_half side log id ≡ true) where
   -- its stream is there
   pub is_there : can_send_now d.inbox.transport id ≡ true
-  is_there = plans.sending_there side log d.inbox.transport (told side d log taken f r) (tells side d log taken f r) id h
+  is_there = plans.sending_there side log d.inbox.transport (reported side d log taken f r) (says side d log taken f r) id h
 
   abbrev now : CallFacts
-  now = facts_now d.inbox.transport (told side d log taken f r)
+  now = facts_now d.inbox.transport (reported side d log taken f r)
 
   had : (p : Plan) → p ≡ with_sending (facts_of side log) (session_state log) id p
   had p = sym (ap (λ b. with_half b p) (same-sending side log id ∙ h))
@@ -89,7 +89,7 @@ module _ (side : Side) (d : DriverValue) (log : Log) (taken : ℕ) (f : Follows 
 
   pub write_planned : (bytes : List ℕ) → (t : TransportState) → t ≡ d.inbox.transport → (p : planning.Plan) → ((x : DriverAnswers) → defined_plan p ≡ write_plan (facts_now t x) id bytes) → planned_by (calls.Write id bytes) (defined_plan p)
   write_planned bytes t same p e =
-      e (told side d log taken f r) ∙ ap (λ (u : TransportState). write_plan (facts_now u (told side d log taken f r)) id bytes) same ∙ write_by_log bytes
+      e (reported side d log taken f r) ∙ ap (λ (u : TransportState). write_plan (facts_now u (reported side d log taken f r)) id bytes) same ∙ write_by_log bytes
 
   pub write_told : (bytes : List ℕ) → (t : TransportState) → t ≡ d.inbox.transport → (a : Poll (Result ℕ StreamWriteError)) → a ≡ write_answer t.is_open (sending_half_now t id) bytes → write_reply a ≡ (call_effect side log (calls.Write id bytes)).reply
   write_told bytes t same a e =
@@ -103,7 +103,7 @@ module _ (side : Side) (d : DriverValue) (log : Log) (taken : ℕ) (f : Follows 
 
   pub write_all_planned : (bytes : List ℕ) → (t : TransportState) → t ≡ d.inbox.transport → (p : planning.Plan) → ((x : DriverAnswers) → defined_plan p ≡ write_all_plan (facts_now t x) id bytes) → planned_by (calls.WriteAll id bytes) (defined_plan p)
   write_all_planned bytes t same p e =
-      e (told side d log taken f r) ∙ ap (λ (u : TransportState). write_all_plan (facts_now u (told side d log taken f r)) id bytes) same ∙ write_all_by_log bytes
+      e (reported side d log taken f r) ∙ ap (λ (u : TransportState). write_all_plan (facts_now u (reported side d log taken f r)) id bytes) same ∙ write_all_by_log bytes
 
   pub write_all_told : (bytes : List ℕ) → (t : TransportState) → t ≡ d.inbox.transport → (a : Result WriteAll StreamWriteError) → a ≡ write_all_answer t.is_open (sending_half_now t id) bytes → write_all_reply a ≡ (call_effect side log (calls.WriteAll id bytes)).reply
   write_all_told bytes t same a e =
@@ -117,7 +117,7 @@ module _ (side : Side) (d : DriverValue) (log : Log) (taken : ℕ) (f : Follows 
 
   pub finish_planned : (t : TransportState) → t ≡ d.inbox.transport → (p : planning.Plan) → ((x : DriverAnswers) → defined_plan p ≡ finish_plan (facts_now t x) id) → planned_by (calls.Finish id) (defined_plan p)
   finish_planned t same p e =
-      e (told side d log taken f r) ∙ ap (λ (u : TransportState). finish_plan (facts_now u (told side d log taken f r)) id) same ∙ finish_by_log
+      e (reported side d log taken f r) ∙ ap (λ (u : TransportState). finish_plan (facts_now u (reported side d log taken f r)) id) same ∙ finish_by_log
 
   pub finish_told : (t : TransportState) → t ≡ d.inbox.transport → (a : Poll (Result (Unit {0}) StreamWriteError)) → a ≡ finish_answer t.is_open (sending_half_now t id) → finish_reply a ≡ (call_effect side log (calls.Finish id)).reply
   finish_told t same a e =
@@ -131,7 +131,7 @@ module _ (side : Side) (d : DriverValue) (log : Log) (taken : ℕ) (f : Follows 
 
   pub stopped_planned : (t : TransportState) → t ≡ d.inbox.transport → (p : planning.Plan) → ((x : DriverAnswers) → defined_plan p ≡ stopped_plan (facts_now t x) id) → planned_by (calls.Stopped id) (defined_plan p)
   stopped_planned t same p e =
-      e (told side d log taken f r) ∙ ap (λ (u : TransportState). stopped_plan (facts_now u (told side d log taken f r)) id) same ∙ stopped_by_log
+      e (reported side d log taken f r) ∙ ap (λ (u : TransportState). stopped_plan (facts_now u (reported side d log taken f r)) id) same ∙ stopped_by_log
 
   pub stopped_told : (t : TransportState) → t ≡ d.inbox.transport → (a : Poll StreamWriteError) → a ≡ stopped_answer t.is_open (sending_half_now t id) → stopped_by a ≡ (call_effect side log (calls.Stopped id)).reply
   stopped_told t same a e =
@@ -145,7 +145,7 @@ module _ (side : Side) (d : DriverValue) (log : Log) (taken : ℕ) (f : Follows 
 
   pub priority_planned : (t : TransportState) → t ≡ d.inbox.transport → (p : planning.Plan) → ((x : DriverAnswers) → defined_plan p ≡ priority_plan (facts_now t x) id) → planned_by (calls.Priority id) (defined_plan p)
   priority_planned t same p e =
-      e (told side d log taken f r) ∙ ap (λ (u : TransportState). priority_plan (facts_now u (told side d log taken f r)) id) same ∙ priority_by_log
+      e (reported side d log taken f r) ∙ ap (λ (u : TransportState). priority_plan (facts_now u (reported side d log taken f r)) id) same ∙ priority_by_log
 
   pub priority_told : (t : TransportState) → t ≡ d.inbox.transport → (a : Result ℤ ClosedStream) → a ≡ priority_answer (sending_half_now t id) → priority_reply a ≡ (call_effect side log (calls.Priority id)).reply
   priority_told t same a e =
@@ -159,7 +159,7 @@ module _ (side : Side) (d : DriverValue) (log : Log) (taken : ℕ) (f : Follows 
 
   pub reset_planned : (code : ℕ) → (t : TransportState) → t ≡ d.inbox.transport → (p : planning.Plan) → ((x : DriverAnswers) → defined_plan p ≡ reset_plan (facts_now t x) id code) → planned_by (calls.ResetSend id code) (defined_plan p)
   reset_planned code t same p e =
-      e (told side d log taken f r) ∙ ap (λ (u : TransportState). reset_plan (facts_now u (told side d log taken f r)) id code) same ∙ reset_by_log code
+      e (reported side d log taken f r) ∙ ap (λ (u : TransportState). reset_plan (facts_now u (reported side d log taken f r)) id code) same ∙ reset_by_log code
 
   pub set_by_log : (p : ℤ) → planned_by (calls.SetPriority id p) (set_priority_plan now id p)
   unfolding plan_of

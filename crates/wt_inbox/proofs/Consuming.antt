@@ -9,7 +9,7 @@ use Rattle.wt_seam.specs.State.{TransportState, Refines}
 use Rattle.wt_seam.specs.Step.{after_consume, unread_now, with_change}
 use Rattle.wt_seam.proofs.Refining.{consume_refines}
 use Rattle.wt_inbox.specs.Quiet.{quiet}
-use Rattle.wt_inbox.specs.Kept.{Consumes}
+use Rattle.wt_inbox.specs.KeptReaders.{Consumes}
 use Rattle.wt_inbox.proofs.Streams.{here-changed, here-has, other-unread, quiet-changed}
 
 -- ---- one call

@@ -16,7 +16,7 @@ ahead-of first [] at f a h e = absurd cc
 ahead-of first (g ∷ fields) zero f a h e = subst (λ (x : List ℕ × List ℕ). compare_names first x.0 ≡ Less) (same-field f g e) a
 ahead-of first (g ∷ fields) (suc at) f a h e = nat_list_cmp_total.trans (sort_key first) (sort_key g.0) (sort_key f.0) a (ahead-of g.0 fields at f h.0 h.3 e)
 
--- a field of the list belongs behind those before it
+-- a field of the list belongs after those before it
 field-put : (fields : Fields) (at : ℕ) (f : List ℕ × List ℕ) → IsHeaderList fields → slice_get fields at ≡ Some f → with_field f.0 f.1 (take at fields) ≡ take (suc at) fields
 field-put [] at f h e = absurd cc
 field-put (g ∷ fields) zero f h e = ap (λ (x : List ℕ × List ℕ). x ∷ []) (sym (same-field f g e))

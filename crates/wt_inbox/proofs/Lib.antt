@@ -7,6 +7,6 @@ pub mod Shelves
 pub mod Counting
 pub mod Offsets
 pub mod Reaching
-pub mod Asked
+pub mod AnswersStay
 pub mod Staging
 pub mod Passing

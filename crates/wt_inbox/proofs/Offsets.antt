@@ -44,12 +44,12 @@ module _ {S O : Type 0} (decide : S → List ℕ → Step S O) (steady : IsStead
     (stops : (s : S) (xs : List ℕ) (o : O) (n g : ℕ) → decide s xs ≡ Stops o n → offset o ≡ Some g → g ≡ place_of s + n) where
   -- the first bytes of these, so many, stop the walk
   record Early (s : S) (stop : Option O) (rest : ℕ) (bytes : List ℕ) (o : O) : Type 0 where
-    at : ℕ
-    within : at ≤ length bytes
-    far : rest ≤ at
-    early : (walk decide s stop rest (take at bytes)).stop ≡ Some o
-    told : (g : ℕ) → offset o ≡ Some g → stop ≡ None → g + rest ≡ place_of s + at
-    there : (p : O) → stop ≡ Some p → (at ≡ rest) × (p ≡ o)
+    count : ℕ
+    within : count ≤ length bytes
+    far : rest ≤ count
+    early : (walk decide s stop rest (take count bytes)).stop ≡ Some o
+    reported : (g : ℕ) → offset o ≡ Some g → stop ≡ None → g + rest ≡ place_of s + count
+    there : (p : O) → stop ≡ Some p → (count ≡ rest) × (p ≡ o)
 
   front-same : (s : S) (b : ℕ) (xs : List ℕ) (k n : ℕ) (d : Step S O) → decide s (b ∷ xs) ≡ d → size_of_step d ≡ Some n → n ≤ suc k → k ≤ length xs → decide s (b ∷ take k xs) ≡ d
   front-same s b xs k n d e t l w =
@@ -64,28 +64,28 @@ module _ {S O : Type 0} (decide : S → List ℕ → Step S O) (steady : IsStead
   early-item s b xs o again (Goes t n) e f =
       let p = again t None (n - 1) f in
       let some : 1 ≤ n = steady.some s (b ∷ xs) n (ap (λ x. size_of_step x) e) in
-      let cut : decide s (b ∷ take p.at xs) ≡ Goes t n = front-same s b xs p.at n (Goes t n) e refl (omega (arith, p.far)) p.within in
+      let same_step : decide s (b ∷ take p.count xs) ≡ Goes t n = front-same s b xs p.count n (Goes t n) e refl (omega (arith, p.far)) p.within in
       let next : place_of t ≡ place_of s + n = goes s (b ∷ xs) t n e in
       record {
-        at = suc p.at;
+        count = suc p.count;
         within = omega (arith, p.within);
         far = omega arith;
-        early = rw cut p.early;
-        told = λ g h _. (let e2 : g + (n - 1) ≡ place_of t + p.at = p.told g h refl in omega arith);
+        early = rw same_step p.early;
+        reported = λ g h _. (let e2 : g + (n - 1) ≡ place_of t + p.count = p.reported g h refl in omega arith);
         there = λ q h. absurd cc;
       }
   early-item s b xs o again (Stops q n) e f =
       let p = again s (Some q) (n - 1) f in
       let some : 1 ≤ n = steady.some s (b ∷ xs) n (ap (λ x. size_of_step x) e) in
-      let cut : decide s (b ∷ take p.at xs) ≡ Stops q n = front-same s b xs p.at n (Stops q n) e refl (omega (arith, p.far)) p.within in
+      let same_step : decide s (b ∷ take p.count xs) ≡ Stops q n = front-same s b xs p.count n (Stops q n) e refl (omega (arith, p.far)) p.within in
       let here = p.there q refl in
-      let at_ : p.at ≡ n - 1 = here.0 in
+      let at_ : p.count ≡ n - 1 = here.0 in
       record {
-        at = suc p.at;
+        count = suc p.count;
         within = omega (arith, p.within);
         far = omega arith;
-        early = rw cut p.early;
-        told = λ g h _. (let e2 : g ≡ place_of s + n = stops s (b ∷ xs) q n g e (ap offset here.1 ∙ h) in omega arith);
+        early = rw same_step p.early;
+        reported = λ g h _. (let e2 : g ≡ place_of s + n = stops s (b ∷ xs) q n g e (ap offset here.1 ∙ h) in omega arith);
         there = λ q2 h. absurd cc;
       }
 
@@ -94,16 +94,16 @@ module _ {S O : Type 0} (decide : S → List ℕ → Step S O) (steady : IsStead
   early-at (b ∷ xs) s stop (suc rest) o e =
       let p = early-at xs s stop rest o e in
       record {
-        at = suc p.at;
+        count = suc p.count;
         within = omega (arith, p.within);
         far = omega (arith, p.far);
         early = p.early;
-        told = λ g h i. (let e2 : g + rest ≡ place_of s + p.at = p.told g h i in omega arith);
+        reported = λ g h i. (let e2 : g + rest ≡ place_of s + p.count = p.reported g h i in omega arith);
         there = λ q h. (let r = p.there q h in (omega (arith, r.0), r.1));
       }
   early-at [] s None zero o e = absurd cc
-  early-at [] s (Some q) zero o e = record { at = 0; within = omega arith; far = omega arith; early = e; told = λ g h i. absurd cc; there = λ p h. (refl, cc) }
-  early-at (b ∷ xs) s (Some q) zero o e = record { at = 0; within = omega arith; far = omega arith; early = e; told = λ g h i. absurd cc; there = λ p h. (refl, cc) }
+  early-at [] s (Some q) zero o e = record { count = 0; within = omega arith; far = omega arith; early = e; reported = λ g h i. absurd cc; there = λ p h. (refl, cc) }
+  early-at (b ∷ xs) s (Some q) zero o e = record { count = 0; within = omega arith; far = omega arith; early = e; reported = λ g h i. absurd cc; there = λ p h. (refl, cc) }
   early-at (b ∷ xs) s None zero o e = early-item s b xs o (λ t stop n. early-at xs t stop n o) (decide s (b ∷ xs)) refl e
 
   module _ (start : S) (unfinished : StreamEnd → S → Bool → O) (final : O → Bool) (outcome_of : List ℕ → StreamEnd → O)
@@ -122,11 +122,11 @@ module _ {S O : Type 0} (decide : S → List ℕ → Step S O) (steady : IsStead
     is_offset = record {
       within = λ bytes end at e. (let s = stopped-with end at (whole_walk decide start bytes) (ap offset (sym (reaches bytes end)) ∙ e) in
           let p = early-at bytes start None 0 s.0 s.1 in
-          let told = p.told at s.2 refl in omega (arith, p.within));
+          let reported = p.reported at s.2 refl in omega (arith, p.within));
       decides = λ bytes end at e. (let s = stopped-with end at (whole_walk decide start bytes) (ap offset (sym (reaches bytes end)) ∙ e) in
           let p = early-at bytes start None 0 s.0 s.1 in
-          let told = p.told at s.2 refl in
-          let same : p.at ≡ at = omega arith in
+          let reported = p.reported at s.2 refl in
+          let same : p.count ≡ at = omega arith in
           ap final (reaches (take at bytes) Running
           ∙ ap (λ (stop : Option O). unwrap_or stop (unfinished Running (whole_walk decide start (take at bytes)).state (whole_walk decide start (take at bytes)).between)) (ap (λ i. (whole_walk decide start (take i bytes)).stop) (sym same) ∙ p.early))
           ∙ told_final s.0 at s.2);
@@ -222,7 +222,7 @@ told-there : {S O : Type 0} (offset : O → Option ℕ) (at m : ℕ) (v o : O) (
 told-there offset at m v o n g f step is e t =
     let same : v ≡ o = cc in
     let size : m ≡ n = cc in
-    let told : g ≡ at + m = f g (ap offset same ∙ t) in
+    let reported : g ≡ at + m = f g (ap offset same ∙ t) in
     omega arith
 
 bi-stops-by : (at : ℕ) (h : Option (frames.Frame × ℕ)) (o : Verdict) (n g : ℕ) → step_of_item (bi_effect at) h ≡ Stops o n → verdict_offset o ≡ Some g → g ≡ at + n
@@ -278,7 +278,7 @@ response-none Fin s b = refl
 response-none (Reset code) s b = refl
 
 response-final : (o : ResponseWalk) (g : ℕ) → response_offset o ≡ Some g → is_response_final o ≡ true
-response-final responses.Waiting g e = absurd cc
+response-final responses.Incomplete g e = absurd cc
 response-final (responses.Response response at) g e = refl
 response-final responses.Ended g e = absurd cc
 response-final (responses.Fault code) g e = refl

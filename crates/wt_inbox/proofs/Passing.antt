@@ -14,7 +14,7 @@ use Rattle.wt_turn.specs.declared.turn.Turn.TheVariants as turns
 use Rattle.wt_turn.specs.Log.{Event, Log, Received, Sent, Called, ResetUnsent, actions_of, all_events_of, events_of, is_open, with_actions}
 use Rattle.wt_proto.specs.declared.walk.Step.{Step}
 use Rattle.wt_proto.specs.declared.control_walk.ControlWalk.{ControlWalk}
-use Rattle.wt_proto.specs.Progress.{Reading, progress_over}
+use Rattle.wt_proto.specs.WalkProgress.{Reading, progress_over}
 use Rattle.wt_proto.specs.Uni.{is_final, uni_decides, uni_verdict_of}
 use Rattle.wt_proto.specs.Bi.{bi_decides, bi_verdict_of}
 use Rattle.wt_proto.specs.ControlWalk.{control_decides, control_walk_of}
@@ -36,11 +36,11 @@ use Rattle.wt_seam.specs.State.{TransportState}
 use Rattle.wt_seam.specs.State as seam
 use Rattle.wt_seam.proofs.Refining.{new_refines}
 use Rattle.wt_seam.proofs.Asking.{open_events}
-use Rattle.wt_inbox.specs.Kept.{reading_of}
+use Rattle.wt_inbox.specs.KeptReaders.{reading_of}
 use Rattle.wt_inbox.specs.Quiet.{quiet}
 use Rattle.wt_inbox.specs.State.{InboxState, SameAt, nothing_read, with_transport}
 use Rattle.wt_inbox.specs.Moves.{SameReaders}
-use Rattle.wt_inbox.proofs.Asked.{same-at}
+use Rattle.wt_inbox.proofs.AnswersStay.{same-at}
 use Rattle.wt_inbox.proofs.Consuming.{consume-consumes}
 use Rattle.wt_inbox.proofs.Staging.{here-consumed, is-at-same, other-consumed, staged-at}
 use Rattle.wt_inbox.proofs.Streams.{other-unread, quiet-changed}
@@ -58,7 +58,7 @@ reached-more start decide final outcome_of r at bytes more position h =
     λ n l. ap (λ xs. take n xs) split ∙ take-append-le n (drop at bytes) more (omega (arith, h.within, length-drop at bytes)) in
     record {
       count = h.count;
-      place = h.place;
+      at_offset = h.at_offset;
       within = omega (arith, h.within, length-append bytes more);
       read = h.read ∙ ap (λ (xs : List ℕ). progress_over decide start None 0 xs) (sym (front h.count (omega arith)));
       running = λ m l. ap (λ (xs : List ℕ). final (outcome_of xs Running)) (front m (omega arith)) ∙ h.running m l;

@@ -9,7 +9,7 @@ use Rattle.wt_wire.specs.declared.side.StreamEnd.{StreamEnd}
 use Rattle.wt_wire.specs.declared.side.StreamEnd.TheVariants.{Running}
 use Rattle.wt_proto.specs.declared.walk.Step.{Step}
 use Rattle.wt_proto.specs.Walk.{Reached, outcome_at, whole_walk}
-use Rattle.wt_proto.specs.Progress.{Progress, Reading, progress_after, progress_over, reached_in, read_on}
+use Rattle.wt_proto.specs.WalkProgress.{WalkProgress, Reading, progress_after, progress_over, reached_in, read_on}
 use Rattle.wt_proto.specs.Reading.{outcome_in}
 use Rattle.wt_proto.specs.Steady.{IsSteady}
 use Rattle.wt_proto.proofs.ProgressLaws.{fed-append, fed-fed}
@@ -17,30 +17,30 @@ use Rattle.wt_proto.proofs.ReadingLaws.{read-outcome}
 use Rattle.wt_seam_spec.specs.Unread.{ReadPosition, AtOffset, advance, from_position}
 use Rattle.wt_seam.specs.State.{TransportState}
 use Rattle.wt_seam.specs.Step.{end_now, unread_now}
-use Rattle.wt_inbox.specs.Kept.{Kept, Pulled, Pulls, outcome_after, outcome_by, outcome_now, reading_of}
+use Rattle.wt_inbox.specs.KeptReaders.{KeptReader, Pulled, Pulls, outcome_after, outcome_by, outcome_now, reading_of}
 use Rattle.wt_inbox.specs.Stage.{HasReached}
 use Rattle.wt_inbox.proofs.Offsets.{IsOffset}
 use Rattle.wt_inbox.proofs.QuietLaws.{same_end}
 
 module _ {S O : Type 0} (start : S) (decide : S → List ℕ → Step S O) (steady : IsSteady decide) (unfinished : StreamEnd → S → Bool → O) (final : O → Bool) (outcome_of : List ℕ → StreamEnd → O)
     (reaches : (bytes : List ℕ) (end : StreamEnd) → outcome_of bytes end ≡ outcome_at unfinished end (whole_walk decide start bytes)) where
-  abbrev over : List ℕ → Progress S O
-  over bytes = progress_over decide start None 0 bytes
+  abbrev read_over : List ℕ → WalkProgress S O
+  read_over bytes = progress_over decide start None 0 bytes
 
   -- ---- what is kept, before and after a pull
 
   -- the same reader and the same unread bytes
-  pub same-outcome : (kept later : List (Kept S O)) (t u : TransportState) (k : ℕ) (d e : StreamEnd) → reading_of start later k ≡ reading_of start kept k → unread_now u k ≡ unread_now t k → d ≡ e
+  pub same-outcome : (kept later : List (KeptReader S O)) (t u : TransportState) (k : ℕ) (d e : StreamEnd) → reading_of start later k ≡ reading_of start kept k → unread_now u k ≡ unread_now t k → d ≡ e
       → outcome_by decide start unfinished later u k d ≡ outcome_by decide start unfinished kept t k e
   same-outcome kept later t u k d e r n x = λ i. outcome_after decide unfinished (r i) (n i) (x i)
 
   pulls-same : (old new : Reading S O) (t u : TransportState) (id : ℕ) → Pulls start decide unfinished final outcome_of old new t u id → progress_after decide new.progress (unread_now u id) ≡ progress_after decide old.progress (unread_now t id)
   pulls-same old new t u id p =
-      ap (λ (q : Progress S O). progress_after decide q (unread_now u id)) p.taken
+      ap (λ (q : WalkProgress S O). progress_after decide q (unread_now u id)) p.taken
       ∙ (fed-fed decide steady old.progress (take p.count (unread_now t id)) (unread_now u id)
       ∙ ap (λ (xs : List ℕ). progress_after decide old.progress xs) (ap (λ (ys : List ℕ). take p.count (unread_now t id) ++ ys) p.consumes.here ∙ take-append-drop p.count (unread_now t id)))
 
-  module _ (old new : List (Kept S O)) (t u : TransportState) (id : ℕ) (p : Pulled start decide unfinished final outcome_of old new t u id) where
+  module _ (old new : List (KeptReader S O)) (t u : TransportState) (id : ℕ) (p : Pulled start decide unfinished final outcome_of old new t u id) where
     same-if : (b : Bool) (k : ℕ) → (id == k) ≡ b → (d e : StreamEnd) → d ≡ e → outcome_by decide start unfinished new u k d ≡ outcome_by decide start unfinished old t k e
     same-if true k h d e x =
         let there : id ≡ k = grind (arith, nat_tests) in
@@ -61,14 +61,14 @@ module _ {S O : Type 0} (start : S) (decide : S → List ℕ → Step S O) (stea
 
   -- ---- what is left unread
 
-  module _ (goes_on : (s : S) (b : Bool) → final (unfinished Running s b) ≡ false) where
+  module _ (still_going : (s : S) (b : Bool) → final (unfinished Running s b) ≡ false) where
     -- what isn't final with the end isn't while the stream runs
     runs-on : (end : StreamEnd) (s : S) (stop : Option O) (b : Bool) → final (unwrap_or stop (unfinished end s b)) ≡ false → final (unwrap_or stop (unfinished Running s b)) ≡ false
-    runs-on end s None b e = goes_on s b
+    runs-on end s None b e = still_going s b
     runs-on end s (Some o) b e = e
 
     -- unless the answer is final, nothing is left
-    pub asked-read : (old new : List (Kept S O)) (t u : TransportState) (id : ℕ) → Pulled start decide unfinished final outcome_of old new t u id → (end : StreamEnd) → final (outcome_by decide start unfinished old t id end) ≡ false → unread_now u id ≡ []
+    pub asked-read : (old new : List (KeptReader S O)) (t u : TransportState) (id : ℕ) → Pulled start decide unfinished final outcome_of old new t u id → (end : StreamEnd) → final (outcome_by decide start unfinished old t id end) ≡ false → unread_now u id ≡ []
     asked-read old new t u id p end e =
         let r : Reached S O = reached_in (progress_after decide (reading_of start old id).progress (unread_now t id)) in
         p.pulls.read (runs-on end r.state r.stop r.between e)
@@ -77,14 +77,14 @@ module _ {S O : Type 0} (start : S) (decide : S → List ℕ → Step S O) (stea
 
   module _ (r : Reading S O) (at : ℕ) (c : List ℕ) (position : ReadPosition) (h : HasReached start decide final outcome_of r at c position) where
     rest-is : from_position position c ≡ drop h.count (drop at c)
-    rest-is = ap (λ (q : ReadPosition). from_position q c) h.place ∙ sym (drop-drop h.count at c)
+    rest-is = ap (λ (q : ReadPosition). from_position q c) h.at_offset ∙ sym (drop-drop h.count at c)
 
-    all-is : (unread : List ℕ) → unread ≡ from_position position c → progress_after decide r.progress unread ≡ over (drop at c)
+    all-is : (unread : List ℕ) → unread ≡ from_position position c → progress_after decide r.progress unread ≡ read_over (drop at c)
     all-is unread e =
         ap (λ (xs : List ℕ). progress_after decide r.progress xs) (e ∙ rest-is)
-        ∙ (ap (λ (q : Progress S O). progress_after decide q (drop h.count (drop at c))) h.read
+        ∙ (ap (λ (q : WalkProgress S O). progress_after decide q (drop h.count (drop at c))) h.read
         ∙ (fed-append decide steady (take h.count (drop at c)) (drop h.count (drop at c)) start None 0
-        ∙ ap (λ (xs : List ℕ). over xs) (take-append-drop h.count (drop at c))))
+        ∙ ap (λ (xs : List ℕ). read_over xs) (take-append-drop h.count (drop at c))))
 
     pub outcome-is : (unread : List ℕ) (end : StreamEnd) → unread ≡ from_position position c → outcome_after decide unfinished r unread end ≡ outcome_of (drop at c) end
     outcome-is unread end e = read-outcome decide start unfinished outcome_of reaches (read_on decide r unread end) (drop at c) end (λ i. record { progress = all-is unread e i; end = end })
@@ -98,10 +98,10 @@ module _ {S O : Type 0} (start : S) (decide : S → List ℕ → Step S O) (stea
       bytes-are : (n : ℕ) → take h.count (drop at c) ++ take n (unread_now t id) ≡ take (h.count + n) (drop at c)
       bytes-are n = ap (λ (xs : List ℕ). take h.count (drop at c) ++ take n xs) (e ∙ rest-is) ∙ sym (take-add h.count n (drop at c))
 
-      read-is : new.progress ≡ over (take (h.count + p.count) (drop at c))
+      read-is : new.progress ≡ read_over (take (h.count + p.count) (drop at c))
       read-is = p.taken
-          ∙ (ap (λ (q : Progress S O). progress_after decide q (take p.count (unread_now t id))) h.read
-          ∙ (fed-append decide steady (take h.count (drop at c)) (take p.count (unread_now t id)) start None 0 ∙ ap (λ (xs : List ℕ). over xs) (bytes-are p.count)))
+          ∙ (ap (λ (q : WalkProgress S O). progress_after decide q (take p.count (unread_now t id))) h.read
+          ∙ (fed-append decide steady (take h.count (drop at c)) (take p.count (unread_now t id)) start None 0 ∙ ap (λ (xs : List ℕ). read_over xs) (bytes-are p.count)))
 
       goes : (m : ℕ) → m < h.count + p.count → final (outcome_of (take m (drop at c)) Running) ≡ false
       goes m l = elim (cases_lt m h.count) [
@@ -114,18 +114,18 @@ module _ {S O : Type 0} (start : S) (decide : S → List ℕ → Step S O) (stea
       pub reached-on : HasReached start decide final outcome_of new at c (advance p.count position)
       reached-on = record {
         count = h.count + p.count;
-        place = ap (advance p.count) h.place ∙ ap AtOffset (omega arith);
+        at_offset = ap (advance p.count) h.at_offset ∙ ap AtOffset (omega arith);
         within = omega (arith, h.within, few);
         read = read-is;
         running = goes;
       }
 
-      pub read-all : new.progress ≡ over (drop at c)
+      pub read-all : new.progress ≡ read_over (drop at c)
       read-all = ap (λ (x : Reading S O). x.progress) p.all ∙ all-is (unread_now t id) e
 
   -- ---- where it stops
 
-  module _ (offset : O → Option ℕ) (tells : IsOffset final outcome_of offset) (r : Reading S O) (c : List ℕ) (position : ReadPosition) (h : HasReached start decide final outcome_of r 0 c position) (all : r.progress ≡ over c) where
+  module _ (offset : O → Option ℕ) (says : IsOffset final outcome_of offset) (r : Reading S O) (c : List ℕ) (position : ReadPosition) (h : HasReached start decide final outcome_of r 0 c position) (all : r.progress ≡ read_over c) where
     same-bytes : (end : StreamEnd) → outcome_of (take h.count c) end ≡ outcome_of c end
     same-bytes end =
         sym (read-outcome decide start unfinished outcome_of reaches (record { progress = r.progress; end = end }) (take h.count c) end (λ i. record { progress = h.read i; end = end }))
@@ -134,9 +134,9 @@ module _ {S O : Type 0} (start : S) (decide : S → List ℕ → Step S O) (stea
     -- a reader stands exactly at the offset that its outcome tells
     pub stands-at : (end : StreamEnd) (g : ℕ) → offset (outcome_of c end) ≡ Some g → position ≡ AtOffset g
     stands-at end g e =
-        let short : g ≤ length (take h.count c) = tells.within (take h.count c) end g (ap offset (same-bytes end) ∙ e) in
+        let short : g ≤ length (take h.count c) = says.within (take h.count c) end g (ap offset (same-bytes end) ∙ e) in
         let size = length-take h.count c in
         elim (cases_lt g h.count) [
-          | inl lt ↦ (let no_ = h.running g lt in let yes_ = tells.decides c end g e in absurd cc)
-          | inr le ↦ (let same : 0 + h.count ≡ g = omega arith in h.place ∙ ap AtOffset same)
+          | inl lt ↦ (let no_ = h.running g lt in let yes_ = says.decides c end g e in absurd cc)
+          | inr le ↦ (let same : 0 + h.count ≡ g = omega arith in h.at_offset ∙ ap AtOffset same)
         ]

@@ -7,7 +7,7 @@ use Rattle.wt_wire.specs.declared.side.StreamEnd.{StreamEnd}
 use Rattle.wt_wire.specs.declared.side.StreamEnd.TheVariants.{Running}
 use Rattle.wt_proto.specs.declared.walk.Step.{Step}
 use Rattle.wt_proto.specs.Walk.{outcome_at}
-use Rattle.wt_proto.specs.Progress.{HasRead, Progress, Reading, progress_after, fed_reading, reached_in}
+use Rattle.wt_proto.specs.WalkProgress.{HasRead, WalkProgress, Reading, progress_after, fed_reading, reached_in}
 use Rattle.wt_proto.specs.Reading.{outcome_in}
 use Rattle.wt_proto.specs.Steady.{IsSteady}
 use Rattle.wt_proto.proofs.ProgressLaws.{fed-fed}
@@ -16,7 +16,7 @@ use Rattle.wt_streams.specs.Pieces.{first_piece}
 use Rattle.wt_seam.specs.State.{TransportState}
 use Rattle.wt_streams.proofs.PieceLaws.{drop_none, first_within, take_first}
 use Rattle.wt_seam.specs.Step.{after_consume, end_now, pieces_now, unread_now}
-use Rattle.wt_inbox.specs.Kept.{Consumes, Takes, Pulls, outcome_after}
+use Rattle.wt_inbox.specs.KeptReaders.{Consumes, Takes, Pulls, outcome_after}
 use Rattle.wt_inbox.proofs.Consuming.{consume-consumes, consumes-twice}
 
 -- ---- the first piece
@@ -68,7 +68,7 @@ module _ {S O : Type 0} (start : S) (decide : S → List ℕ → Step S O) (stea
 
     taken-twice : new ≡ fed_reading decide old (take (m + n) (unread_now t id))
     taken-twice = b.taken ∙ (ap (λ (r : Reading S O). fed_reading decide r (take n (unread_now u id))) a.taken
-        ∙ ap (λ (p : Progress S O). record { progress = p; end = old.end }) (fed-fed decide steady old.progress (take m (unread_now t id)) (take n (unread_now u id)) ∙ ap (λ (ys : List ℕ). progress_after decide old.progress ys) joined))
+        ∙ ap (λ (p : WalkProgress S O). record { progress = p; end = old.end }) (fed-fed decide steady old.progress (take m (unread_now t id)) (take n (unread_now u id)) ∙ ap (λ (ys : List ℕ). progress_after decide old.progress ys) joined))
 
     running-twice : (bytes : List ℕ) (end : StreamEnd) → HasRead decide start old bytes end → (k : ℕ) → k < m + n → final (outcome_of (bytes ++ take k (unread_now t id)) end) ≡ false
     running-twice bytes end has k l = elim (cases_lt k m) [
@@ -87,15 +87,15 @@ module _ {S O : Type 0} (start : S) (decide : S → List ℕ → Step S O) (stea
 
   -- ---- all of it
 
-  module _ (unfinished : StreamEnd → S → Bool → O) (goes_on : (s : S) (b : Bool) → final (unfinished Running s b) ≡ false) where
+  module _ (unfinished : StreamEnd → S → Bool → O) (still_going : (s : S) (b : Bool) → final (unfinished Running s b) ≡ false) where
     module _ (old new : Reading S O) (t u : TransportState) (id n : ℕ) (a : Takes start decide final outcome_of old new t u id n) (runs : old.end ≡ Running) where
       took-front : new.progress ≡ progress_after decide old.progress (take n (unread_now t id))
       took-front = ap (λ (r : Reading S O). r.progress) a.taken
 
       all-if : (final (outcome_in unfinished new) ≡ true) ⊎ (unread_now u id ≡ []) → progress_after decide new.progress (unread_now u id) ≡ new.progress
-      all-if (inl f) = stays decide final unfinished goes_on new (unread_now u id) (ap (λ (r : Reading S O). r.end) a.taken ∙ runs) f
+      all-if (inl f) = stays decide final unfinished still_going new (unread_now u id) (ap (λ (r : Reading S O). r.end) a.taken ∙ runs) f
       all-if (inr none) = ap (λ (xs : List ℕ). progress_after decide new.progress xs) none
-          ∙ (ap (λ (p : Progress S O). progress_after decide p []) took-front
+          ∙ (ap (λ (p : WalkProgress S O). progress_after decide p []) took-front
           ∙ (fed-fed decide steady old.progress (take n (unread_now t id)) []
           ∙ (ap (λ (xs : List ℕ). progress_after decide old.progress xs) (append-nil (take n (unread_now t id))) ∙ sym took-front)))
 
@@ -103,7 +103,7 @@ module _ {S O : Type 0} (start : S) (decide : S → List ℕ → Step S O) (stea
       pub took-all : (final (outcome_in unfinished new) ≡ true) ⊎ (unread_now u id ≡ []) → new.progress ≡ progress_after decide old.progress (unread_now t id)
       took-all done =
           sym (all-if done)
-          ∙ (ap (λ (p : Progress S O). progress_after decide p (unread_now u id)) took-front
+          ∙ (ap (λ (p : WalkProgress S O). progress_after decide p (unread_now u id)) took-front
           ∙ (fed-fed decide steady old.progress (take n (unread_now t id)) (unread_now u id)
           ∙ ap (λ (xs : List ℕ). progress_after decide old.progress xs) (ap (λ (ys : List ℕ). take n (unread_now t id) ++ ys) a.consumes.here ∙ take-append-drop n (unread_now t id))))
 
@@ -111,7 +111,7 @@ module _ {S O : Type 0} (start : S) (decide : S → List ℕ → Step S O) (stea
       pub decided-all : (first : Reading S O) → old.progress ≡ first.progress → (final (outcome_in unfinished new) ≡ true) ⊎ (unread_now u id ≡ [])
           → final (outcome_in unfinished new) ≡ final (outcome_after decide unfinished first (unread_now t id) Running)
       decided-all first same done =
-          let progress : new.progress ≡ progress_after decide first.progress (unread_now t id) = took-all done ∙ ap (λ (p : Progress S O). progress_after decide p (unread_now t id)) same in
+          let progress : new.progress ≡ progress_after decide first.progress (unread_now t id) = took-all done ∙ ap (λ (p : WalkProgress S O). progress_after decide p (unread_now t id)) same in
           let end : new.end ≡ Running = ap (λ (r : Reading S O). r.end) a.taken ∙ runs in
           λ i. final (outcome_at unfinished (end i) (reached_in (progress i)))
 
@@ -123,13 +123,13 @@ module _ {S O : Type 0} (start : S) (decide : S → List ℕ → Step S O) (stea
       -- its reading on, of a reader whose progress was the same
       pub pulled-all : (first last : Reading S O) → old.progress ≡ first.progress → last.progress ≡ new.progress → last.end ≡ end_now t id
           → (final (outcome_in unfinished new) ≡ true) ⊎ (unread_now u id ≡ []) → Pulls start decide unfinished final outcome_of first last t u id
-      pulled-all first last same told end done =
-          let progress : last.progress ≡ progress_after decide first.progress (unread_now t id) = told ∙ (took-all done ∙ ap (λ (p : Progress S O). progress_after decide p (unread_now t id)) same) in
+      pulled-all first last same reported end done =
+          let progress : last.progress ≡ progress_after decide first.progress (unread_now t id) = reported ∙ (took-all done ∙ ap (λ (p : WalkProgress S O). progress_after decide p (unread_now t id)) same) in
           record {
             count = n;
             consumes = a.consumes;
             all = λ i. record { progress = progress i; end = end i };
-            taken = told ∙ (took-front ∙ ap (λ (p : Progress S O). progress_after decide p (take n (unread_now t id))) same);
+            taken = reported ∙ (took-front ∙ ap (λ (p : WalkProgress S O). progress_after decide p (take n (unread_now t id))) same);
             running = λ bytes e. a.running bytes Running (λ i. record { progress = (same ∙ e) i; end = runs i });
             read = λ undecided. left-none done (decided-all first same done ∙ undecided);
           }

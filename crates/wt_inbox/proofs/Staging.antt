@@ -8,7 +8,7 @@ use Rattle.wt_turn.specs.declared.action.Action.{Action}
 use Rattle.wt_turn.specs.Log.{Log, events_of}
 use Rattle.wt_proto.specs.declared.walk.Step.{Step}
 use Rattle.wt_proto.specs.declared.control_walk.ControlWalk.{ControlWalk}
-use Rattle.wt_proto.specs.Progress.{Reading}
+use Rattle.wt_proto.specs.WalkProgress.{Reading}
 use Rattle.wt_proto.specs.Steady.{IsLawful}
 use Rattle.wt_proto.specs.Uni.{is_final, uni_decides, uni_verdict_of}
 use Rattle.wt_proto.specs.Bi.{bi_decides, bi_verdict_of}
@@ -27,12 +27,12 @@ use Rattle.wt_seam.specs.State.{TransportState, IsWithin}
 use Rattle.wt_seam.specs.State as seam
 use Rattle.wt_seam.specs.Step.{unread_now}
 use Rattle.wt_seam.proofs.Refining.{refined_end, refined_unread}
-use Rattle.wt_inbox.specs.Kept.{Kept, no_reading, outcome_by, outcome_now, reading_of}
+use Rattle.wt_inbox.specs.KeptReaders.{KeptReader, no_reading, outcome_by, outcome_now, reading_of}
 use Rattle.wt_inbox.specs.State.{InboxState, bi_verdict_now, control_now, response_now, session_now, uni_verdict_now, with_transport}
 use Rattle.wt_inbox.specs.Moves.{BiPulled, BiTaken, ControlPulled, PulledIn, ResponsePulled, ResponseTaken, SameReaders, SessionPulled, SessionTaken, TakenIn, UniPulled, UniTaken}
 use Rattle.wt_inbox.specs.Stage.{Stage, Untouched, UniHeader, BiHeader, ResponseHead, Body, ControlBody, SessionBody, GivenUp, Anywhere, HasNoWalk, HasReached, IsAt, Refines, awaits_bi, awaits_response, awaits_uni, control_offset, session_offset, stage_from, verdict_offset, with_stage}
 use Rattle.wt_inbox.proofs.Offsets.{IsOffset, bi_offset, response_offset_is, uni_offset}
-use Rattle.wt_inbox.proofs.Asked.{IsKind, bi-kind, control-kind, pulled-readers, released-readers, released-rest, response-kind, session-kind, uni-kind}
+use Rattle.wt_inbox.proofs.AnswersStay.{IsKind, bi-kind, control-kind, pulled-readers, released-readers, released-rest, response-kind, session-kind, uni-kind}
 use Rattle.wt_inbox.proofs.Reaching.{outcome-is, reached-on, read-all, stands-at}
 
 -- ---- one stream
@@ -74,12 +74,12 @@ staged-at x log position stage id to here others k = by (id == k) refl
 -- nothing was read yet from this offset on
 reached-none : {S O : Type 0} {start : S} {decide : S → List ℕ → Step S O} {final : O → Bool} {outcome_of : List ℕ → StreamEnd → O} {r : Reading S O} {at : ℕ} {bytes : List ℕ} {position : ReadPosition}
     → r ≡ no_reading start → position ≡ AtOffset at → IsWithin position bytes → HasReached start decide final outcome_of r at bytes position
-reached-none {at} {bytes} none place within =
-    let few : at ≤ length bytes = subst (λ (p : ReadPosition). IsWithin p bytes) place within in
+reached-none {at} {bytes} none at_offset within =
+    let few : at ≤ length bytes = subst (λ (p : ReadPosition). IsWithin p bytes) at_offset within in
     let same : at ≡ at + 0 = omega arith in
     record {
       count = 0;
-      place = place ∙ ap AtOffset same;
+      at_offset = at_offset ∙ ap AtOffset same;
       within = omega arith;
       read = ap (λ (x : Reading _ _). x.progress) none;
       running = λ m l. absurd (omega arith);
@@ -118,21 +118,21 @@ module _ {side : Side} {x : InboxState} {log : Log} {stage : ℕ → Stage} {unt
 -- ---- a reader of any kind
 
 -- what is read in front of the walks: its readers are kept beside theirs, and its outcome tells the offset where they stop
-record IsHeader {S O : Type 0} (final : O → Bool) (outcome_of : List ℕ → StreamEnd → O) (with_kept : InboxState → List (Kept S O) → InboxState) (offset : O → Option ℕ) : Type 0 where
-  pub walks : (x : InboxState) (l : List (Kept S O)) (t : TransportState) (k : ℕ) → HasNoWalk x k → HasNoWalk (with_transport (with_kept x l) t) k
-  pub tells : IsOffset final outcome_of offset
+record IsHeader {S O : Type 0} (final : O → Bool) (outcome_of : List ℕ → StreamEnd → O) (with_kept : InboxState → List (KeptReader S O) → InboxState) (offset : O → Option ℕ) : Type 0 where
+  pub walks : (x : InboxState) (l : List (KeptReader S O)) (t : TransportState) (k : ℕ) → HasNoWalk x k → HasNoWalk (with_transport (with_kept x l) t) k
+  pub says : IsOffset final outcome_of offset
 
 uni-header : IsHeader is_final uni_verdict_of (λ (x : InboxState) kept. record x { unis = kept }) verdict_offset
-uni-header = record { walks = λ x l t k n. record { control = n.control; session = n.session }; tells = uni_offset }
+uni-header = record { walks = λ x l t k n. record { control = n.control; session = n.session }; says = uni_offset }
 
 bi-header : IsHeader is_final bi_verdict_of (λ (x : InboxState) kept. record x { bis = kept }) verdict_offset
-bi-header = record { walks = λ x l t k n. record { control = n.control; session = n.session }; tells = bi_offset }
+bi-header = record { walks = λ x l t k n. record { control = n.control; session = n.session }; says = bi_offset }
 
 response-header : IsHeader is_response_final response_walk_of (λ (x : InboxState) kept. record x { responses = kept }) response_offset
-response-header = record { walks = λ x l t k n. record { control = n.control; session = n.session }; tells = response_offset_is }
+response-header = record { walks = λ x l t k n. record { control = n.control; session = n.session }; says = response_offset_is }
 
 module _ {S O : Type 0} {start : S} {decide : S → List ℕ → Step S O} {wants : List ℕ → ℕ} {unfinished : StreamEnd → S → Bool → O} {final : O → Bool} {outcome_of : List ℕ → StreamEnd → O}
-    {kept : InboxState → List (Kept S O)} {with_kept : InboxState → List (Kept S O) → InboxState} (law : IsLawful start decide wants unfinished final outcome_of) (kind : IsKind start kept with_kept)
+    {kept : InboxState → List (KeptReader S O)} {with_kept : InboxState → List (KeptReader S O) → InboxState} (law : IsLawful start decide wants unfinished final outcome_of) (kind : IsKind start kept with_kept)
     {side : Side} {x : InboxState} {log : Log} {stage : ℕ → Stage} {untaken : List Action} (r : Refines side x log stage untaken) (id : ℕ) where
   unread-is : unread_now x.transport id ≡ from_position (r.position id) (contents log id)
   unread-is = refined_unread side x.transport log r.position untaken r.transport id
@@ -184,7 +184,7 @@ module _ {S O : Type 0} {start : S} {decide : S → List ℕ → Step S O} {want
         → IsAt z id (contents log id) (position_after r.position id p.pulled.pulls.count id) (stage_from at)
     body-then q None e = tt
     body-then {z} q (Some at) e = (
-      stands-at start decide law.steady unfinished final outcome_of law.reaches offset header.tells (reading_of start (kept y) id) (contents log id) (position_after r.position id p.pulled.pulls.count id) header-then.0
+      stands-at start decide law.steady unfinished final outcome_of law.reaches offset header.says (reading_of start (kept y) id) (contents log id) (position_after r.position id p.pulled.pulls.count id) header-then.0
           (read-all start decide law.steady unfinished final outcome_of law.reaches (reading_of start (kept x) id) 0 (contents log id) (r.position id) h.0 (reading_of start (kept y) id) x.transport y.transport id p.pulled.pulls unread-is)
           (end_of (events_of log) id) at e,
       subst (λ (w : InboxState). HasNoWalk w id) (sym (released-rest law kind p q)) (header.walks y (kept z) y.transport id header-then.1),

@@ -1,5 +1,5 @@
 pub mod Quiet
-pub mod Kept
+pub mod KeptReaders
 pub mod State
 pub mod Stage
 pub mod Moves

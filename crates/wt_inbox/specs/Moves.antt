@@ -7,7 +7,7 @@ use Rattle.wt_proto.specs.Bi.{bi_decides, bi_unfinished, bi_verdict_of}
 use Rattle.wt_proto.specs.ControlWalk.{control_decides, control_unfinished, control_walk_of}
 use Rattle.wt_proto.specs.SessionWalk.{is_over, session_decides, session_unfinished, session_walk_of}
 use Rattle.wt_proto.specs.ResponseWalk.{is_response_final, response_decides, response_unfinished, response_walk_of}
-use Rattle.wt_inbox.specs.Kept.{Kept, Pulled, is_kept, reading_of}
+use Rattle.wt_inbox.specs.KeptReaders.{KeptReader, Pulled, is_kept, reading_of}
 use Rattle.wt_inbox.specs.State.{InboxState, with_transport}
 
 -- the readers of a stream are the same
@@ -19,13 +19,14 @@ pub record SameReaders (x y : InboxState) (k : ℕ) : Type 0 where
   pub session : reading_of tt y.sessions k ≡ reading_of tt x.sessions k
 
 -- the reader of a stream among those of one kind read on, and nothing else changed
-pub record PulledIn {S O : Type 0} (start : S) (decide : S → List ℕ → Step S O) (unfinished : StreamEnd → S → Bool → O) (final : O → Bool) (outcome_of : List ℕ → StreamEnd → O)
-    (kept : InboxState → List (Kept S O)) (with_kept : InboxState → List (Kept S O) → InboxState) (x y : InboxState) (id : ℕ) : Type 0 where
+pub record PulledIn {S O : Type 0} (start : S) (decide : S → List ℕ → Step S O) (unfinished : StreamEnd → S → Bool → O) (final : O
+    → Bool) (outcome_of : List ℕ → StreamEnd → O)
+    (kept : InboxState → List (KeptReader S O)) (with_kept : InboxState → List (KeptReader S O) → InboxState) (x y : InboxState) (id : ℕ) : Type 0 where
   pub pulled : Pulled start decide unfinished final outcome_of (kept x) (kept y) x.transport y.transport id
   pub rest : y ≡ with_transport (with_kept x (kept y)) y.transport
 
 -- the reader of a stream among those of one kind was let go, and nothing else changed
-pub record TakenIn {S O : Type 0} (start : S) (kept : InboxState → List (Kept S O)) (with_kept : InboxState → List (Kept S O) → InboxState) (x y : InboxState) (id : ℕ) : Type 0 where
+pub record TakenIn {S O : Type 0} (start : S) (kept : InboxState → List (KeptReader S O)) (with_kept : InboxState → List (KeptReader S O) → InboxState) (x y : InboxState) (id : ℕ) : Type 0 where
   pub others : (k : ℕ) → (id == k) ≡ false → reading_of start (kept y) k ≡ reading_of start (kept x) k
   pub gone : is_kept (kept y) id ≡ false
   pub count : length (kept y) ≡ (if is_kept (kept x) id then length (kept x) - 1 else length (kept x))

@@ -10,7 +10,8 @@ use Rattle.wt_wire.specs.declared.side.Side.{Side}
 
 -- the law holds of each log that the inbox refines
 abbrev pub OfEachLog : InboxState → (Side → Log → (ℕ → Stage) → List Action → Type 0) → Type 0
-OfEachLog x Law = (side : Side) (log : Log) (stage : ℕ → Stage) (untaken : List Action) → Refines side x log stage untaken → Law side log stage untaken
+OfEachLog x Law = (side : Side) (log : Log) (stage : ℕ → Stage) (untaken : List Action) → Refines side x log stage untaken
+    → Law side log stage untaken
 
 -- it is so in each log that the inbox refines
 abbrev pub Tells : InboxState → (Side → Log → Type 0) → Type 0

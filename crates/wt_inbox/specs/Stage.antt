@@ -8,7 +8,7 @@ use Rattle.wt_turn.specs.Log.{Log, actions_of}
 use Rattle.wt_proto.specs.declared.walk.Step.{Step}
 use Rattle.wt_proto.specs.declared.verdict.Verdict.{Verdict}
 use Rattle.wt_proto.specs.declared.verdict.Verdict.TheVariants as verdicts
-use Rattle.wt_proto.specs.Progress.{Reading, progress_over}
+use Rattle.wt_proto.specs.WalkProgress.{Reading, progress_over}
 use Rattle.wt_proto.specs.Uni.{uni_decides, uni_verdict_of, is_final}
 use Rattle.wt_proto.specs.Bi.{bi_decides, bi_verdict_of}
 use Rattle.wt_proto.specs.ControlWalk.{control_decides, control_walk_of}
@@ -18,7 +18,7 @@ use Rattle.wt_seam_spec.specs.Streams.{contents, local_count, peer_bi, peer_uni}
 use Rattle.wt_seam_spec.specs.Unread.{ReadPosition, AtOffset}
 use Rattle.wt_seam_spec.specs.Unread as positions
 use Rattle.wt_seam.specs.State as seam
-use Rattle.wt_inbox.specs.Kept.{no_reading, reading_of}
+use Rattle.wt_inbox.specs.KeptReaders.{no_reading, reading_of}
 use Rattle.wt_inbox.specs.State.{InboxState}
 
 -- ---- stages
@@ -97,12 +97,12 @@ stage_from (Some at) = Body at
 pub record HasReached {S O : Type 0} (start : S) (decide : S → List ℕ → Step S O) (final : O → Bool) (outcome_of : List ℕ → StreamEnd → O)
     (r : Reading S O) (at : ℕ) (bytes : List ℕ) (position : ReadPosition) : Type 0 where
   pub count : ℕ
-  pub place : position ≡ AtOffset (at + count)
+  pub at_offset : position ≡ AtOffset (at + count)
   pub within : at + count ≤ length bytes
   pub read : r.progress ≡ progress_over decide start None 0 (take count (drop at bytes))
   pub running : (m : ℕ) → m < count → final (outcome_of (take m (drop at bytes)) Running) ≡ false
 
--- no walk behind a header has read the stream
+-- no walk after a header has read the stream
 pub record HasNoWalk (x : InboxState) (k : ℕ) : Type 0 where
   pub control : reading_of None x.controls k ≡ no_reading None
   pub session : reading_of tt x.sessions k ≡ no_reading tt
@@ -119,7 +119,8 @@ abbrev pub IsAt : InboxState → ℕ → List ℕ → ReadPosition → Stage →
 IsAt x k bytes position Untouched = (position ≡ AtOffset 0) × HasNoReader x k
 IsAt x k bytes position UniHeader = HasReached tt uni_decides is_final uni_verdict_of (reading_of tt x.unis k) 0 bytes position × HasNoWalk x k
 IsAt x k bytes position BiHeader = HasReached 0 bi_decides is_final bi_verdict_of (reading_of 0 x.bis k) 0 bytes position × HasNoWalk x k
-IsAt x k bytes position ResponseHead = HasReached 0 response_decides is_response_final response_walk_of (reading_of 0 x.responses k) 0 bytes position × HasNoWalk x k
+IsAt x k bytes position ResponseHead = HasReached 0 response_decides is_response_final response_walk_of (reading_of 0 x.responses k) 0 bytes position
+    × HasNoWalk x k
 IsAt x k bytes position (Body n) = (position ≡ AtOffset n) × HasNoWalk x k
 IsAt x k bytes position (ControlBody at) = HasReached None control_decides (λ w. is_some w.fault) control_walk_of (reading_of None x.controls k) at bytes position
 IsAt x k bytes position (SessionBody at) = HasReached tt session_decides is_over session_walk_of (reading_of tt x.sessions k) at bytes position

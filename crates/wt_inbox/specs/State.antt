@@ -16,16 +16,16 @@ use Rattle.wt_seam.specs.State.{TransportState}
 use Rattle.wt_message.specs.FixedBytes.{local_control_bytes}
 use Rattle.wt_seam_spec.specs.Streams.{local_uni, peer_bi, peer_uni}
 use Rattle.wt_seam.specs.Step.{count_now, credit_now, nothing_connected, stop_now, unread_now}
-use Rattle.wt_inbox.specs.Kept.{Kept, outcome_by, outcome_now}
+use Rattle.wt_inbox.specs.KeptReaders.{KeptReader, outcome_by, outcome_now}
 
 -- what an inbox keeps: the transport, and readers by what they read
 pub record InboxState : Type 0 where
   pub transport : TransportState
-  pub unis : List (Kept (Unit {0}) Verdict)  -- headers of the peer's unidirectional streams
-  pub bis : List (Kept ℕ Verdict)  -- headers of the peer's bidirectional streams
-  pub responses : List (Kept ℕ ResponseWalk)  -- a session's stream up to the response, on a client
-  pub controls : List (Kept (Option Settings) ControlWalk)  -- the peer's control stream behind its type
-  pub sessions : List (Kept (Unit {0}) SessionWalk)  -- a session's stream behind what established the session
+  pub unis : List (KeptReader (Unit {0}) Verdict)  -- headers of the peer's unidirectional streams
+  pub bis : List (KeptReader ℕ Verdict)  -- headers of the peer's bidirectional streams
+  pub responses : List (KeptReader ℕ ResponseWalk)  -- a session's stream up to the response, on a client
+  pub controls : List (KeptReader (Option Settings) ControlWalk)  -- the peer's control stream after its type
+  pub sessions : List (KeptReader (Unit {0}) SessionWalk)  -- a session's stream after what established the session
 
 -- how many readers are kept
 abbrev pub readers_now : InboxState → ℕ
@@ -72,7 +72,7 @@ pub record SameAt (x y : InboxState) (k : ℕ) : Type 0 where
   pub response : response_now y k ≡ response_now x k
   pub control : control_now y k ≡ control_now x k
   pub session : session_now y k ≡ session_now x k
-  pub over : is_over_by_bytes y k ≡ is_over_by_bytes x k
+  pub stays_over : is_over_by_bytes y k ≡ is_over_by_bytes x k
   pub unread : unread_now y.transport k ≡ unread_now x.transport k
 
 -- ---- what the driver asks of the transport

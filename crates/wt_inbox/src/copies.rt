@@ -33,7 +33,7 @@ pub(crate) fn copy_walk(alloc: Global, walk: &ResponseWalk) -> Result<ResponseWa
     ensures { IfOk result (λ copied. copied ≡ walk.now) }
 {
     match walk {
-        ResponseWalk::Waiting => Ok(ResponseWalk::Waiting),
+        ResponseWalk::Incomplete => Ok(ResponseWalk::Incomplete),
         ResponseWalk::Response(response, at) => {
             let response = copy_response(alloc, response)?;
             Ok(ResponseWalk::Response(response, *at))

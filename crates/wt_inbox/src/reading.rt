@@ -2,11 +2,11 @@
 ghost use Rattle.std.specs.Prelude.{◌≡◌, ◌≤◌, ◌<◌, ◌++◌, ◌⊎◌, ℕ, List, Bool, [], IfOk, length, take, true, false};
 ghost use Rattle.wt_wire.specs.declared.side.StreamEnd.{StreamEnd};
 ghost use Rattle.wt_wire.specs.declared.side.StreamEnd.TheVariants.{Running};
-ghost use Rattle.wt_proto.specs.Progress.{HasRead, fed_reading};
+ghost use Rattle.wt_proto.specs.WalkProgress.{HasRead, fed_reading};
 ghost use Rattle.wt_proto.specs.Reading.{outcome_in};
 ghost use Rattle.wt_proto.specs.Steady.{IsSteady};
 ghost use Rattle.wt_seam.specs.Step.{unread_now};
-ghost use Rattle.wt_inbox.specs.Kept.{Pulls, Takes, outcome_after};
+ghost use Rattle.wt_inbox.specs.KeptReaders.{Pulls, Takes, outcome_after};
 
 use std::marker::Brand;
 use std::sync::ledger::{Blank, Ledger};
@@ -29,8 +29,9 @@ fn feed_counted<W: Walk, L: Ledger>(
     requires some { 0 < L.parts }
     ensures within { IfOk result (λ n. n ≤ length piece.now) }
     ensures taken { IfOk result (λ n. reader.new ≡ fed_reading W.decides reader.old (take n piece.now)) }
-    ensures running { (bytes : List ℕ) (end : StreamEnd) (k : ℕ) → HasRead W.decides W.start_state reader.old bytes end → IfOk result (λ n. k < n → W.is_final_outcome (W.outcome_of (bytes ++ take k piece.now) end) ≡ false) }
-    ensures stands { IfOk result (λ n. n < length piece.now → W.is_final_outcome (outcome_in W.unfinished_at reader.new) ≡ true) }
+    ensures running { (bytes : List ℕ) (end : StreamEnd) (k : ℕ) → HasRead W.decides W.start_state reader.old bytes end
+        → IfOk result (λ n. k < n → W.is_final_outcome (W.outcome_of (bytes ++ take k piece.now) end) ≡ false) }
+    ensures stops_short { IfOk result (λ n. n < length piece.now → W.is_final_outcome (outcome_in W.unfinished_at reader.new) ≡ true) }
 {
     let mut steps = Steps::<L>::new(blank);
     reader.feed(piece, &mut steps)
@@ -40,8 +41,9 @@ fn feed_counted<W: Walk, L: Ledger>(
 fn feed<W: Walk>(reader: &mut StreamReader<W>, piece: &[u8]) -> Result<usize, OutOfMemory>
     ensures within { IfOk result (λ n. n ≤ length piece.now) }
     ensures taken { IfOk result (λ n. reader.new ≡ fed_reading W.decides reader.old (take n piece.now)) }
-    ensures running { (bytes : List ℕ) (end : StreamEnd) (k : ℕ) → HasRead W.decides W.start_state reader.old bytes end → IfOk result (λ n. k < n → W.is_final_outcome (W.outcome_of (bytes ++ take k piece.now) end) ≡ false) }
-    ensures stands { IfOk result (λ n. n < length piece.now → W.is_final_outcome (outcome_in W.unfinished_at reader.new) ≡ true) }
+    ensures running { (bytes : List ℕ) (end : StreamEnd) (k : ℕ) → HasRead W.decides W.start_state reader.old bytes end
+        → IfOk result (λ n. k < n → W.is_final_outcome (W.outcome_of (bytes ++ take k piece.now) end) ≡ false) }
+    ensures stops_short { IfOk result (λ n. n < length piece.now → W.is_final_outcome (outcome_in W.unfinished_at reader.new) ≡ true) }
 {
     feed_counted::<W, Brand>(reader, piece, Blank::new(1))
 }
@@ -52,9 +54,11 @@ fn read_piece<W: Walk>(
     id: StreamId,
     reader: &mut StreamReader<W>,
 ) -> Result<bool, OutOfMemory>
-    ensures takes { IfOk result (λ more. (count : ℕ) × Takes W.start_state W.decides W.is_final_outcome W.outcome_of reader.old reader.new transport.old transport.new id count) }
+    ensures bytes_taken { IfOk result (λ more. (count : ℕ)
+        × Takes W.start_state W.decides W.is_final_outcome W.outcome_of reader.old reader.new transport.old transport.new id count) }
     ensures more { IfOk result (λ more. more ≡ true → length (unread_now transport.new id) < length (unread_now transport.old id)) }
-    ensures done { IfOk result (λ more. more ≡ false → (W.is_final_outcome (outcome_in W.unfinished_at reader.new) ≡ true) ⊎ (unread_now transport.new id ≡ [])) }
+    ensures done { IfOk result (λ more. more ≡ false
+        → (W.is_final_outcome (outcome_in W.unfinished_at reader.new) ≡ true) ⊎ (unread_now transport.new id ≡ [])) }
 {
     let piece = transport.peek(id);
     let size = piece.len();
@@ -70,7 +74,8 @@ fn read_pieces<W: Walk>(
     reader: &mut StreamReader<W>,
 ) -> Result<(), OutOfMemory>
     requires { IsSteady W.decides }
-    ensures takes { IfOk result (λ _. (count : ℕ) × Takes W.start_state W.decides W.is_final_outcome W.outcome_of reader.old reader.new transport.old transport.new id count) }
+    ensures bytes_taken { IfOk result (λ _. (count : ℕ)
+        × Takes W.start_state W.decides W.is_final_outcome W.outcome_of reader.old reader.new transport.old transport.new id count) }
     ensures done { IfOk result (λ _. (W.is_final_outcome (outcome_in W.unfinished_at reader.new) ≡ true) ⊎ (unread_now transport.new id ≡ [])) }
 {
     let mut goes = read_piece(transport, id, reader)?;
@@ -88,9 +93,10 @@ pub(crate) fn read_all<W: Walk>(
     reader: &mut StreamReader<W>,
 ) -> Result<bool, OutOfMemory>
     requires steady { IsSteady W.decides }
-    requires goes_on { (s : W.State) (between : Bool) → W.is_final_outcome (W.unfinished_at Running s between) ≡ false }
+    requires still_going { (s : W.State) (between : Bool) → W.is_final_outcome (W.unfinished_at Running s between) ≡ false }
     ensures pulls { IfOk result (λ _. Pulls W.start_state W.decides W.unfinished_at W.is_final_outcome W.outcome_of reader.old reader.new transport.old transport.new id) }
-    ensures decided { IfOk result (λ decided. decided ≡ W.is_final_outcome (outcome_after W.decides W.unfinished_at reader.old (unread_now transport.old id) Running)) }
+    ensures decided { IfOk result (λ decided. decided
+        ≡ W.is_final_outcome (outcome_after W.decides W.unfinished_at reader.old (unread_now transport.old id) Running)) }
 {
     reader.end(StreamEnd::Running);
     read_pieces(transport, id, reader)?;

@@ -5,7 +5,7 @@ ghost use Rattle.wt_wire.specs.declared.side.StreamEnd.TheVariants.{Running};
 ghost use Rattle.wt_proto.specs.Reading.{outcome_in};
 ghost use Rattle.wt_proto.specs.Steady.{IsSteady};
 ghost use Rattle.wt_seam.specs.Step.{unread_now};
-ghost use Rattle.wt_inbox.specs.Kept.{Pulled, Pulls, StandsAt, is_kept, no_reading, outcome_after, outcome_by, reading_of};
+ghost use Rattle.wt_inbox.specs.KeptReaders.{Pulled, Pulls, StandsAt, is_kept, no_reading, outcome_after, outcome_by, reading_of};
 
 use crate::reading::read_all;
 use std::alloc::Global;
@@ -24,9 +24,9 @@ pub(crate) struct Entry<W: Walk> {
 }
 
 impl<W: Walk> Model for Entry<W> {
-    ghost use Rattle.wt_inbox.specs.Kept.{Kept};
+    ghost use Rattle.wt_inbox.specs.KeptReaders.{KeptReader};
 
-    ghost Value = { Kept W.State W.Outcome };
+    ghost Value = { KeptReader W.State W.Outcome };
 
     ghost view = { λ e. record { id = e.id; reading = e.reader } };
 }
@@ -39,9 +39,9 @@ pub(crate) struct Shelf<W: Walk> {
 
 impl<W: Walk> Model for Shelf<W> {
     ghost use Rattle.std.specs.Prelude.{List};
-    ghost use Rattle.wt_inbox.specs.Kept.{HasOneEach, Kept};
+    ghost use Rattle.wt_inbox.specs.KeptReaders.{HasOneEach, KeptReader};
 
-    ghost Value = { List (Kept W.State W.Outcome) };
+    ghost Value = { List (KeptReader W.State W.Outcome) };
 
     ghost view = { λ s. s.entries.items };
 
@@ -58,10 +58,11 @@ impl<W: Walk> Entry<W> {
     /// Reads on, and tells whether the bytes alone made the outcome final.
     fn read(&mut self, transport: &mut Transport) -> Result<bool, OutOfMemory>
         requires steady { IsSteady W.decides }
-        requires goes_on { (s : W.State) (between : Bool) → W.is_final_outcome (W.unfinished_at Running s between) ≡ false }
+        requires still_going { (s : W.State) (between : Bool) → W.is_final_outcome (W.unfinished_at Running s between) ≡ false }
         ensures id { self.new.id ≡ self.old.id }
         ensures pulls { IfOk result (λ _. Pulls W.start_state W.decides W.unfinished_at W.is_final_outcome W.outcome_of self.old.reading self.new.reading transport.old transport.new self.old.id) }
-        ensures decided { IfOk result (λ decided. decided ≡ W.is_final_outcome (outcome_after W.decides W.unfinished_at self.old.reading (unread_now transport.old self.old.id) Running)) }
+        ensures decided { IfOk result (λ decided. decided
+            ≡ W.is_final_outcome (outcome_after W.decides W.unfinished_at self.old.reading (unread_now transport.old self.old.id) Running)) }
     {
         read_all(transport, self.id, &mut self.reader)
     }
@@ -130,10 +131,11 @@ impl<W: Walk> Shelf<W> {
         fresh: StreamReader<W>,
     ) -> Result<bool, OutOfMemory>
         requires steady { IsSteady W.decides }
-        requires goes_on { (s : W.State) (between : Bool) → W.is_final_outcome (W.unfinished_at Running s between) ≡ false }
+        requires still_going { (s : W.State) (between : Bool) → W.is_final_outcome (W.unfinished_at Running s between) ≡ false }
         requires fresh { fresh ≡ no_reading W.start_state }
         ensures pulled { OnOk result (Pulled W.start_state W.decides W.unfinished_at W.is_final_outcome W.outcome_of self.old self.new transport.old transport.new id) }
-        ensures decided { IfOk result (λ decided. decided ≡ W.is_final_outcome (outcome_by W.decides W.start_state W.unfinished_at self.old transport.old id Running)) }
+        ensures decided { IfOk result (λ decided. decided
+            ≡ W.is_final_outcome (outcome_by W.decides W.start_state W.unfinished_at self.old transport.old id Running)) }
     {
         let index = self.index_for(id, fresh)?;
         let entry = &mut self.entries[index];

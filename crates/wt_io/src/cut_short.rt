@@ -16,7 +16,7 @@ impl From<OutOfMemory> for CutShort {
     ghost use Rattle.std.specs.Prelude.{◌≡◌};
     ghost use Rattle.wt_io.specs.declared.cut_short.CutShort.TheVariants as cuts;
 
-    ghost from_gives = { λ _ cut. cut ≡ cuts.OutOfMemory };
+    ghost from_gives = { λ _ failure. failure ≡ cuts.OutOfMemory };
 
     fn from(_error: OutOfMemory) -> CutShort {
         CutShort::OutOfMemory

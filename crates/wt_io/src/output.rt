@@ -28,13 +28,13 @@ pub fn number_line(
     alloc: Global,
     before: &str,
     number: u64,
-    behind: &str,
+    following: &str,
 ) -> Result<String, OutOfMemory>
-    ensures { IfOk result (λ text. string_bytes text ≡ before.now ++ decimal number ++ behind.now) }
+    ensures { IfOk result (λ text. string_bytes text ≡ before.now ++ decimal number ++ following.now) }
 {
     let mut text = String::new(alloc);
     push_number(alloc, &mut text, before, number)?;
-    text.push_str(behind)?;
+    text.push_str(following)?;
     Ok(text)
 }
 
@@ -77,8 +77,8 @@ pub fn write_answers<K: Sink>(
 {
     let mut gathered = String::new(alloc);
     for answer in answers {
-        if let Err(cut) = gather_answer(alloc, answer, &mut gathered, sink) {
-            return Err(cut);
+        if let Err(error) = gather_answer(alloc, answer, &mut gathered, sink) {
+            return Err(error);
         }
     }
     if gathered.push_str(last).is_err() {
@@ -126,7 +126,7 @@ pub fn write_all<K: Sink>(sink: &mut K, text: &[u8]) -> Result<(), CutShort>
     ensures text { OnOk result (Appends (K.took sink.old) (K.took sink.new) text.now) }
     ensures part { AppendsPart (K.took sink.old) (K.took sink.new) text.now }
     ensures same { OnOk result (K.faults sink.new ≡ K.faults sink.old) }
-    ensures cause { IfErr result (λ cut. cut ≡ cuts.SinkFailed) }
+    ensures cause { IfErr result (λ failure. failure ≡ cuts.SinkFailed) }
     ensures fault { IsErr result → Rose (K.faults sink.old) (K.faults sink.new) }
 {
     let mut at = 0;

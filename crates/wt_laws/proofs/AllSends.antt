@@ -25,8 +25,8 @@ record Settled (side : Side) (frame : Option (List ℕ)) (log : Log) (turn : Tur
   pub before : Both side frame log
   pub after : Both side frame (log_after side log turn)
 
-settled : (side : Side) (log : Log) (turn : Turn) → IsReachable side log → is_lawful side log turn ≡ true → (Begins side log turn → ⊥) → (frame : Option (List ℕ)) × Settled side frame log turn
-settled side log turn r l n =
+none-begun : (side : Side) (log : Log) (turn : Turn) → IsReachable side log → is_lawful side log turn ≡ true → (Begins side log turn → ⊥) → (frame : Option (List ℕ)) × Settled side frame log turn
+none-begun side log turn r l n =
     let s = so-far-reached side log r in
     let b = s.1.both in
     (session_frame s.0, record { before = b; after = keeps-turn (keeps-out side (session_frame s.0) turn (λ head f. absurd (n (begins side log turn head f l)))) log l b })
@@ -40,7 +40,7 @@ begun-before side log turn s at r e (Answers id c q w) = absurd (let n = (so-far
 established-sends : (side : Side) (log : Log) (turn : Turn) (s at : ℕ) → IsReachable side log → is_lawful side log turn ≡ true → established_session (calls_of log) ≡ Some (s, at)
     → (sent_on (actions_of (log_after side log turn)) s ≡ sent_on (actions_of log) s) × (is_accepted log s ≡ false)
 established-sends side log turn s at r l e =
-    let x = settled side log turn r l (begun-before side log turn s at r e) in
+    let x = none-begun side log turn r l (begun-before side log turn s at r e) in
     let w = x.1.before.out.whole s at e in
     let v = x.1.after.out.whole s at (one-session side log turn r l s at e) in
     let p = w.1 in
@@ -70,7 +70,7 @@ rejected-sends : (side : Side) (log : Log) (turn : Turn) (k : ℕ) → IsReachab
     → (sent_on (actions_of (log_after side log turn)) k ≡ sent_on (actions_of log) k) × (is_accepted log k ≡ false)
 rejected-sends side log turn k r l e =
     let q = and_parts (is_session_stream side (calls_of log) k) _ e in
-    let x = settled side log turn r l (begun-rejected side log turn k r q.0 q.1) in
+    let x = none-begun side log turn r l (begun-rejected side log turn k r q.0 q.1) in
     let z = keeps-turn {P = λ (g : Log). (is_session_stream side (calls_of g) k && is_finished (actions_of g) k) ≡ true} (by-entries (finished-entries side turn k)) log l e in
     let y = and_parts (is_session_stream side (calls_of (log_after side log turn)) k) _ z in
     let p = x.1.before.out.finished k q.0 q.1 in

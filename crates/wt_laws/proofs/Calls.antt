@@ -29,7 +29,7 @@ use Rattle.wt_laws.specs.Causes.{ByAcceptance, ByOpening, ByRejection, CloseCaus
 use Rattle.wt_turn.specs.Turns.{event_of, is_call}
 use Rattle.wt_laws.specs.RecordCauses.{AtEnd, HeaderStopped}
 use Rattle.wt_laws.specs.ReplyCauses.{AtClose, AtDatagram, AtEndpointClose, AtEvent, AtFinish, AtOpening, AtPriority, AtReset, AtStop, AtWrite, DoneCause, GivenStream, HeadUnsent, NoStreamToOpen, NoWriteCredit, NotClosed, NotEnded, NothingUnread, OfTheStream, ReplyCause, StoppedCause, TooFewUnread, asks_for_session, half_of, is_closed_error, needs_half, waits_for_end}
-use Rattle.wt_laws.specs.Told.{NoRecord, NonePassed, given_stream, is_quiet, read_piece}
+use Rattle.wt_laws.specs.ReplyTells.{NoRecord, NonePassed, given_stream, is_quiet, read_piece}
 use Rattle.wt_spec.specs.Answers.{call_effect, in_session, is_client, is_first, is_lawful, may_call, may_respond, on_session, receive, turn_effect}
 use Rattle.wt_spec.specs.Connection.{accept_stream, close_connection, closed_reply, continue_opening, datagram_allowed, datagram_within, is_opening, open_stream, payload_limit, poll_opening, receive_datagram, send_datagram, stream_header}
 use Rattle.wt_spec.specs.Driver.{established_session, flush, log_and_flush}
@@ -47,7 +47,7 @@ use Rattle.wt_reply.specs.declared.reply.Reply.TheVariants as replies
 use Rattle.wt_turn.specs.declared.turn.Turn.TheVariants as turns
 use Rattle.wt_error.specs.declared.stream_error.StreamWriteError.TheVariants as writes
 
-module _ (side : Side) (turn : Turn) (called : is_call turn ≡ true) where
+module _ (side : Side) (turn : Turn) (by_call : is_call turn ≡ true) where
   -- ---- opening
 
   local-kind : (kind n : ℕ) → nat_lt kind 4 ≡ true → (4 * n + kind) % 4 ≡ kind
@@ -55,13 +55,13 @@ module _ (side : Side) (turn : Turn) (called : is_call turn ≡ true) where
 
   caused-open : (log : Log) (kind s at : ℕ) → opened_kind side turn ≡ Some kind → nat_lt kind 4 ≡ true → (kind == local_uni side || kind == local_bi side) ≡ true → established_session (calls_of log) ≡ Some (s, at) → Caused side turn log (open_stream side log kind s)
   caused-open log kind s at q l z d =
-      either side turn called (not (is_open log)) _ _ (λ o. polled side turn called log _ refl (AtOpening kind q (not-true _ o) refl)) (λ o.
-      either side turn called (may_open side log kind) _ _ (λ m. opens m (not-false _ o)) (λ m. polled side turn called log replies.Pending refl (not-false _ o, NoStreamToOpen kind q m)))
+      either side turn by_call (not (is_open log)) _ _ (λ o. polled side turn by_call log _ refl (AtOpening kind q (not-true _ o) refl)) (λ o.
+      either side turn by_call (may_open side log kind) _ _ (λ m. opens m (not-false _ o)) (λ m. polled side turn by_call log replies.Pending refl (not-false _ o, NoStreamToOpen kind q m)))
     where
       opens : may_open side log kind ≡ true → is_open log ≡ true → Caused side turn log (reply_with (log_call side log (actions_to_open side log kind) (OpeningStarted (next_id side log kind) s)) (replies.Opening (next_id side log kind)))
       opens m o =
-          leaf side turn called log (actions_to_open side log kind) (OpeningStarted (next_id side log kind) s) (replies.Opening (next_id side log kind)) (rw m ((o, kind, m, refl, z, OfCall s at q d), tt))
-          (record { cause = record { opens = q ∙ ap Some (sym (local-kind kind (stream_count side log kind) l)); at = at; is_established = ap established_session (calls-with (actions_to_open side log kind) log) ∙ d; earlier = log; sent = rw m refl; allowed = rw (local-kind kind (stream_count side log kind) l) m; is_next = rw (local-kind kind (stream_count side log kind) l) refl }; kind = kind; own_is = refl; may = m; next = refl; small = l }) refl (o, kind, q, m, refl)
+          leaf side turn by_call log (actions_to_open side log kind) (OpeningStarted (next_id side log kind) s) (replies.Opening (next_id side log kind)) (rw m ((o, kind, m, refl, z, OfCall s at q d), tt))
+          (record { cause = record { opens = q ∙ ap Some (sym (local-kind kind (stream_count side log kind) l)); offset = at; is_established = ap established_session (calls-with (actions_to_open side log kind) log) ∙ d; earlier = log; sent = rw m refl; allowed = rw (local-kind kind (stream_count side log kind) l) m; is_next = rw (local-kind kind (stream_count side log kind) l) refl }; kind = kind; own_is = refl; may = m; next = refl; small = l }) refl (o, kind, q, m, refl)
 
   still-opening : (own : List Action) (log : Log) (k : ℕ) → is_opening (with_actions own log) k ≡ is_opening log k
   still-opening own log k = blind-actions (λ g. is_opening g k) (λ a g. refl) own log
@@ -73,70 +73,70 @@ module _ (side : Side) (turn : Turn) (called : is_call turn ≡ true) where
     caused-header : is_open log ≡ true → is_refused log k left ≡ false → (b : Bool) → is_covered log k left ≡ b → (c : Bool) → is_bidirectional k ≡ c
         → Caused side turn log (if b then reply_with (log_call side log (send_of k left) (StreamAccepted k)) (if c then replies.BiReady k else replies.SendReady k) else poll_sending side log (send_of k (bytes_within_credit log k left)) replies.Pending)
     unfolding left
-    caused-header o f true c x y = leaf side turn called log (send_of k left) (StreamAccepted k) _ (own-send side turn called log k left o (unrefused-whole side turn called log k left f c) (OfHeader s at p d i (sym (covered-whole log k left c)))) (ByOpening (record {
+    caused-header o f true c x y = leaf side turn by_call log (send_of k left) (StreamAccepted k) _ (own-send side turn by_call log k left o (unrefused-whole side turn by_call log k left f c) (OfHeader s at p d i (sym (covered-whole log k left c)))) (ByOpening (record {
       polls = p;
       opening = still-opening (send_of k left) log k ∙ i;
       session = s;
-      at = at;
+      offset = at;
       is_established = ap established_session (calls-with (send_of k left) log) ∙ d;
       whole = head-out log k (stream_header k s);
-    })) (told x) (ready x y)
+    })) (reported x) (ready x y)
       where
-        told : (x : Bool) → given_stream (if x then replies.BiReady k else replies.SendReady k) ≡ Some k
-        told true = refl
-        told false = refl
+        reported : (x : Bool) → given_stream (if x then replies.BiReady k else replies.SendReady k) ≡ Some k
+        reported true = refl
+        reported false = refl
 
         ready : (x : Bool) → is_bidirectional k ≡ x → ReplyCause side turn log (if x then replies.BiReady k else replies.SendReady k)
-        ready true y = (record { polls = p; opening = i; still_open = o; session = s; at = at; is_established = d; covers = c }, y)
-        ready false y = (record { polls = p; opening = i; still_open = o; session = s; at = at; is_established = d; covers = c }, y)
-    caused-header o f false c x y = leaf side turn called log (send_of k (bytes_within_credit log k left)) Polled replies.Pending (own-send side turn called log k (bytes_within_credit log k left) o (unrefused side turn called (stop_of (events_of log) k) left (credit_left log k) f) (OfHeader s at p d i refl)) called refl (o, HeadUnsent k (stream_header k s) (OfTheStream s at p i d refl) c (not-stopped side turn called (stop_of (events_of log) k) left (credit_left log k) f c))
+        ready true y = (record { polls = p; opening = i; still_open = o; session = s; offset = at; is_established = d; covers = c }, y)
+        ready false y = (record { polls = p; opening = i; still_open = o; session = s; offset = at; is_established = d; covers = c }, y)
+    caused-header o f false c x y = leaf side turn by_call log (send_of k (bytes_within_credit log k left)) Polled replies.Pending (own-send side turn by_call log k (bytes_within_credit log k left) o (unrefused side turn by_call (stop_of (events_of log) k) left (credit_left log k) f) (OfHeader s at p d i refl)) by_call refl (o, HeadUnsent k (stream_header k s) (OfTheStream s at p i d refl) c (not-stopped side turn by_call (stop_of (events_of log) k) left (credit_left log k) f c))
 
     caused-opening : Caused side turn log (continue_opening side log k left)
     unfolding left
     caused-opening =
-        either side turn called (not (is_open log)) _ _ (λ o. leaf side turn called log [] (OpeningFailed k) (replies.OpeningFailed openings.NotConnected) tt (AtEnd p i (not-true _ o)) refl (not-true _ o, k, p, i)) (λ o.
-        either side turn called (is_refused log k left) _ _ (λ r. leaf side turn called log [] (OpeningFailed k) (replies.OpeningFailed openings.Refused) tt (HeaderStopped s at p i d r) refl (k, s, at, p, i, d, r))
+        either side turn by_call (not (is_open log)) _ _ (λ o. leaf side turn by_call log [] (OpeningFailed k) (replies.OpeningFailed openings.NotConnected) tt (AtEnd p i (not-true _ o)) refl (not-true _ o, k, p, i)) (λ o.
+        either side turn by_call (is_refused log k left) _ _ (λ r. leaf side turn by_call log [] (OpeningFailed k) (replies.OpeningFailed openings.Refused) tt (HeaderStopped s at p i d r) refl (k, s, at, p, i, d, r))
         (λ r. caused-header (not-false _ o) r (is_covered log k left) refl (is_bidirectional k) refl))
 
   caused-poll : (log : Log) (k s at : ℕ) → polls_opening k turn ≡ true → established_session (calls_of log) ≡ Some (s, at) → half_of side log turn ≡ Some (is_opening log k) → Caused side turn log (poll_opening side log k s)
   unfolding left
-  caused-poll log k s at p d h = either side turn called (is_opening log k) _ _ (λ i. caused-opening log k s at p d i) (λ i. polled side turn called log replies.NoStream refl (h ∙ ap Some i))
+  caused-poll log k s at p d h = either side turn by_call (is_opening log k) _ _ (λ i. caused-opening log k s at p d i) (λ i. polled side turn by_call log replies.NoStream refl (h ∙ ap Some i))
 
   -- ---- sending datagrams
 
   caused-within : (log : Log) (bytes : List ℕ) (fact : DatagramFact) → DatagramOf turn log bytes → is_open log ≡ true → datagram_fact (events_of log) ≡ Some fact → Caused side turn log (datagram_within side log bytes fact)
-  caused-within log bytes facts.Disabled t o e = polled side turn called log _ refl (bytes, t, e)
-  caused-within log bytes facts.Unsupported t o e = polled side turn called log _ refl (bytes, t, e)
+  caused-within log bytes facts.Disabled t o e = polled side turn by_call log _ refl (bytes, t, e)
+  caused-within log bytes facts.Unsupported t o e = polled side turn by_call log _ refl (bytes, t, e)
   caused-within log bytes (facts.Limit limit) t o e =
-      either side turn called (nat_lt limit (length bytes)) _ _ (λ b. polled side turn called log _ refl (bytes, t, (limit, e, b))) (λ b. leaf side turn called log (actions.DatagramOut bytes ∷ []) Polled replies.Done ((o, t, limit, e, b), tt) called refl (AtDatagram bytes limit o t e b))
+      either side turn by_call (nat_lt limit (length bytes)) _ _ (λ b. polled side turn by_call log _ refl (bytes, t, (limit, e, b))) (λ b. leaf side turn by_call log (actions.DatagramOut bytes ∷ []) Polled replies.Done ((o, t, limit, e, b), tt) by_call refl (AtDatagram bytes limit o t e b))
 
   caused-allowed : (log : Log) (bytes : List ℕ) (fact : Option DatagramFact) → DatagramOf turn log bytes → is_open log ≡ true → datagram_fact (events_of log) ≡ fact → Caused side turn log (datagram_allowed side log bytes fact)
-  caused-allowed log bytes None t o e = polled side turn called log _ refl (bytes, t, inr e)
+  caused-allowed log bytes None t o e = polled side turn by_call log _ refl (bytes, t, inr e)
   caused-allowed log bytes (Some fact) t o e = caused-within log bytes fact t o e
 
   caused-send-datagram : (log : Log) (payload : List ℕ) (s at : ℕ) → established_session (calls_of log) ≡ Some (s, at) → turn ≡ turns.Call (calls.SendDatagram payload) → Caused side turn log (send_datagram side log payload s)
   caused-send-datagram log payload s at d t =
-      let x : DatagramOf turn log (datagram_bytes (s / 4) payload) = record { payload = payload; session = s; at = at; sends = t; is_established = d; bytes_are = refl } in
-      either side turn called (is_open log) _ _ (λ o. caused-allowed log (datagram_bytes (s / 4) payload) _ x o refl) (λ o. polled side turn called log _ refl (datagram_bytes (s / 4) payload, x, inl o))
+      let x : DatagramOf turn log (datagram_bytes (s / 4) payload) = record { payload = payload; session = s; offset = at; sends = t; is_established = d; bytes_are = refl } in
+      either side turn by_call (is_open log) _ _ (λ o. caused-allowed log (datagram_bytes (s / 4) payload) _ x o refl) (λ o. polled side turn by_call log _ refl (datagram_bytes (s / 4) payload, x, inl o))
 
   -- ---- the rest of a session's calls
 
   caused-close : (log : Log) (code : ℕ) (reason : List ℕ) → CloseCause side turn log code reason → DoneCause side turn log → Caused side turn log (close_connection side log code reason)
-  caused-close log code reason c d = leaf side turn called log (if_open log (actions.Close code reason)) Polled replies.Done (own-if side turn called log (actions.Close code reason) (is_open log) (λ o. (o, c))) called refl d
+  caused-close log code reason c d = leaf side turn by_call log (if_open log (actions.Close code reason)) Polled replies.Done (own-if side turn by_call log (actions.Close code reason) (is_open log) (λ o. (o, c))) by_call refl d
 
   closed-so : (log : Log) (b : Bool) → turn ≡ turns.Call calls.Closed → is_open log ≡ b → ReplyCause side turn log (if b then replies.Pending else replies.Closed (transport_error log))
   closed-so log true t o = (o, NotClosed t)
   closed-so log false t o = (t, o, refl)
 
   caused-session : (log : Log) (call : ℕ → Effect) (o : Option (ℕ × ℕ)) → asks_for_session turn ≡ true → established_session (calls_of log) ≡ o → ((s at : ℕ) → established_session (calls_of log) ≡ Some (s, at) → Caused side turn log (call s)) → Caused side turn log (in_session side log call o)
-  caused-session log call None a e f = polled side turn called log replies.NoSession refl (a, e)
+  caused-session log call None a e f = polled side turn by_call log replies.NoSession refl (a, e)
   caused-session log call (Some s) a e f = f s.0 s.1 e
 
   -- ---- sending halves
 
   caused-half : (log : Log) (call : ℕ → Effect) (k : ℕ) (b : Bool) → half_of side log turn ≡ Some b → (b ≡ true → Caused side turn log (call k)) → Caused side turn log (on_half b side log call k)
   caused-half log call k true h f = f refl
-  caused-half log call k false h f = polled side turn called log replies.NoStream refl h
+  caused-half log call k false h f = polled side turn by_call log replies.NoStream refl h
 
   -- a write that nothing hinders finds the connection open
   open-write : (log : Log) (k : ℕ) (o a : Bool) (stop : Option ℕ) → is_open log ≡ o
@@ -191,10 +191,10 @@ module _ (side : Side) (turn : Turn) (called : is_call turn ≡ true) where
 
   caused-write : (reply : List ℕ → ℕ → Reply) (log : Log) (k : ℕ) (bytes : List ℕ) (o : Option StreamWriteError) → bytes_for k turn ≡ Some bytes → has_sending_half side log k ≡ true → write_error log k ≡ o
       → is_quiet (reply bytes (length (bytes_within_credit log k bytes))) ≡ true → (write_error log k ≡ None → is_open log ≡ true → ReplyCause side turn log (reply bytes (length (bytes_within_credit log k bytes)))) → Caused side turn log (write_by reply side log k bytes o)
-  caused-write reply log k bytes (Some e) h c w q f = polled side turn called log (replies.WriteFailed e) refl (AtWrite k bytes h c w)
+  caused-write reply log k bytes (Some e) h c w q f = polled side turn by_call log (replies.WriteFailed e) refl (AtWrite k bytes h c w)
   caused-write reply log k bytes None h c w q f =
       let o = open-write log k (is_open log) _ (stop_of (events_of log) k) refl w in
-      leaf side turn called log (send_of k (bytes_within_credit log k bytes)) Polled (reply bytes (length (bytes_within_credit log k bytes))) (own-send side turn called log k (bytes_within_credit log k bytes) o (λ b rest e. unstopped-write log k (is_open log) _ (stop_of (events_of log) k) w) (OfWrite bytes h c w refl)) called q (f w o)
+      leaf side turn by_call log (send_of k (bytes_within_credit log k bytes)) Polled (reply bytes (length (bytes_within_credit log k bytes))) (own-send side turn by_call log k (bytes_within_credit log k bytes) o (λ b rest e. unstopped-write log k (is_open log) _ (stop_of (events_of log) k) w) (OfWrite bytes h c w refl)) by_call q (f w o)
 
   stopped-cause : (log : Log) (k : ℕ) (failing : StreamWriteError → Reply) (closed : Reply) (stop : Option ℕ) → ((e : StreamWriteError) → is_closed_error e ≡ false → StoppedCause log k e → ReplyCause side turn log (failing e))
       → (stop_of (events_of log) k ≡ None → is_done log k ≡ true → ReplyCause side turn log closed) → waits_for_end turn ≡ Some k → stop_of (events_of log) k ≡ stop → ReplyCause side turn log (stopped_reply log k failing closed stop)
@@ -220,7 +220,7 @@ module _ (side : Side) (turn : Turn) (called : is_call turn ≡ true) where
 
   caused-take-bytes : (log : Log) (k : ℕ) (bytes : List ℕ) (reply : Reply) → reads_from k turn ≡ true → has_receiving_half side log k ≡ true → length bytes ≤ asked_size turn → length bytes ≤ length (unread_body side log k) → read_piece reply ≡ Some bytes → ReplyCause side turn log reply
       → Caused side turn log (take_bytes side log k bytes reply)
-  caused-take-bytes log k bytes reply r c a l q w = leaf side turn called log [] (BytesRead k (length bytes)) reply tt (record { reads = r; has_half = c; asked = a; within = l }) (bytes, q, refl, r) w
+  caused-take-bytes log k bytes reply r c a l q w = leaf side turn by_call log [] (BytesRead k (length bytes)) reply tt (record { reads = r; has_half = c; asked = a; within = l }) (bytes, q, refl, r) w
 
   end-cause : (log : Log) (k size : ℕ) (e : StreamEnd) → turn ≡ turns.Call (calls.Read k size) → has_receiving_half side log k ≡ true → (size == 0) ≡ false → unread_body side log k ≡ [] → end_of (events_of log) k ≡ e → (o : Bool) → is_open log ≡ o → ReplyCause side turn log (reply_at_end log e)
   end-cause log k size ends.Running t c z u e true o = rw o (o, NothingUnread k size t z u e)
@@ -229,30 +229,30 @@ module _ (side : Side) (turn : Turn) (called : is_call turn ≡ true) where
   end-cause log k size (ends.Reset code) t c z u e b o = (k, size, t, c, z, u, e)
 
   caused-read-reply : (log : Log) (k size : ℕ) (bytes : List ℕ) → turn ≡ turns.Call (calls.Read k size) → reads_from k turn ≡ true → (size == 0) ≡ false → has_receiving_half side log k ≡ true → unread_body side log k ≡ bytes → Caused side turn log (read_reply side log k size bytes)
-  caused-read-reply log k size [] t r z c u = polled side turn called log _ (quiet-end log (end_of (events_of log) k)) (end-cause log k size (end_of (events_of log) k) t c z u refl (is_open log) refl)
+  caused-read-reply log k size [] t r z c u = polled side turn by_call log _ (quiet-end log (end_of (events_of log) k)) (end-cause log k size (end_of (events_of log) k) t c z u refl (is_open log) refl)
   caused-read-reply log k size (b ∷ bytes) t r z c u =
       caused-take-bytes log k (take size (b ∷ bytes)) (replies.Read (Some (take size (b ∷ bytes)))) r c (as-asked _ size (ap asked_size t) (up-to size (b ∷ bytes))) (rw u (at-most size (b ∷ bytes))) refl (k, size, t, c, ap (take size) (sym u), or_right (size == 0) _ (rw u refl))
 
   caused-read : (log : Log) (k size : ℕ) → turn ≡ turns.Call (calls.Read k size) → reads_from k turn ≡ true → has_receiving_half side log k ≡ true → Caused side turn log (read side log k size)
   caused-read log k size t r c =
-      either side turn called (size == 0) _ _ (λ z. polled side turn called log (replies.Read (Some [])) refl (k, size, t, c, sym (none-taken size (unread_body side log k) (eqb-true size 0 z)), or_left (size == 0) _ z)) (λ z. caused-read-reply log k size (unread_body side log k) t r z c refl)
+      either side turn by_call (size == 0) _ _ (λ z. polled side turn by_call log (replies.Read (Some [])) refl (k, size, t, c, sym (none-taken size (unread_body side log k) (eqb-true size 0 z)), or_left (size == 0) _ z)) (λ z. caused-read-reply log k size (unread_body side log k) t r z c refl)
     where
       none-taken : (n : ℕ) (xs : List ℕ) → n ≡ 0 → take n xs ≡ []
       none-taken n xs e = rw e refl
 
   caused-exact-end : (log : Log) (k size : ℕ) (e : StreamEnd) → turn ≡ turns.Call (calls.ReadExact k size) → reads_from k turn ≡ true → has_receiving_half side log k ≡ true → nat_lt (length (unread_body side log k)) size ≡ true → end_of (events_of log) k ≡ e
       → Caused side turn log (exact_at_end side log k (unread_body side log k) e)
-  caused-exact-end log k size ends.Running t r c l e = polled side turn called log _ (quiet-if (is_open log) replies.Pending (replies.ExactFailed (exacts.Read reads.NotConnected) []) refl refl) (at (is_open log) refl)
+  caused-exact-end log k size ends.Running t r c l e = polled side turn by_call log _ (quiet-if (is_open log) replies.Pending (replies.ExactFailed (exacts.Read reads.NotConnected) []) refl refl) (at (is_open log) refl)
     where
       at : (o : Bool) → is_open log ≡ o → ReplyCause side turn log (if o then replies.Pending else replies.ExactFailed (exacts.Read reads.NotConnected) [])
       at true o = (o, TooFewUnread k size t l e)
       at false o = (k, size, t, c, l, ((o, e), refl))
   caused-exact-end log k size ends.Fin t r c l e = caused-take-bytes log k (unread_body side log k) _ r c (as-asked _ size (ap asked_size t) (let s = ltb-true (length (unread_body side log k)) size l in omega arith)) (omega arith) refl (k, size, t, c, l, (e, refl, refl))
-  caused-exact-end log k size (ends.Reset code) t r c l e = polled side turn called log _ refl (k, size, t, c, l, (e, refl))
+  caused-exact-end log k size (ends.Reset code) t r c l e = polled side turn by_call log _ refl (k, size, t, c, l, (e, refl))
 
   caused-read-exact : (log : Log) (k size : ℕ) → turn ≡ turns.Call (calls.ReadExact k size) → reads_from k turn ≡ true → has_receiving_half side log k ≡ true → Caused side turn log (read_exact side log k size)
   caused-read-exact log k size t r c =
-      either side turn called (nat_lt (length (unread_body side log k)) size) _ _ (λ l. caused-exact-end log k size (end_of (events_of log) k) t r c l refl)
+      either side turn by_call (nat_lt (length (unread_body side log k)) size) _ _ (λ l. caused-exact-end log k size (end_of (events_of log) k) t r c l refl)
       (λ l. caused-take-bytes log k (take size (unread_body side log k)) _ r c (as-asked _ size (ap asked_size t) (up-to size (unread_body side log k))) (at-most size (unread_body side log k)) refl (k, size, t, c, refl, ltb-false (length (unread_body side log k)) size l))
 
   -- ---- a call
@@ -285,7 +285,7 @@ module _ (side : Side) (turn : Turn) (called : is_call turn ≡ true) where
   small-local Server = (refl, refl)
 
   rejects : (log : Log) (head : List ℕ) → head_frame_of turn ≡ Some head → may_respond side log ≡ true → Caused side turn log (start_response side log false head)
-  rejects log head f l = let r = responding log l in caused-start side turn called log r.0 false head r.1 (ByRejection r.0 refl f r.1)
+  rejects log head f l = let r = responding log l in caused-start side turn by_call log r.0 false head r.1 (ByRejection r.0 refl f r.1)
 
   own-id : (k : ℕ) (t : (id : ℕ) → Turn) → turn ≡ t k → (f : ℕ → Turn → Bool) → f k (t k) ≡ true → f k turn ≡ true
   own-id k t e f p = ap (f k) e ∙ p
@@ -297,25 +297,25 @@ module _ (side : Side) (turn : Turn) (called : is_call turn ≡ true) where
       → Caused side turn log (on_session side log (accept_stream side reply kind log))
   accepts log reply kind a w e t q =
       caused-session log (accept_stream side reply kind log) (established_session (calls_of log)) w refl
-      (λ s at d. subst (λ n. Caused side turn log (accept_stream side reply n log s)) e (caused-accept side turn called a s at reply t q log d))
+      (λ s at d. subst (λ n. Caused side turn log (accept_stream side reply n log s)) e (caused-accept side turn by_call a s at reply t q log d))
 
   caused-call : (log : Log) (c : Call) → turn ≡ turns.Call c → may_call side log c ≡ true → Caused side turn log (call_effect side log c)
   unfolding call_effect
   caused-call log (calls.Connect options lookup outcome) t l =
       let f = and_parts (is_client side) (is_first log) l in
-      caused-connect-to side turn called log options.0 (parse_url None options.0) options.1 lookup outcome (first-log log f.1) f.0 t refl
+      caused-connect-to side turn by_call log options.0 (parse_url None options.0) options.1 lookup outcome (first-log log f.1) f.0 t refl
   caused-call log calls.Incoming t l =
-      caused-deliver side turn called log (queued_requests side log) t (not-true _ (and_parts (not (is_client side)) _ (and_parts (not (is_client side) && not (is_first log)) _ l).0).0) (awaiting (handshake_state (calls_of log)) (and_parts (not (is_client side) && not (is_first log)) _ l).1) refl
-  caused-call log (calls.Accept headers) t l = let r = responding log l in caused-start side turn called log r.0 true (response_head (codes "200") headers) r.1 (ByAcceptance r.0 headers refl t refl r.1)
+      caused-deliver side turn by_call log (queued_requests side log) t (not-true _ (and_parts (not (is_client side)) _ (and_parts (not (is_client side) && not (is_first log)) _ l).0).0) (awaiting (handshake_state (calls_of log)) (and_parts (not (is_client side) && not (is_first log)) _ l).1) refl
+  caused-call log (calls.Accept headers) t l = let r = responding log l in caused-start side turn by_call log r.0 true (response_head (codes "200") headers) r.1 (ByAcceptance r.0 headers refl t refl r.1)
   caused-call log calls.Forbidden t l = rejects log (response_bytes (codes "403")) (ap head_frame_of t) l
   caused-call log calls.NotFound t l = rejects log (response_bytes (codes "404")) (ap head_frame_of t) l
   caused-call log calls.TooManyRequests t l = rejects log (response_bytes (codes "429")) (ap head_frame_of t) l
-  caused-call log calls.Handshake t l = caused-continue side turn called log (handshake_state (calls_of log)) t refl l
+  caused-call log calls.Handshake t l = caused-continue side turn by_call log (handshake_state (calls_of log)) t refl l
   caused-call log (calls.EndpointClose code reason) t l = caused-close log code reason (OfEndpoint t) (AtEndpointClose code reason t)
   caused-call log calls.AcceptUni t l = accepts log replies.Uni (peer_uni side) (ap is_accept t) (ap asks_for_session t) (ap (accepted_kind side) t) (λ k. refl) (λ g k f. given-stream g (peer_uni side) k (ap (accepted_kind side) t) f)
   caused-call log calls.AcceptBi t l = accepts log replies.Bi (peer_bi side) (ap is_accept t) (ap asks_for_session t) (ap (accepted_kind side) t) (λ k. refl) (λ g k f. given-stream g (peer_bi side) k (ap (accepted_kind side) t) f)
   caused-call log calls.ReceiveDatagram t l =
-      caused-session log (receive_datagram side log) (established_session (calls_of log)) (ap asks_for_session t) refl (λ s at d. caused-receive side turn called (ap is_receive t) s at (suc (length (datagrams_of (events_of log)))) log d (omega arith))
+      caused-session log (receive_datagram side log) (established_session (calls_of log)) (ap asks_for_session t) refl (λ s at d. caused-receive side turn by_call (ap is_receive t) s at (suc (length (datagrams_of (events_of log)))) log d (omega arith))
   caused-call log calls.OpenUni t l =
       caused-session log (open_stream side log (local_uni side)) (established_session (calls_of log)) (ap asks_for_session t) refl
       (λ s at d. caused-open log (local_uni side) s at (ap (opened_kind side) t) (small-local side).0 (or_left _ _ (eq-eqb (local_uni side) (local_uni side) refl)) d)
@@ -326,10 +326,10 @@ module _ (side : Side) (turn : Turn) (called : is_call turn ≡ true) where
       caused-session log (poll_opening side log id) (established_session (calls_of log)) (ap asks_for_session t) refl (λ s at d. caused-poll log id s at (ap (polls_opening id) t ∙ same-id id) d (ap (half_of side log) t))
   caused-call log (calls.SendDatagram payload) t l =
       caused-session log (send_datagram side log payload) (established_session (calls_of log)) (ap asks_for_session t) refl (λ s at d. caused-send-datagram log payload s at d t)
-  caused-call log calls.MaxDatagramSize t l = caused-session log _ (established_session (calls_of log)) (ap asks_for_session t) refl (λ s at d. polled side turn called log (replies.Size (payload_limit s (datagram_fact (events_of log)))) refl (t, s, at, d, refl))
-  caused-call log calls.SessionId t l = caused-session log _ (established_session (calls_of log)) (ap asks_for_session t) refl (λ s at d. polled side turn called log (replies.Id s) refl (t, at, d))
+  caused-call log calls.MaxDatagramSize t l = caused-session log _ (established_session (calls_of log)) (ap asks_for_session t) refl (λ s at d. polled side turn by_call log (replies.Size (payload_limit s (datagram_fact (events_of log)))) refl (t, s, at, d, refl))
+  caused-call log calls.SessionId t l = caused-session log _ (established_session (calls_of log)) (ap asks_for_session t) refl (λ s at d. polled side turn by_call log (replies.Id s) refl (t, at, d))
   caused-call log (calls.Close code reason) t l = caused-session log _ (established_session (calls_of log)) (ap asks_for_session t) refl (λ s at d. caused-close log code reason (OfCall s at t d) (AtClose code reason t (ap is_some d)))
-  caused-call log calls.Closed t l = caused-session log _ (established_session (calls_of log)) (ap asks_for_session t) refl (λ s at d. polled side turn called log (closed_reply log) (quiet-if (is_open log) replies.Pending (replies.Closed (transport_error log)) refl refl) (closed-so log (is_open log) t refl))
+  caused-call log calls.Closed t l = caused-session log _ (established_session (calls_of log)) (ap asks_for_session t) refl (λ s at d. polled side turn by_call log (closed_reply log) (quiet-if (is_open log) replies.Pending (replies.Closed (transport_error log)) refl refl) (closed-so log (is_open log) t refl))
   caused-call log (calls.Write id bytes) t l =
       let h = ap (bytes_for id) t ∙ rw (same-id id) refl in
       caused-half log _ id (has_sending_half side log id) (ap (half_of side log) t) (λ c. caused-write written_reply log id bytes (write_error log id) h c refl (quiet-written bytes (length (bytes_within_credit log id bytes))) (λ w o. written-reply log id bytes (length (bytes_within_credit log id bytes)) t refl h c w o))
@@ -338,39 +338,39 @@ module _ (side : Side) (turn : Turn) (called : is_call turn ≡ true) where
       caused-half log _ id (has_sending_half side log id) (ap (half_of side log) t) (λ c. caused-write all_written_reply log id bytes (write_error log id) h c refl (quiet-if (length (bytes_within_credit log id bytes) == length bytes) replies.AllWritten (replies.Count (length (bytes_within_credit log id bytes))) refl refl) (λ w o. all-written-reply log id bytes (length (bytes_within_credit log id bytes) == length bytes) t refl h c w))
   caused-call log (calls.Finish id) t l =
       caused-half log _ id (has_sending_half side log id) (ap (half_of side log) t)
-      (λ c. leaf side turn called log (finish_once log id) Polled _ (own-finishing log id t c) called (quiet-stopped log id (λ e. replies.WriteFailed e) replies.Finished (stop_of (events_of log) id) (λ e. refl) refl)
+      (λ c. leaf side turn by_call log (finish_once log id) Polled _ (own-finishing log id t c) by_call (quiet-stopped log id (λ e. replies.WriteFailed e) replies.Finished (stop_of (events_of log) id) (λ e. refl) refl)
       (stopped-cause log id (λ e. replies.WriteFailed e) replies.Finished (stop_of (events_of log) id) (λ e n x. AtFinish id t c x n) (λ s d. (id, t, c, s, d)) (ap waits_for_end t) refl))
     where
       own-finishing : (log : Log) (id : ℕ) → turn ≡ turns.Call (calls.Finish id) → has_sending_half side log id ≡ true → OwnCauses side turn log (finish_once log id)
       own-finishing log id t c =
-          own-if side turn called log (actions.Finish id) (is_open log && not (is_finished (actions_of log) id) && not (is_reset log id) && not (is_some (stop_of (events_of log) id)))
+          own-if side turn by_call log (actions.Finish id) (is_open log && not (is_finished (actions_of log) id) && not (is_reset log id) && not (is_some (stop_of (events_of log) id)))
           (λ e. let a = and_parts (is_open log && not (is_finished (actions_of log) id) && not (is_reset log id)) _ e in
           let b = and_parts (is_open log && not (is_finished (actions_of log) id)) _ a.0 in
           let d = and_parts (is_open log) _ b.0 in
           (d.0, OfCall t c (not-true _ d.1) (not-true _ b.1) (no-stop (stop_of (events_of log) id) (not-true _ a.1))))
   caused-call log (calls.Stopped id) t l =
       caused-half log _ id (has_sending_half side log id) (ap (half_of side log) t)
-      (λ c. polled side turn called log _ (quiet-stopped log id (λ e. replies.StoppedBy e) (replies.StoppedBy writes.Closed) (stop_of (events_of log) id) (λ e. refl) refl) (stopped-cause log id (λ e. replies.StoppedBy e) (replies.StoppedBy writes.Closed) (stop_of (events_of log) id) (λ e n x. (id, t, c, x)) (λ s d. (id, t, c, (s, d))) (ap waits_for_end t) refl))
+      (λ c. polled side turn by_call log _ (quiet-stopped log id (λ e. replies.StoppedBy e) (replies.StoppedBy writes.Closed) (stop_of (events_of log) id) (λ e. refl) refl) (stopped-cause log id (λ e. replies.StoppedBy e) (replies.StoppedBy writes.Closed) (stop_of (events_of log) id) (λ e n x. (id, t, c, x)) (λ s d. (id, t, c, (s, d))) (ap waits_for_end t) refl))
   caused-call log (calls.Priority id) t l =
-      caused-half log _ id (has_sending_half side log id) (ap (half_of side log) t) (λ c. polled side turn called log _ (quiet-if (is_done log id) replies.ClosedStream (replies.Priority (priority_of (calls_of log) id)) refl refl) (at (is_done log id) refl c))
+      caused-half log _ id (has_sending_half side log id) (ap (half_of side log) t) (λ c. polled side turn by_call log _ (quiet-if (is_done log id) replies.ClosedStream (replies.Priority (priority_of (calls_of log) id)) refl refl) (at (is_done log id) refl c))
     where
       at : (b : Bool) → is_done log id ≡ b → has_sending_half side log id ≡ true → ReplyCause side turn log (if b then replies.ClosedStream else replies.Priority (priority_of (calls_of log) id))
       at true d c = (id, ap (needs_half id) t ∙ same-id id, c, d)
       at false d c = (id, t, c, d, refl)
   caused-call log (calls.SetPriority id p) t l =
       caused-half log _ id (has_sending_half side log id) (ap (half_of side log) t)
-      (λ c. either side turn called (is_done log id) _ _ (λ d. polled side turn called log replies.Done refl (AtPriority id p t c)) (λ d. leaf side turn called log [] (PrioritySet id p) replies.Done tt (t, c, d) refl (AtPriority id p t c)))
+      (λ c. either side turn by_call (is_done log id) _ _ (λ d. polled side turn by_call log replies.Done refl (AtPriority id p t c)) (λ d. leaf side turn by_call log [] (PrioritySet id p) replies.Done tt (t, c, d) refl (AtPriority id p t c)))
   caused-call log (calls.ResetSend id code) t l =
       caused-half log _ id (has_sending_half side log id) (ap (half_of side log) t)
-      (λ c. either side turn called (is_done log id) _ _ (λ d. polled side turn called log replies.ClosedStream refl (id, ap (needs_half id) t ∙ same-id id, c, d)) (λ d.
-      either side turn called (is_open log) _ _ (λ o. leaf side turn called log (actions.ResetOut id code ∷ []) Polled replies.Done ((o, t, c, d), tt) called refl (AtReset id code t c d)) (λ o. leaf side turn called log [] (ResetUnsent id code) replies.Done tt (t, c, d, o) refl (AtReset id code t c d))))
+      (λ c. either side turn by_call (is_done log id) _ _ (λ d. polled side turn by_call log replies.ClosedStream refl (id, ap (needs_half id) t ∙ same-id id, c, d)) (λ d.
+      either side turn by_call (is_open log) _ _ (λ o. leaf side turn by_call log (actions.ResetOut id code ∷ []) Polled replies.Done ((o, t, c, d), tt) by_call refl (AtReset id code t c d)) (λ o. leaf side turn by_call log [] (ResetUnsent id code) replies.Done tt (t, c, d, o) refl (AtReset id code t c d))))
   caused-call log (calls.Read id size) t l =
       caused-half log _ id (has_receiving_half side log id) (ap (half_of side log) t) (λ c. caused-read log id size t (ap (reads_from id) t ∙ same-id id) c)
   caused-call log (calls.ReadExact id size) t l =
       caused-half log _ id (has_receiving_half side log id) (ap (half_of side log) t) (λ c. caused-read-exact log id size t (ap (reads_from id) t ∙ same-id id) c)
   caused-call log (calls.StopRecv id code) t l =
       caused-half log _ id (has_receiving_half side log id) (ap (half_of side log) t)
-      (λ c. leaf side turn called log (if_open log (actions.StopOut id code)) (StreamGivenUp id) replies.Done (own-if side turn called log (actions.StopOut id code) (is_open log) (λ o. (o, OfCall t c)))
+      (λ c. leaf side turn by_call log (if_open log (actions.StopOut id code)) (StreamGivenUp id) replies.Done (own-if side turn by_call log (actions.StopOut id code) (is_open log) (λ o. (o, OfCall t c)))
       (code, t, blind-actions (λ g. has_receiving_half side g id) (λ a g. refl) (if_open log (actions.StopOut id code)) log ∙ c) refl (AtStop id code t c))
 
 -- ---- a turn of the transport
@@ -410,7 +410,7 @@ module _ (side : Side) (turn : Turn) where
   caused-turn : (log : Log) (t : Turn) → turn ≡ t → is_lawful side log t ≡ true → Caused side turn log (turn_effect side log t)
   caused-turn log (turns.Call c) t l = caused-call side turn (ap is_call t) log c t l
   caused-turn log (turns.Bytes id piece) t l = record { decided = log; before = Nothing; after = byte-steps log id piece t piece (may-run log id piece l); why = AtEvent (ap is_call t); passed = NonePassed; logged = NoRecord (same-calls log id piece) refl; at_once = λ z. refl }
-  caused-turn log _ t l = caused-event log _ (is_open log) (ap is_call t) refl (record { told = ap event_of t; lawful = rw t l })
+  caused-turn log _ t l = caused-event log _ (is_open log) (ap is_call t) refl (record { reported = ap event_of t; lawful = rw t l })
 
   -- every lawful turn
   pub caused : (log : Log) → is_lawful side log turn ≡ true → Caused side turn log (turn_effect side log turn)

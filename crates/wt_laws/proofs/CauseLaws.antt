@@ -146,11 +146,11 @@ all-stop-so P Q f (x ∷ xs) p = (f x.id p.0, all-stop-so P Q f xs p.1)
 bi-stops : (P : ℕ → Type 0) (d : Dispatched) (k : ℕ) (v : Verdict) → P k → AllStop P (stop_list (bi_consequence d k v).stop)
 bi-stops P d k (verdicts.Fault code) n = tt
 bi-stops P d k (verdicts.Refused code) n = (n, tt)
-bi-stops P d k (verdicts.Request headers at) n = behind d.requests
+bi-stops P d k (verdicts.Request headers at) n = after-queued d.requests
   where
-    behind : (queued : List Classified) → AllStop P (stop_list (queued_behind queued k).stop)
-    behind [] = tt
-    behind (c ∷ later) = (n, tt)
+    after-queued : (queued : List Classified) → AllStop P (stop_list (queued_behind queued k).stop)
+    after-queued [] = tt
+    after-queued (c ∷ later) = (n, tt)
 bi-stops P d k _ n = tt
 
 -- what classifying a stream stops is that stream
@@ -193,23 +193,23 @@ none-front k (c ∷ cs) ds n = at (c.id == k) n (none-front k cs ds)
 
 record NewStops (before : List Classified) (t : StreamTable) : Type 0 where
   pub more : List Classified
-  pub goes_on : t.classified ≡ before ++ more
+  pub still_going : t.classified ≡ before ++ more
   pub all_new : AllStop (IsNew before) t.progress.stops
   pub all_there : AllStop (IsThere t.classified) t.progress.stops
 
 new-kept : (side : Side) (log : Log) (before : List Classified) → IsKept (causes side log) (NewStops before)
 new-kept side log before = record {
-  by_ending = λ t e p. record { more = p.more; goes_on = p.goes_on; all_new = p.all_new; all_there = p.all_there };
-  by_moment = λ t p. record { more = p.more; goes_on = p.goes_on; all_new = tt; all_there = tt };
-  by_settings = λ t b c p. record { more = p.more; goes_on = p.goes_on; all_new = p.all_new; all_there = p.all_there };
-  by_datagram = λ t c p. record { more = p.more; goes_on = p.goes_on; all_new = p.all_new; all_there = p.all_there };
-  by_dequeued = λ t k p. record { more = p.more; goes_on = p.goes_on; all_new = p.all_new; all_there = p.all_there };
+  by_ending = λ t e p. record { more = p.more; still_going = p.still_going; all_new = p.all_new; all_there = p.all_there };
+  by_moment = λ t p. record { more = p.more; still_going = p.still_going; all_new = tt; all_there = tt };
+  by_settings = λ t b c p. record { more = p.more; still_going = p.still_going; all_new = p.all_new; all_there = p.all_there };
+  by_datagram = λ t c p. record { more = p.more; still_going = p.still_going; all_new = p.all_new; all_there = p.all_there };
+  by_dequeued = λ t k p. record { more = p.more; still_going = p.still_going; all_new = p.all_new; all_there = p.all_there };
   by_classified = λ t k v e x n still p.
       let c : Classified = record { id = k; verdict = v; surplus = e.surplus } in
       record {
         more = p.more ++ c ∷ [];
-        goes_on = ap (λ cs. cs ++ c ∷ []) p.goes_on ∙ append_assoc before p.more (c ∷ []);
-        all_new = all-stop-append (IsNew before) t.progress.stops (stop_list e.stop) p.all_new (classified-stops side log (IsNew before) t k v e (none-front k before p.more (ap (verdict_of k) (sym p.goes_on) ∙ n)) x);
+        still_going = ap (λ cs. cs ++ c ∷ []) p.still_going ∙ append_assoc before p.more (c ∷ []);
+        all_new = all-stop-append (IsNew before) t.progress.stops (stop_list e.stop) p.all_new (classified-stops side log (IsNew before) t k v e (none-front k before p.more (ap (verdict_of k) (sym p.still_going) ∙ n)) x);
         all_there = all-stop-append (IsThere (t.classified ++ c ∷ [])) t.progress.stops (stop_list e.stop)
             (all-stop-so (IsThere t.classified) (IsThere (t.classified ++ c ∷ [])) (λ j y. there-front t.classified (c ∷ []) j y) t.progress.stops p.all_there)
             (classified-stops side log (IsThere (t.classified ++ c ∷ [])) t k v e (there-last t.classified c) x);
@@ -219,7 +219,7 @@ new-kept side log before = record {
 moment-new : (side : Side) (e : Entry) (log : Log) → is_moment e ≡ true → is_open (e ∷ log) ≡ true → NewStops (stream_table side log).classified (stream_table side (e ∷ log))
 unfolding stream_table
 moment-new side e log m o =
-    rw (m, o) (kept-moment (NewStops (stream_table side log).classified) side (e ∷ log) (new-kept side (e ∷ log) (stream_table side log).classified) (stream_table side log) (record { more = []; goes_on = sym (append-nil (stream_table side log).classified); all_new = tt; all_there = tt }))
+    rw (m, o) (kept-moment (NewStops (stream_table side log).classified) side (e ∷ log) (new-kept side (e ∷ log) (stream_table side log).classified) (stream_table side log) (record { more = []; still_going = sym (append-nil (stream_table side log).classified); all_new = tt; all_there = tt }))
 
 module _ (side : Side) (log : Log) where
   opened-cause : (b : Bool) → not (local_count (actions_of log) (local_uni side) == 0) ≡ b → unis_allowed (events_of log) ≢ 0 → DriverCauses side log (opened_if (not b) (local_uni side))

@@ -33,7 +33,7 @@ use Rattle.wt_laws.specs.Causes.{ActionCause, ByAccept, ByAnswer, ByResponse, Co
 use Rattle.wt_laws.specs.RecordCauses.{AcceptanceEnded, AcceptanceStopped, CallCause, ConnectEnded, NoMoreRequests, OverBy, OverCause, RejectionEnded}
 use Rattle.wt_laws.specs.ReplyCauses.{AfterSuccess, AsDriver, AtResponse, BeforeConnection, BeforeRequest, BeforeResponse, BeforeSettings, BeforeStream, ByRefusal, ByReserved, ByResponseFault, ByStatus, ByStop, ByStreamEnd, ConnectFailedCause, ConnectionEnded, Dialling, Finishing, HeadUnsent, NoAddress, NoConnection, NoDatagramLeft, NoRequest, NoResponse, NoSessionStream, NoSettings, NoStreamLeft, NoUrl, NotHttps, NotProceeding, OfTheRequest, OfTheResponse, PendingCause, RejectedCause, RejectionOver, RejectionRefused, ReplyCause, Unacknowledged, is_incoming}
 use Rattle.wt_turn.specs.Turns.{is_call}
-use Rattle.wt_laws.specs.Told.{Logged, NonePassed, OnePassed, OneRecord, Passed, TellsOf, ThenPolled, given_stream, is_pass, is_quiet}
+use Rattle.wt_laws.specs.ReplyTells.{Logged, NonePassed, OnePassed, OneRecord, HasPassed, TellsOf, ThenPolled, given_stream, is_pass, is_quiet}
 use Rattle.wt_spec.specs.Answers.{is_client}
 use Rattle.wt_spec.specs.Connect.{address_of, authority_of, connect_to, outcome_error, path_of, port_of, request_head, reserved_name, server_name, unless_stopped, with_address}
 use Rattle.wt_spec.specs.Connection.{accept_due, accept_first, accept_stream, give_or_pass, is_for_session, next_datagram, next_due, pass_stream, receive_first, receive_next, receive_or_pass}
@@ -57,7 +57,7 @@ pub record Caused (side : Side) (turn : Turn) (start : Log) (x : Effect) : Type 
   pub before : Steps side turn decided start
   pub after : Steps side turn x.log decided
   pub why : ReplyCause side turn decided x.reply
-  pub passed : Passed (calls_of decided) (calls_of start)
+  pub passed : HasPassed (calls_of decided) (calls_of start)
   pub logged : Logged turn (calls_of decided) (calls_of x.log) x.reply
   pub at_once : (is_accept turn || is_receive turn) ≡ false → decided ≡ start
 
@@ -91,7 +91,7 @@ open-send log k (b ∷ piece) = refl
 
 -- ---- one turn
 
-module _ (side : Side) (turn : Turn) (called : is_call turn ≡ true) where
+module _ (side : Side) (turn : Turn) (by_call : is_call turn ≡ true) where
   pub either : {log : Log} (b : Bool) (x y : Effect) → (b ≡ true → Caused side turn log x) → (b ≡ false → Caused side turn log y) → Caused side turn log (if b then x else y)
   either true x y f g = f refl
   either false x y f g = g refl
@@ -102,15 +102,15 @@ module _ (side : Side) (turn : Turn) (called : is_call turn ≡ true) where
   leaf log own r reply o c q w = record { decided = log; before = Nothing; after = ByCall own r o c Nothing; why = w; passed = NonePassed; logged = OneRecord r (calls-logged side log own r) q; at_once = λ z. refl }
 
   pub polled : (log : Log) (reply : Reply) → is_quiet reply ≡ true → ReplyCause side turn log reply → Caused side turn log (poll_only side log reply)
-  polled log reply q w = leaf log [] Polled reply tt called q w
+  polled log reply q w = leaf log [] Polled reply tt by_call q w
 
   -- a record, then the call's own
-  settled : (log : Log) (own : List Action) (r : CallRecord) (reply : Reply) → OwnCauses side turn log own → CallCause side turn log own r → TellsOf turn r reply → ReplyCause side turn log reply
+  call-decided : (log : Log) (own : List Action) (r : CallRecord) (reply : Reply) → OwnCauses side turn log own → CallCause side turn log own r → TellsOf turn r reply → ReplyCause side turn log reply
       → Caused side turn log (poll_only side (log_call side log own r) reply)
-  settled log own r reply o c q w = record {
+  call-decided log own r reply o c q w = record {
     decided = log;
     before = Nothing;
-    after = ByCall own r o c (ByCall [] Polled tt called Nothing);
+    after = ByCall own r o c (ByCall [] Polled tt by_call Nothing);
     why = w;
     passed = NonePassed;
     logged = ThenPolled r (calls-logged side (log_call side log own r) [] Polled ∙ ap (λ rs. Polled ∷ rs) (calls-logged side log own r)) q;
@@ -120,7 +120,7 @@ module _ (side : Side) (turn : Turn) (called : is_call turn ≡ true) where
   -- a record, and the call looks again
   again-after : {x : Effect} (log : Log) (own : List Action) (r : CallRecord) → (is_accept turn || is_receive turn) ≡ true → is_pass r ≡ true → OwnCauses side turn log own → CallCause side turn log own r
       → Caused side turn (log_call side log own r) x → Caused side turn log x
-  again-after log own r a z o c x = record { decided = x.decided; before = ByCall own r o c x.before; after = x.after; why = x.why; passed = OnePassed r z (subst (Passed (calls_of x.decided)) (calls-logged side log own r) x.passed); logged = x.logged; at_once = λ z. absurd (cc) }
+  again-after log own r a z o c x = record { decided = x.decided; before = ByCall own r o c x.before; after = x.after; why = x.why; passed = OnePassed r z (subst (HasPassed (calls_of x.decided)) (calls-logged side log own r) x.passed); logged = x.logged; at_once = λ z. absurd (cc) }
 
   -- ---- own actions
 
@@ -152,16 +152,16 @@ module _ (side : Side) (turn : Turn) (called : is_call turn ≡ true) where
       (own-if (with_actions own log) (actions.Close code []) (is_open log) (λ b. (s ∙ b, OfHandshake (ap (λ cs. is_under_way (handshake_state cs)) (calls-with own log) ∙ u) h refl)))
 
   -- the record of a handshake that is over
-  abbrev over : (log : Log) (own : List Action) → is_under_way (handshake_state (calls_of log)) ≡ true → OverCause side turn log → OverBy side turn (with_actions own log)
-  over log own u x = record { before = log; own = own; is = refl; under_way = u; why = x }
+  abbrev over-by : (log : Log) (own : List Action) → is_under_way (handshake_state (calls_of log)) ≡ true → OverCause side turn log → OverBy side turn (with_actions own log)
+  over-by log own u x = record { before = log; own = own; is = refl; under_way = u; why = x }
 
   -- the handshake fails, and closes an open connection
   failed : (log : Log) (own : List Action) (code : ℕ) (reply : Reply) → HandshakeCode side turn (with_actions own log) code → is_open (with_actions own log) ≡ is_open log → is_under_way (handshake_state (calls_of log)) ≡ true → OwnCauses side turn log own → OverCause side turn log → is_quiet reply ≡ true
       → ReplyCause side turn log reply → Caused side turn log (fail_handshake side log (own ++ close_when_open log code) reply)
-  failed log own code reply h s u o x q w = leaf log (own ++ close_when_open log code) HandshakeOver reply (own-closing log own code h s u o) (over log (own ++ close_when_open log code) u x) q w
+  failed log own code reply h s u o x q w = leaf log (own ++ close_when_open log code) HandshakeOver reply (own-closing log own code h s u o) (over-by log (own ++ close_when_open log code) u x) q w
 
   failed-so : (log : Log) (own : List Action) (reply : Reply) → is_under_way (handshake_state (calls_of log)) ≡ true → OwnCauses side turn log own → OverCause side turn log → is_quiet reply ≡ true → ReplyCause side turn log reply → Caused side turn log (fail_handshake side log own reply)
-  failed-so log own reply u o x q w = leaf log own HandshakeOver reply o (over log own u x) q w
+  failed-so log own reply u o x q w = leaf log own HandshakeOver reply o (over-by log own u x) q w
 
   -- a rejection is over
   rejected : (log : Log) (code : ℕ) → HandshakeCode side turn log code → is_under_way (handshake_state (calls_of log)) ≡ true → RejectedCause side turn log → Caused side turn log (fail_handshake side log (close_when_open log code) replies.Rejected)
@@ -189,7 +189,7 @@ module _ (side : Side) (turn : Turn) (called : is_call turn ≡ true) where
   pending-accept s at log false a d o e = AsDriver (or_left (is_accept turn || is_receive turn) (is_incoming turn) (or_left (is_accept turn) (is_receive turn) a)) o refl
 
   found-it : (s at : ℕ) (log : Log) (c : Classified) (b : Bool) → is_accept turn ≡ true → established_session (calls_of log) ≡ Some (s, at) → next_due side log (accepted_kind side turn) s ≡ Some c → is_for_session s c.verdict ≡ b → FoundStream side turn log c.id b
-  found-it s at log c b a d e n = record { accepts = a; session = s; at = at; is_established = d; found = c; next = e; same = refl; named = n }
+  found-it s at log c b a d e n = record { accepts = a; session = s; offset = at; is_established = d; found = c; next = e; same = refl; named = n }
 
   same-next : (s : ℕ) (log : Log) (k code kind : ℕ) → next_due side (Sent (actions.StopOut k code) ∷ log) kind s ≡ next_due side log kind s
   unfolding stream_table
@@ -207,7 +207,7 @@ module _ (side : Side) (turn : Turn) (called : is_call turn ≡ true) where
   module _ (a : is_accept turn ≡ true) (s at : ℕ) (reply : ℕ → Reply) (t : (k : ℕ) → given_stream (reply k) ≡ Some k) (q : (log : Log) (k : ℕ) → FoundStream side turn log k true → ReplyCause side turn log (reply k)) where
     caused-give : (again : Log → Effect) (log : Log) (c : Classified) (b : Bool) → (b ≡ false → Caused side turn (pass_stream side log c.id) (again (pass_stream side log c.id))) → established_session (calls_of log) ≡ Some (s, at)
         → next_due side log (accepted_kind side turn) s ≡ Some c → is_for_session s c.verdict ≡ b → (b ≡ false → is_open log ≡ true) → Caused side turn log (give_or_pass b side reply again log c.id)
-    caused-give again log c true f d e n o = settled log [] (StreamAccepted c.id) (reply c.id) tt (ByAccept (found-it s at log c true a d e n)) (t c.id) (q log c.id (found-it s at log c true a d e n))
+    caused-give again log c true f d e n o = call-decided log [] (StreamAccepted c.id) (reply c.id) tt (ByAccept (found-it s at log c true a d e n)) (t c.id) (q log c.id (found-it s at log c true a d e n))
     caused-give again log c false f d e n o =
         again-after log (stopping c.id) (StreamPassed c.id) (or_left (is_accept turn) (is_receive turn) a) refl ((o refl, OfPass (found-it s at log c false a d e n) refl), tt)
         (found-it s at (Sent (actions.StopOut c.id (code_of h3.BufferedStreamRejected)) ∷ log) c false a d (same-next s log c.id (code_of h3.BufferedStreamRejected) (accepted_kind side turn) ∙ e) n)
@@ -236,11 +236,11 @@ module _ (side : Side) (turn : Turn) (called : is_call turn ≡ true) where
 
   module _ (a : is_receive turn ≡ true) (s at : ℕ) where
     abbrev found-one : (log : Log) (d : ℕ × List ℕ) (b : Bool) → established_session (calls_of log) ≡ Some (s, at) → next_datagram side log ≡ Some d → (4 * d.0 == s) ≡ b → FoundDatagram side turn log b
-    found-one log d b i e n = record { receives = a; session = s; at = at; is_established = i; datagram = d; next = e; named = n }
+    found-one log d b i e n = record { receives = a; session = s; offset = at; is_established = i; datagram = d; next = e; named = n }
 
     caused-take : (again : Log → Effect) (log : Log) (d : ℕ × List ℕ) (b : Bool) → Caused side turn (log_call side log [] DatagramPassed) (again (log_call side log [] DatagramPassed))
         → established_session (calls_of log) ≡ Some (s, at) → next_datagram side log ≡ Some d → (4 * d.0 == s) ≡ b → Caused side turn log (receive_or_pass b side again log d.1)
-    caused-take again log d true f i e n = settled log [] DatagramReceived (replies.Datagram d.1) tt (found-one log d true i e n) (d.1, refl) (found-one log d true i e n, refl)
+    caused-take again log d true f i e n = call-decided log [] DatagramReceived (replies.Datagram d.1) tt (found-one log d true i e n) (d.1, refl) (found-one log d true i e n, refl)
     caused-take again log d false f i e n = again-after log [] DatagramPassed (or_right (is_accept turn) (is_receive turn) a) refl tt (found-one log d false i e n) f
 
     caused-next : (again : Log → Effect) (log : Log) (o : Option (ℕ × List ℕ)) → ((d : ℕ × List ℕ) → next_datagram side log ≡ Some d → Caused side turn (log_call side log [] DatagramPassed) (again (log_call side log [] DatagramPassed)))
@@ -266,7 +266,7 @@ module _ (side : Side) (turn : Turn) (called : is_call turn ≡ true) where
 
   pub caused-deliver : (log : Log) (cs : List Classified) → turn ≡ turns.Call calls.Incoming → is_client side ≡ false → handshake_state (calls_of log) ≡ AwaitingRequest → queued_requests side log ≡ cs → Caused side turn log (deliver side log cs)
   caused-deliver log (c ∷ later) t v s e =
-      leaf log [] (RequestDelivered c.id) (replies.Request c.id (request_fields_of c.verdict)) tt (record { asks = t; by_server = v; under_way = s; queued = c; later = later; first = e; same = refl }) refl (t, c, later, e, refl, refl)
+      leaf log [] (RequestDelivered c.id) (replies.Request c.id (request_fields_of c.verdict)) tt (record { asking = t; by_server = v; under_way = s; queued = c; later = later; first = e; same = refl }) refl (t, c, later, e, refl, refl)
   caused-deliver log [] t v s e =
       either (is_open log) _ _ (λ o. polled log replies.Pending refl (o, NoRequest t e)) (λ o. failed-so log [] (replies.Failed (driver_error side log)) (under-way log AwaitingRequest s refl) tt (NoMoreRequests t e o) refl (AsDriver (or_right (is_accept turn || is_receive turn) (is_incoming turn) (ap is_incoming t)) o refl))
 
@@ -309,10 +309,10 @@ module _ (side : Side) (turn : Turn) (called : is_call turn ≡ true) where
       either (is_covered log id left) _ _
       (λ c. let by : EstablishedBy side turn (with_actions (send_of id left) log) id (request_end (verdict_of id (stream_table side log).classified)) =
       record { before = log; own = send_of id left; is = refl; was_open = not-false _ o; under_way = r.under_way; how = ByAnswer head r.from i c refl refl } in
-      settled log (send_of id left) (SessionEstablished id _) (replies.Session id) (wholly log id true head i r.from (not-false _ o) x c) by refl (send_of id left, _, by))
+      call-decided log (send_of id left) (SessionEstablished id _) (replies.Session id) (wholly log id true head i r.from (not-false _ o) x c) by refl (send_of id left, _, by))
       (λ c. partly log id true head waiting i r (not-false _ o) x c)))
 
-  -- the finish of a rejection, behind what is left of it
+  -- the finish of a rejection, after what is left of it
   own-finish : (log : Log) (id : ℕ) (head : List ℕ) → id ≡ requested_stream (calls_of log) → ResponseFrom turn (calls_of log) false head → is_open log ≡ true → is_refused log id (head_left log id head) ≡ false → is_covered log id (head_left log id head) ≡ true → is_finished (actions_of log) id ≡ false
       → OwnCauses side turn log (send_of id (head_left log id head) ++ actions.Finish id ∷ [])
   own-finish log id head i f o x c n =
@@ -371,12 +371,12 @@ module _ (side : Side) (turn : Turn) (called : is_call turn ≡ true) where
   walk_of : Log → ResponseWalk
   walk_of log = response_walk_of (contents log (local_bi side)) (end_of (events_of log) (local_bi side))
 
-  -- what the response comes to, and the same behind actions of the call
+  -- what the response comes to, and the same after actions of the call
   abbrev reads : (log : Log) (w : Onward log) (r : ResponseWalk) → response_walk_of (contents log (local_bi side)) (end_of (events_of log) (local_bi side)) ≡ r → ResponseIs side turn log r
-  reads log w r e = record { goes_on = w.call; reserved = None; request = w.head; under_way = w.state; is = e }
+  reads log w r e = record { still_going = w.call; reserved = None; request = w.head; under_way = w.state; is = e }
 
   abbrev reads-then : (log : Log) (own : List Action) (w : Onward log) (r : ResponseWalk) → response_walk_of (contents (with_actions own log) (local_bi side)) (end_of (events_of (with_actions own log)) (local_bi side)) ≡ r → ResponseIs side turn (with_actions own log) r
-  reads-then log own w r e = record { goes_on = w.call; reserved = None; request = w.head; under_way = ap handshake_state (calls-with own log) ∙ w.state; is = e }
+  reads-then log own w r e = record { still_going = w.call; reserved = None; request = w.head; under_way = ap handshake_state (calls-with own log) ∙ w.state; is = e }
 
   caused-response : (log : Log) (own : List Action) (r : ResponseWalk) → OwnCauses side turn log own → is_open (with_actions own log) ≡ is_open log → (w : Onward log) → local_count (actions_of (with_actions own log)) (local_bi side) ≢ 0 → head_left (with_actions own log) (local_bi side) w.head ≡ [] → walk_of log ≡ r → Caused side turn log (read_response side log (local_bi side) own r)
   unfolding walk_of
@@ -386,8 +386,8 @@ module _ (side : Side) (turn : Turn) (called : is_call turn ≡ true) where
   caused-response log own responses.Ended o s w n h e =
       let r = responses.Ended in
       connect-failed log own 0 _ (Plain (EndsStream (reads-then log own w r (blind-actions walk_of (λ a g. refl) own log ∙ e)) (n, h)) refl) s (going log w) o (ByStreamEnd (reads log w r e) refl)
-  caused-response log own responses.Waiting o s w n h e =
-      either (is_open log) _ _ (λ b. leaf log own Polled replies.Pending o called refl (b, NoResponse None w.head w.call w.state e)) (λ b. connect-failed-so log own _ (going log w) o (BeforeResponse (reads log w responses.Waiting e) b refl))
+  caused-response log own responses.Incomplete o s w n h e =
+      either (is_open log) _ _ (λ b. leaf log own Polled replies.Pending o by_call refl (b, NoResponse None w.head w.call w.state e)) (λ b. connect-failed-so log own _ (going log w) o (BeforeResponse (reads log w responses.Incomplete e) b refl))
   caused-response log own (responses.Response fields at) o s w n h e =
       let r = responses.Response fields at in
       either (not (has_success fields)) _ _
@@ -395,18 +395,18 @@ module _ (side : Side) (turn : Turn) (called : is_call turn ≡ true) where
       either (is_open log) _ _
       (λ b. let by : EstablishedBy side turn (with_actions own log) (local_bi side) at =
       record { before = log; own = own; is = refl; was_open = b; under_way = going log w; how = ByResponse w.head fields w.call w.state w.settings e (not-false _ c) refl n h } in
-      settled log own (SessionEstablished (local_bi side) at) (replies.Session (local_bi side)) o by refl (own, at, by))
+      call-decided log own (SessionEstablished (local_bi side) at) (replies.Session (local_bi side)) o by refl (own, at, by))
       (λ b. connect-failed-so log own _ (going log w) o (AfterSuccess fields at (reads log w r e) (not-false _ c) b refl)))
 
   caused-await : (log : Log) (own : List Action) → OwnCauses side turn log own → is_open (with_actions own log) ≡ is_open log → (w : Onward log) → local_count (actions_of (with_actions own log)) (local_bi side) ≢ 0 → head_left (with_actions own log) (local_bi side) w.head ≡ [] → Caused side turn log (await_response side log (local_bi side) own)
   unfolding walk_of
   caused-await log own o s w n h = caused-response log own (walk_of log) o s w n h refl
 
-  -- the head is sent behind these actions, which open its stream or do nothing
+  -- the head is sent after these actions, which open its stream or do nothing
   record Opens (log : Log) (own : List Action) (left head : List ℕ) : Type 0 where
     pub causes : OwnCauses side turn log own
     pub stays : is_open (with_actions own log) ≡ is_open log
-    pub counted : local_count (actions_of (with_actions own log)) (local_bi side) ≢ 0
+    pub count_is : local_count (actions_of (with_actions own log)) (local_bi side) ≢ 0
     pub credit : credit_left (with_actions own log) (local_bi side) ≡ credit_left log (local_bi side)
     pub left_at : head_left log (local_bi side) head ≡ left
     pub left_is : head_left (with_actions own log) (local_bi side) head ≡ left
@@ -415,7 +415,7 @@ module _ (side : Side) (turn : Turn) (called : is_call turn ≡ true) where
   sends-request log own left piece w x o n e =
       own-append log own (send_of (local_bi side) piece) x.causes
       (own-send (with_actions own log) (local_bi side) piece (x.stays ∙ o) (λ b rest q. blind-actions (λ g. stop_of (events_of g) (local_bi side)) (λ a g. refl) own log ∙ none-there (stop_of (events_of log) (local_bi side)) n)
-      (OfRequest w.head w.call (ap handshake_state (calls-with own log) ∙ w.state) refl x.counted (e ∙ ap (λ n. take n left) (sym x.credit) ∙ ap (bytes_within_credit (with_actions own log) (local_bi side)) (sym x.left_is))))
+      (OfRequest w.head w.call (ap handshake_state (calls-with own log) ∙ w.state) refl x.count_is (e ∙ ap (λ n. take n left) (sym x.credit) ∙ ap (bytes_within_credit (with_actions own log) (local_bi side)) (sym x.left_is))))
 
   with-appended : (as_ bs : List Action) (log : Log) → with_actions (as_ ++ bs) log ≡ with_actions bs (with_actions as_ log)
   with-appended [] bs log = refl
@@ -442,13 +442,13 @@ module _ (side : Side) (turn : Turn) (called : is_call turn ≡ true) where
 
   caused-send-request : (log : Log) (own : List Action) (left : List ℕ) (w : Onward log) → Opens log own left w.head → Caused side turn log (send_request side log (local_bi side) own left)
   caused-send-request log own left w x =
-      either (is_empty left) _ _ (λ c. caused-await log own x.causes x.stays w x.counted (x.left_is ∙ when-empty left c)) (λ c.
+      either (is_empty left) _ _ (λ c. caused-await log own x.causes x.stays w x.count_is (x.left_is ∙ when-empty left c)) (λ c.
       either (not (is_open log)) _ _ (λ o. connect-failed-so log own _ (going log w) x.causes (BeforeRequest None w.head w.call w.state (ap is_empty x.left_at ∙ c) (not-true _ o) refl)) (λ o.
       either (is_some (stop_of (events_of log) (local_bi side))) _ _ (λ b. let y : is_refused log (local_bi side) left ≡ true = rw (b, c) refl in
       connect-failed log own 0 _ (Plain (Stops None w.head w.call (ap handshake_state (calls-with own log) ∙ w.state) (ap (is_refused (with_actions own log) (local_bi side)) x.left_is ∙ blind-actions (λ g. is_refused g (local_bi side) left) (λ a g. refl) own log ∙ y)) refl) x.stays (going log w) x.causes (ByRefusal None w.head w.call w.state (not-false _ o) (rw x.left_at y) refl)) (λ b.
       either (is_covered log (local_bi side) left) _ _
-      (λ z. caused-await log (own ++ send_of (local_bi side) left) (sends-request log own left left w x (not-false _ o) b (sym (covered-whole log (local_bi side) left z))) (stays-open log left left own x.stays) w (still-counted log own left x.counted) (all-out log own left w.head x.left_is))
-      (λ z. leaf log (own ++ send_of (local_bi side) (bytes_within_credit log (local_bi side) left)) Polled replies.Pending (sends-request log own left (bytes_within_credit log (local_bi side) left) w x (not-false _ o) b refl) called refl (not-false _ o, HeadUnsent (local_bi side) w.head (OfTheRequest None w.call w.state refl) (rw x.left_at z) (none-there _ b))))))
+      (λ z. caused-await log (own ++ send_of (local_bi side) left) (sends-request log own left left w x (not-false _ o) b (sym (covered-whole log (local_bi side) left z))) (stays-open log left left own x.stays) w (still-counted log own left x.count_is) (all-out log own left w.head x.left_is))
+      (λ z. leaf log (own ++ send_of (local_bi side) (bytes_within_credit log (local_bi side) left)) Polled replies.Pending (sends-request log own left (bytes_within_credit log (local_bi side) left) w x (not-false _ o) b refl) by_call refl (not-false _ o, HeadUnsent (local_bi side) w.head (OfTheRequest None w.call w.state refl) (rw x.left_at z) (none-there _ b))))))
 
   -- the request's stream is opened
   opens-first : (log : Log) (w : Onward log) (b : Bool) → local_count (actions_of log) (local_bi side) ≡ 0 → may_open side log (local_bi side) ≡ b → is_open log ≡ true → b ≡ true → Opens log (actions_to_open side log (local_bi side)) (head_left log (local_bi side) w.head) w.head
@@ -456,7 +456,7 @@ module _ (side : Side) (turn : Turn) (called : is_call turn ≡ true) where
       rw m (record {
         causes = ((o, local_bi side, m, refl, or_right (local_bi side == local_uni side) _ (eq-eqb (local_bi side) (local_bi side) refl), OfRequest w.head w.call w.state w.settings refl n), tt);
         stays = refl;
-        counted = λ z. one-opened z;
+        count_is = λ z. one-opened z;
         credit = refl;
         left_at = refl;
         left_is = refl;
@@ -475,7 +475,7 @@ module _ (side : Side) (turn : Turn) (called : is_call turn ≡ true) where
   caused-open-request : (log : Log) (w : Onward log) → Caused side turn log (open_request side log w.head)
   caused-open-request log w =
       either (not (local_count (actions_of log) (local_bi side) == 0)) _ _
-      (λ c. caused-send-request log [] (head_left log (local_bi side) w.head) w (record { causes = tt; stays = refl; counted = eqb-false (local_count (actions_of log) (local_bi side)) 0 (not-true _ c); credit = refl; left_at = refl; left_is = refl })) (λ c.
+      (λ c. caused-send-request log [] (head_left log (local_bi side) w.head) w (record { causes = tt; stays = refl; count_is = eqb-false (local_count (actions_of log) (local_bi side)) 0 (not-true _ c); credit = refl; left_at = refl; left_is = refl })) (λ c.
       either (not (is_open log)) _ _ (λ o. connect-failed-so log [] _ (going log w) tt (BeforeStream None w.head w.call w.state (eqb-true (local_count (actions_of log) (local_bi side)) 0 (not-false _ c)) (not-true _ o) refl)) (λ o.
       either (may_open side log (local_bi side)) _ _
       (λ m. caused-send-request log (actions_to_open side log (local_bi side)) (head_left log (local_bi side) w.head) w (opens-first log w true (eqb-true (local_count (actions_of log) (local_bi side)) 0 (not-false _ c)) m (not-false _ o) refl))
@@ -497,7 +497,7 @@ module _ (side : Side) (turn : Turn) (called : is_call turn ≡ true) where
 
   -- the handshake that is under way goes on
   pub caused-continue : (log : Log) (s : HandshakeState) → turn ≡ turns.Call calls.Handshake → handshake_state (calls_of log) ≡ s → is_continuable s ≡ true → Caused side turn log (continue_by s side log)
-  caused-continue log (Responding accepts head) t e c = caused-respond log accepts head Polled (record { from = FromBefore t e; under_way = under-way log (Responding accepts head) e refl; quiet = refl; waits = λ own. called })
+  caused-continue log (Responding accepts head) t e c = caused-respond log accepts head Polled (record { from = FromBefore t e; under_way = under-way log (Responding accepts head) e refl; quiet = refl; waits = λ own. by_call })
   caused-continue log (Connecting reserved head) t e c = caused-connect log reserved head t e
   caused-continue log _ t e c = absurd (cc)
 

@@ -18,7 +18,7 @@ use Rattle.wt_turn.specs.declared.action.Action.TheVariants as actions
 
 -- ---- the entry that ended it
 
--- a loss came, or a close went out behind this log
+-- a loss came, or a close went out after this log
 data Closing (log : Log) : Type 0 where
   WasLost : list_any loses (events_of log) ≡ true → Closing log
   WasClosed : (earlier : Log) (code : ℕ) (reason : List ℕ) → GoesOnFrom (Sent (actions.Close code reason) ∷ earlier) log → Closing log
@@ -64,7 +64,7 @@ table-stays side (e ∷ more) base o =
     let c = closed-stays e (more ++ base) p.closed in
     record { closed = c; same = closed-table side e (more ++ base) c ∙ p.same }
 
-since-moment : (side : Side) {moment log : Log} → SinceMoment moment log → stream_table side log ≡ stream_table side moment
+since-moment : (side : Side) {since log : Log} → SinceMoment since log → stream_table side log ≡ stream_table side since
 since-moment side AtOnce = refl
 since-moment side (AfterAction {log} a s) = same-table side a log ∙ since-moment side s
 

@@ -87,12 +87,12 @@ flush-within side e log c p = record {
 
 -- credit never falls, and there is none before the connection is established
 event-within : (side : Side) (turn : Turn) (log : Log) (e : Event) (k : ℕ) → Brings side turn log e → all_events_of log ≡ events_of log → Credited log → length (sent_on (actions_of log) k) ≤ credit (e ∷ events_of log) k
-event-within side turn log (Connected u b c d) k x q p = let n : credit (events_of log) k ≡ 0 = ap (λ es. credit es k) (sym q) ∙ p.none (connected-fits side log turn u b c d x.told x.lawful) k in let w = p.within k in omega arith
+event-within side turn log (Connected u b c d) k x q p = let n : credit (events_of log) k ≡ 0 = ap (λ es. credit es k) (sym q) ∙ p.none (connected-fits side log turn u b c d x.reported x.lawful) k in let w = p.within k in omega arith
 event-within side turn log (MaxData id total) k x q p = at (id == k) refl
   where
     at : (b : Bool) → (id == k) ≡ b → length (sent_on (actions_of log) k) ≤ credit (MaxData id total ∷ events_of log) k
     at true i =
-        let d : credit (all_events_of log) k ≤ total = subst (λ (j : ℕ). credit (all_events_of log) j ≤ total) (eqb-true id k i) (data-fits side log turn id total x.told x.lawful) in
+        let d : credit (all_events_of log) k ≤ total = subst (λ (j : ℕ). credit (all_events_of log) j ≤ total) (eqb-true id k i) (data-fits side log turn id total x.reported x.lawful) in
         let m : credit (all_events_of log) k ≡ credit (events_of log) k = ap (λ es. credit es k) q in
         let w = p.within k in rw i (omega arith)
     at false i = rw i (p.within k)
@@ -107,7 +107,7 @@ connected-data side log _ id total e l = absurd (cc)
 
 event-none : (side : Side) (turn : Turn) (log : Log) (e : Event) (k : ℕ) → Brings side turn log e → Credited log → is_connected (e ∷ all_events_of log) ≡ false → credit (e ∷ all_events_of log) k ≡ 0
 event-none side turn log (Connected u b c d) k x p n = absurd (cc)
-event-none side turn log (MaxData id total) k x p n = absurd (let c = connected-data side log turn id total x.told x.lawful in cc)
+event-none side turn log (MaxData id total) k x p n = absurd (let c = connected-data side log turn id total x.reported x.lawful in cc)
 event-none side turn log _ k x p n = p.none n k
 
 credited-event : (side : Side) (turn : Turn) (log : Log) (e : Event) → Brings side turn log e → all_events_of log ≡ events_of log → Credited log → Credited (Reported e ∷ log)

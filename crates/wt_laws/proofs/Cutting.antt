@@ -24,8 +24,8 @@ never-empty (actions.Send i p) [] (actions.Send j q) = at (i == j)
 never-empty b [] x = (b, x ∷ [], refl)
 never-empty b (a ∷ as_) x = (b, join_one (a ∷ as_) x, refl)
 
-behind : (a b : Action) (as_ : List Action) (x y : Action) → join_one (a ∷ join_one (b ∷ as_) x) y ≡ a ∷ join_one (join_one (b ∷ as_) x) y
-behind a b as_ x y = let n = never-empty b as_ x in ap (λ xs. join_one (a ∷ xs) y) n.2 ∙ ap (λ xs. a ∷ join_one xs y) (sym n.2)
+after-first : (a b : Action) (as_ : List Action) (x y : Action) → join_one (a ∷ join_one (b ∷ as_) x) y ≡ a ∷ join_one (join_one (b ∷ as_) x) y
+after-first a b as_ x y = let n = never-empty b as_ x in ap (λ xs. join_one (a ∷ xs) y) n.2 ∙ ap (λ xs. a ∷ join_one xs y) (sym n.2)
 
 same-send : (as_ : List Action) (i : ℕ) (p q : List ℕ) → join_one (join_one as_ (actions.Send i p)) (actions.Send i q) ≡ join_one as_ (actions.Send i (p ++ q))
 same-send [] i p q = rw (eq-eqb i i refl) refl
@@ -35,7 +35,7 @@ same-send (actions.Send j r ∷ []) i p q = at (j == i) refl
     at true e = ap (λ (b : Bool). if b then actions.Send j ((r ++ p) ++ q) ∷ [] else actions.Send j (r ++ p) ∷ actions.Send i q ∷ []) e ∙ ap (λ xs. actions.Send j xs ∷ []) (append_assoc r p q)
     at false e = ap (λ (b : Bool). actions.Send j r ∷ (if b then actions.Send i (p ++ q) ∷ [] else actions.Send i p ∷ actions.Send i q ∷ [])) (eq-eqb i i refl)
 same-send (a ∷ []) i p q = ap (λ (b : Bool). a ∷ (if b then actions.Send i (p ++ q) ∷ [] else actions.Send i p ∷ actions.Send i q ∷ [])) (eq-eqb i i refl)
-same-send (a ∷ b ∷ as_) i p q = behind a b as_ (actions.Send i p) (actions.Send i q) ∙ ap (λ xs. a ∷ xs) (same-send (b ∷ as_) i p q)
+same-send (a ∷ b ∷ as_) i p q = after-first a b as_ (actions.Send i p) (actions.Send i q) ∙ ap (λ xs. a ∷ xs) (same-send (b ∷ as_) i p q)
 
 join-two : (as_ : List Action) (a b : Action) → join_one (join_one as_ a) b ≡ join_all as_ (join_two a b)
 join-two as_ (actions.Send i p) (actions.Send j q) = at (i == j) refl

@@ -22,7 +22,7 @@ use Rattle.wt_laws.specs.Laws.{DatagramsInOrder, more_received, payload_for, pay
 use Rattle.wt_laws.specs.Reachable.{AllLawful, Exchange, exchanges}
 use Rattle.wt_laws.specs.RecordCauses.{RecordCause}
 use Rattle.wt_laws.specs.ReplyCauses.{ReplyCause}
-use Rattle.wt_laws.specs.Told.{Logged, NoRecord, NonePassed, OnePassed, OneRecord, Passed, TellsOf, ThenPolled, datagram_told, is_pass, is_quiet}
+use Rattle.wt_laws.specs.ReplyTells.{Logged, NoRecord, NonePassed, OnePassed, OneRecord, HasPassed, TellsOf, ThenPolled, datagram_told, is_pass, is_quiet}
 use Rattle.wt_spec.specs.Answers.{answer_to, is_lawful, log_after, log_from}
 use Rattle.wt_spec.specs.Connection.{next_datagram, read_datagram, well_formed}
 use Rattle.wt_spec.specs.Driver.{established_session, establishes, or_earlier, session_id, settled_datagrams, settles_datagram, stream_table}
@@ -142,10 +142,10 @@ so-far-other side r log s i e h p =
       prefix = λ t at q. w ∙ p.prefix t at (sym d ∙ q) ∙ ap (λ n. payloads_for t (take n xs)) (sym c);
     }
 
--- what is next is the one behind those that are settled
+-- what is next is the one after those that are settled
 pub record NextIs (log : Log) (d : ℕ × List ℕ) : Type 0 where
   pub piece : List ℕ
-  pub at : slice_get (datagrams_of (events_of log)) (settled_datagrams (calls_of log)) ≡ Some piece
+  pub found : slice_get (datagrams_of (events_of log)) (settled_datagrams (calls_of log)) ≡ Some piece
   pub parsed : well_formed piece ≡ Some d
 
 pub next-is : (side : Side) (log : Log) (d : ℕ × List ℕ) → next_datagram side log ≡ Some d → NextIs log d × (settled_datagrams (calls_of log) < (stream_table side log).progress.datagrams)
@@ -153,7 +153,7 @@ next-is side log d e = at (nat_lt (settled_datagrams (calls_of log)) (stream_tab
   where
     piece-at : (o : Option (List ℕ)) → slice_get (datagrams_of (events_of log)) (settled_datagrams (calls_of log)) ≡ o → read_datagram o ≡ Some d → NextIs log d
     piece-at None i e = absurd (cc)
-    piece-at (Some piece) i e = record { piece = piece; at = i; parsed = e }
+    piece-at (Some piece) i e = record { piece = piece; found = i; parsed = e }
 
     at : (b : Bool) → nat_lt (settled_datagrams (calls_of log)) (stream_table side log).progress.datagrams ≡ b → (if b then read_datagram (slice_get (datagrams_of (events_of log)) (settled_datagrams (calls_of log))) else None) ≡ Some d
         → NextIs log d × (settled_datagrams (calls_of log) < (stream_table side log).progress.datagrams)
@@ -170,13 +170,13 @@ so-far-settled side turn r log b s i e f h p =
     let w : received xs (r ∷ calls_of log) ≡ with_received b (payload_at (slice_get xs n)) (received xs (calls_of log)) = ap (λ z. with_received z (payload_at (slice_get xs n)) (received xs (calls_of log))) i in
     record {
       handshakes = h;
-      within = rw c (slice_get_within xs n x.0.piece x.0.at);
+      within = rw c (slice_get_within xs n x.0.piece x.0.found);
       dequeued = rw c (dequeued-stay side (suc n) (Called r) log x.1);
       none = λ q. absurd (let z = sym d ∙ q in let y = f.is_established in cc);
       prefix = λ t at q.
           let same : f.session ≡ t = ap session_id (sym f.is_established ∙ sym d ∙ q) in
-          w ∙ ap (with_received b (payload_at (slice_get xs n))) (p.prefix t at (sym d ∙ q)) ∙ by-name t (take n xs) x.0.piece b x.0.at x.0.parsed (subst (λ z. (4 * f.datagram.0 == z) ≡ b) same f.named)
-          ∙ ap (payloads_for t) (sym (take-next xs n x.0.piece x.0.at) ∙ ap (λ m. take m xs) (sym c));
+          w ∙ ap (with_received b (payload_at (slice_get xs n))) (p.prefix t at (sym d ∙ q)) ∙ by-name t (take n xs) x.0.piece b x.0.found x.0.parsed (subst (λ z. (4 * f.datagram.0 == z) ≡ b) same f.named)
+          ∙ ap (payloads_for t) (sym (take-next xs n x.0.piece x.0.found) ∙ ap (λ m. take m xs) (sym c));
     }
   where
     by-name : (t : ℕ) (before : List (List ℕ)) (piece : List ℕ) (b : Bool) → slice_get (datagrams_of (events_of log)) (settled_datagrams (calls_of log)) ≡ Some piece → well_formed piece ≡ Some f.datagram → (4 * f.datagram.0 == t) ≡ b
@@ -220,7 +220,7 @@ keeps-datagrams side turn = by-entries (record {
 pub keeps-arrivals : (side : Side) (turn : Turn) (xs : List (List ℕ)) → event_of turn ≡ None → Keeps side turn (λ log. datagrams_of (events_of log) ≡ xs)
 keeps-arrivals side turn xs n = by-entries (record {
   action = λ log a p. p;
-  event = λ log e o b p. absurd (let t = b.told in cc);
+  event = λ log e o b p. absurd (let t = b.reported in cc);
   late = λ log e o b p. p;
   byte = λ log id b o r p. p;
   record_ = λ log r c p. p;
@@ -231,7 +231,7 @@ receive-brings (turns.Call c) e = refl
 receive-brings _ e = absurd (cc)
 
 -- what is passed isn't received
-pub passed-same : (xs : List (List ℕ)) (after before : List CallRecord) → Passed after before → received xs after ≡ received xs before
+pub passed-same : (xs : List (List ℕ)) (after before : List CallRecord) → HasPassed after before → received xs after ≡ received xs before
 passed-same xs after before NonePassed = refl
 passed-same xs after before (OnePassed r p s) = passed-same xs after (r ∷ before) s ∙ at r p
   where
@@ -274,12 +274,12 @@ found-payload side turn decided xs (replies.Datagram p) piece w e k =
     let f = w.0 in
     let x = (next-is side decided f.datagram f.next).0 in
     let q : p ≡ piece = cc in
-    ap (λ ys. payload_at (slice_get ys (settled_datagrams (calls_of decided)))) (k (receive-brings turn f.receives)) ∙ ap payload_at x.at ∙ ap payload_in x.parsed ∙ sym w.1 ∙ q
+    ap (λ ys. payload_at (slice_get ys (settled_datagrams (calls_of decided)))) (k (receive-brings turn f.receives)) ∙ ap payload_at x.found ∙ ap payload_in x.parsed ∙ sym w.1 ∙ q
 found-payload side turn decided xs _ piece w e k = absurd (cc)
 
 record DatagramsHold (side : Side) (before : List Exchange) (log : Log) : Type 0 where
   pub so_far : DatagramsSoFar side log
-  pub told : received_by before ≡ received (datagrams_of (events_of log)) (calls_of log)
+  pub reported : received_by before ≡ received (datagrams_of (events_of log)) (calls_of log)
 
 by-record : (side : Side) (turn : Turn) (xs got : List (List ℕ)) (decided : Log) (reply : Reply) (r : CallRecord) (b : Bool) → receives r ≡ b → got ≡ received xs (calls_of decided) → ReplyCause side turn decided reply → TellsOf turn r reply
     → (event_of turn ≡ None → xs ≡ datagrams_of (events_of decided)) → more_received (datagram_told reply) got ≡ received xs (r ∷ calls_of decided)
@@ -295,7 +295,7 @@ one-exchange side before log t l p =
     let xs = datagrams_of (events_of (log_after side log t)) in
     let a = keeps-turn (keeps-arrived side t (datagrams_of (events_of log))) log l ([], sym (append-nil (datagrams_of (events_of log)))) in
     let g : received_by before ≡ received xs (calls_of c.decided) =
-    p.told ∙ sym (received-grows (datagrams_of (events_of log)) a.0 (calls_of log) p.so_far.within) ∙ ap (λ ys. received ys (calls_of log)) (sym a.1) ∙ sym (passed-same xs (calls_of c.decided) (calls_of log) c.passed) in
+    p.reported ∙ sym (received-grows (datagrams_of (events_of log)) a.0 (calls_of log) p.so_far.within) ∙ ap (λ ys. received ys (calls_of log)) (sym a.1) ∙ sym (passed-same xs (calls_of c.decided) (calls_of log) c.passed) in
     at c.logged g c.why (λ n. keeps-steps (keeps-arrivals side t (datagrams_of (events_of c.decided)) n) c.after refl)
   where
     at : Logged t (calls_of (caused side t log l).decided) (calls_of (log_after side log t)) (answer_to side log t).reply → received_by before ≡ received (datagrams_of (events_of (log_after side log t))) (calls_of (caused side t log l).decided)
@@ -313,11 +313,11 @@ datagrams-first side = record { handshakes = handshakes-first side; within = ome
 
 datagrams-law : (side : Side) → Law side (DatagramsHold side)
 datagrams-law side = record {
-  first = record { so_far = datagrams-first side; told = refl };
-  turn = λ before log t l p. record { so_far = keeps-turn (keeps-datagrams side t) log l p.so_far; told = one-exchange side before log t l p };
+  first = record { so_far = datagrams-first side; reported = refl };
+  turn = λ before log t l p. record { so_far = keeps-turn (keeps-datagrams side t) log l p.so_far; reported = one-exchange side before log t l p };
 }
 
 pub datagrams-in-order : (side : Side) (all : List Turn) → AllLawful side [] all → DatagramsInOrder side (exchanges side all) (log_from side [] all)
 datagrams-in-order side all a s at e =
     let p = holds side (DatagramsHold side) (datagrams-law side) all a in
-    (p.so_far.dequeued, p.told ∙ p.so_far.prefix s at e)
+    (p.so_far.dequeued, p.reported ∙ p.so_far.prefix s at e)

@@ -44,7 +44,7 @@ scan-datagrams t calls table =
     kept-scan (λ u. u.progress.datagrams ≡ n) (same-datagrams n) calls (bi_rule t) t.ready (bi_ids t) (record { occupied = 0; table = scan_unis t calls table }) (any-caused calls (bi_rule t) (bi_ids t))
     (kept-scan (λ u. u.progress.datagrams ≡ n) (same-datagrams n) calls (uni_rule t) t.ready (uni_ids t) (record { occupied = 0; table = table }) (any-caused calls (uni_rule t) (uni_ids t)) refl)
 
--- ---- the checks behind the first dequeue none
+-- ---- the checks after the first dequeue none
 
 session-same : (w : SessionWalk) (b : Bool) (p : DriverProgress) → (session_ends w b p).datagrams ≡ p.datagrams
 session-same walks.Running b p = refl
@@ -130,9 +130,9 @@ all-well t calls d p piece b e n =
 record OneMore (t : TransportView) (calls : CallView) (p : DriverProgress) (number : ℕ) : Type 0 where
   pub piece : List ℕ
   pub ready : t.ready ≡ true
-  pub settled : calls.datagrams ≡ p.datagrams
+  pub all_settled : calls.datagrams ≡ p.datagrams
   pub next : t.datagram p.datagrams ≡ Some piece
-  pub counted : number ≡ suc p.datagrams
+  pub count_is : number ≡ suc p.datagrams
 
 one-more : (t : TransportView) (calls : CallView) (p : DriverProgress) (b : Bool) → (t.ready && calls.datagrams == p.datagrams) ≡ b → (check_datagram b t p).datagrams ≢ p.datagrams → OneMore t calls p (check_datagram b t p).datagrams
 one-more t calls p false e d = absurd (d refl)
@@ -142,7 +142,7 @@ one-more t calls p true e d = at (t.datagram p.datagrams) refl d
     at None q d = absurd (d refl)
     at (Some piece) q d =
         let parts = and_parts t.ready (calls.datagrams == p.datagrams) e in
-        record { piece = piece; ready = parts.0; settled = eqb-true calls.datagrams p.datagrams parts.1; next = q; counted = dequeued-one (Some piece) p piece refl }
+        record { piece = piece; ready = parts.0; all_settled = eqb-true calls.datagrams p.datagrams parts.1; next = q; count_is = dequeued-one (Some piece) p piece refl }
 
 all-one-more : (t : TransportView) (calls : CallView) (d : Dispatched) (p : DriverProgress) (o : Option Ending) → p.ending ≡ o → (in_order (checks t calls d) p).datagrams ≢ p.datagrams → OneMore t calls p (in_order (checks t calls d) p).datagrams
 all-one-more t calls d p (Some x) e n = absurd (n (as-first t calls d p ∙ ap (λ (o : Option Ending). (unless_ended o (first_check t calls) p).datagrams) e))
@@ -173,14 +173,14 @@ module _ (side : Side) (log : Log) (u : StreamTable) where
       let one =
       as-first t (call_view log) d table.progress ∙ ap (λ (o : Option Ending). (unless_ended o (first_check t (call_view log)) table.progress).datagrams) (none-yet (checks t (call_view log) d) table.progress n)
       ∙ checked-one (t.ready && (call_view log).datagrams == table.progress.datagrams) t table.progress piece b q in
-      (record { next = e; settled = s; counted = one ∙ ap suc none-scanned }, all-well t (call_view log) d table.progress piece b q n)
+      (record { next = e; all_settled = s; count_is = one ∙ ap suc none-scanned }, all-well t (call_view log) d table.progress piece b q n)
 
   found-only : last.progress.datagrams ≢ u.progress.datagrams → (piece : List ℕ) × TakesDatagram log u last piece × (settings_ready side log ≡ true)
   found-only n =
       let m = all-one-more (transport_view side log) (call_view log) (dispatched_streams (call_view log) table.classified) table.progress table.progress.ending refl (λ z. n (z ∙ none-scanned)) in
-      (m.piece, record { next = ap (slice_get (datagrams_of (events_of log))) (sym none-scanned) ∙ m.next; settled = m.settled ∙ none-scanned; counted = m.counted ∙ ap suc none-scanned }, m.ready)
+      (m.piece, record { next = ap (slice_get (datagrams_of (events_of log))) (sym none-scanned) ∙ m.next; all_settled = m.all_settled ∙ none-scanned; count_is = m.count_is ∙ ap suc none-scanned }, m.ready)
 
--- the table behind one more entry, which is a moment on an open connection or not
+-- the table after one more entry, which is a moment on an open connection or not
 abbrev pub after-entry : Side → Entry → Log → Bool → StreamTable
 after-entry side e log b = apply_if b (scan_order (transport_view side (e ∷ log)) (call_view (e ∷ log))) (stream_table side log)
 

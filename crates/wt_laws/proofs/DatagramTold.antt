@@ -12,10 +12,10 @@ use Rattle.wt_laws.proofs.DatagramLaws.{DatagramsSoFar, arrived-more, datagrams-
 use Rattle.wt_laws.proofs.During.{decided-during, why-reply}
 use Rattle.wt_laws.proofs.Reached.{keeps-decided, reached}
 use Rattle.wt_laws.proofs.Steps.{keeps-steps}
-use Rattle.wt_laws.specs.Datagrams.{DatagramTold, DatagramsStay, received_places}
+use Rattle.wt_laws.specs.Datagrams.{DatagramTold, DatagramsStay, received_indices}
 use Rattle.wt_laws.specs.Laws.{payload_for, payloads_for}
 use Rattle.wt_laws.specs.Reachable.{IsReachable}
-use Rattle.wt_laws.specs.Told.{Logged, NoRecord, NonePassed, OnePassed, OneRecord, Passed, TellsOf, ThenPolled, is_pass, is_quiet}
+use Rattle.wt_laws.specs.ReplyTells.{Logged, NoRecord, NonePassed, OnePassed, OneRecord, HasPassed, TellsOf, ThenPolled, is_pass, is_quiet}
 use Rattle.wt_spec.specs.Answers.{answer_to, is_lawful, log_after}
 use Rattle.wt_spec.specs.Connection.{well_formed}
 use Rattle.wt_spec.specs.Driver.{established_session, settled_datagrams}
@@ -47,32 +47,32 @@ pass-establishes (StreamPassed k) cs p = refl
 pass-establishes DatagramPassed cs p = refl
 pass-establishes _ cs p = absurd (cc)
 
-pass-places : (r : CallRecord) (cs : List CallRecord) → is_pass r ≡ true → received_places (r ∷ cs) ≡ received_places cs
-pass-places (StreamPassed k) cs p = refl
-pass-places DatagramPassed cs p = refl
-pass-places _ cs p = absurd (cc)
+pass-indices : (r : CallRecord) (cs : List CallRecord) → is_pass r ≡ true → received_indices (r ∷ cs) ≡ received_indices cs
+pass-indices (StreamPassed k) cs p = refl
+pass-indices DatagramPassed cs p = refl
+pass-indices _ cs p = absurd (cc)
 
-passed-established : (after before : List CallRecord) → Passed after before → established_session after ≡ established_session before
+passed-established : (after before : List CallRecord) → HasPassed after before → established_session after ≡ established_session before
 passed-established after before NonePassed = refl
 passed-established after before (OnePassed r p s) = passed-established after (r ∷ before) s ∙ pass-establishes r before p
 
-passed-places : (after before : List CallRecord) → Passed after before → received_places after ≡ received_places before
-passed-places after before NonePassed = refl
-passed-places after before (OnePassed r p s) = passed-places after (r ∷ before) s ∙ pass-places r before p
+passed-indices : (after before : List CallRecord) → HasPassed after before → received_indices after ≡ received_indices before
+passed-indices after before NonePassed = refl
+passed-indices after before (OnePassed r p s) = passed-indices after (r ∷ before) s ∙ pass-indices r before p
 
-passed-settled : (after before : List CallRecord) → Passed after before → settled_datagrams before ≤ settled_datagrams after
+passed-settled : (after before : List CallRecord) → HasPassed after before → settled_datagrams before ≤ settled_datagrams after
 passed-settled after before NonePassed = omega arith
 passed-settled after before (OnePassed r p s) = let l = passed-settled after (r ∷ before) s in let m = settled-more r before in omega arith
 
 -- ---- what is recorded
 
 record OneMore (before after : List CallRecord) : Type 0 where
-  pub settled : settled_datagrams after ≡ suc (settled_datagrams before)
-  pub received : received_places after ≡ received_places before ++ settled_datagrams before ∷ []
+  pub settled_then : settled_datagrams after ≡ suc (settled_datagrams before)
+  pub received : received_indices after ≡ received_indices before ++ settled_datagrams before ∷ []
 
 one-received : (turn : Turn) (r : CallRecord) (before : List CallRecord) (payload : List ℕ) → TellsOf turn r (replies.Datagram payload) → OneMore before (r ∷ before)
 one-received turn (BytesRead k n) before payload t = absurd (let z = t.1 in cc)
-one-received turn DatagramReceived before payload t = record { settled = omega arith; received = refl }
+one-received turn DatagramReceived before payload t = record { settled_then = omega arith; received = refl }
 one-received turn _ before payload t = absurd (cc)
 
 one-more : (turn : Turn) (before after : List CallRecord) (reply : Reply) (payload : List ℕ) → reply ≡ replies.Datagram payload → Logged turn before after reply → OneMore before after
@@ -80,7 +80,7 @@ one-more turn before after reply payload e (NoRecord a q) = absurd (let z = subs
 one-more turn before after reply payload e (OneRecord r a t) = subst (OneMore before) (sym a) (one-received turn r before payload (subst (TellsOf turn r) e t))
 one-more turn before after reply payload e (ThenPolled r a t) =
     let m = one-received turn r before payload (subst (TellsOf turn r) e t) in
-    subst (OneMore before) (sym a) (record { settled = m.settled; received = m.received })
+    subst (OneMore before) (sym a) (record { settled_then = m.settled_then; received = m.received })
 
 -- ---- the datagram that is given
 
@@ -94,63 +94,63 @@ datagram-told side log turn r l payload e =
     let f = w.0 in
     let x = next-is side c.decided f.datagram f.next in
     let n = settled_datagrams (calls_of log) in
-    let place = settled_datagrams (calls_of c.decided) in
+    let index = settled_datagrams (calls_of c.decided) in
     let ds = datagrams_of (events_of log) in
     let same : datagrams_of (events_of c.decided) ≡ ds = keeps-steps (keeps-arrivals side turn ds (receive-brings turn f.receives)) c.before refl in
     let p = reached (DatagramsSoFar side) (datagrams-first side) (keeps-datagrams side) log r in
     let q = keeps-decided (keeps-datagrams side turn) log l p in
-    let stands : established_session (calls_of log) ≡ Some (f.session, f.at) = sym (passed-established (calls_of c.decided) (calls_of log) c.passed) ∙ f.is_established in
-    let most : n ≤ place = passed-settled (calls_of c.decided) (calls_of log) c.passed in
-    let all : payloads_for f.session (take place ds) ≡ payloads_for f.session (take n ds) =
-    ap (λ ys. payloads_for f.session (take place ys)) (sym same) ∙ sym (q.prefix f.session f.at f.is_established) ∙ ap (λ ys. received ys (calls_of c.decided)) same ∙ passed-same ds (calls_of c.decided) (calls_of log) c.passed ∙ p.prefix f.session f.at stands in
+    let established : established_session (calls_of log) ≡ Some (f.session, f.offset) = sym (passed-established (calls_of c.decided) (calls_of log) c.passed) ∙ f.is_established in
+    let most : n ≤ index = passed-settled (calls_of c.decided) (calls_of log) c.passed in
+    let all : payloads_for f.session (take index ds) ≡ payloads_for f.session (take n ds) =
+    ap (λ ys. payloads_for f.session (take index ys)) (sym same) ∙ sym (q.prefix f.session f.offset f.is_established) ∙ ap (λ ys. received ys (calls_of c.decided)) same ∙ passed-same ds (calls_of c.decided) (calls_of log) c.passed ∙ p.prefix f.session f.offset established in
     let m = one-more turn (calls_of c.decided) (calls_of (log_after side log turn)) (answer_to side log turn).reply payload e c.logged in
     record {
       by_receive = f.receives;
       session = f.session;
-      begins = f.at;
-      is_established = stands;
-      place = place;
+      begins = f.offset;
+      is_established = established;
+      index = index;
       piece = x.0.piece;
-      arrived = ap (λ ys. slice_get ys place) (sym same) ∙ x.0.at;
-      names = ap (payload_for f.session) x.0.parsed ∙ payload-named f.session f.datagram payload f.named w.1;
+      arrived = ap (λ ys. slice_get ys index) (sym same) ∙ x.0.found;
+      payload_is = ap (payload_for f.session) x.0.parsed ∙ payload-named f.session f.datagram payload f.named w.1;
       fresh = most;
-      is_first = none-between f.session n place ds most all;
+      is_first = none-between f.session n index ds most all;
       decided = c.decided;
       during = decided-during side log turn l;
       dequeued = x.1;
-      settled = m.settled;
-      received = m.received ∙ ap (λ zs. zs ++ place ∷ []) (passed-places (calls_of c.decided) (calls_of log) c.passed);
+      settled_then = m.settled_then;
+      received = m.received ∙ ap (λ zs. zs ++ index ∷ []) (passed-indices (calls_of c.decided) (calls_of log) c.passed);
     }
 
 -- ---- what stays
 
-places-more : (r : CallRecord) (cs : List CallRecord) → (more : List ℕ) × (received_places (r ∷ cs) ≡ received_places cs ++ more)
-places-more DatagramReceived cs = (settled_datagrams cs ∷ [], refl)
-places-more _ cs = ([], sym (append-nil (received_places cs)))
+indices-more : (r : CallRecord) (cs : List CallRecord) → (more : List ℕ) × (received_indices (r ∷ cs) ≡ received_indices cs ++ more)
+indices-more DatagramReceived cs = (settled_datagrams cs ∷ [], refl)
+indices-more _ cs = ([], sym (append-nil (received_indices cs)))
 
 pub datagrams-same : (side : Side) (log : Log) → DatagramsStay side log log
 datagrams-same side log = record {
   arrived = ([], sym (append-nil (datagrams_of (events_of log))));
   dequeued = omega arith;
-  settled = omega arith;
-  received = ([], sym (append-nil (received_places (calls_of log))));
+  settled_then = omega arith;
+  received = ([], sym (append-nil (received_indices (calls_of log))));
 }
 
 -- what an entry does to what calls settled and received
 record CallsMore (base : List CallRecord) (cs : List CallRecord) : Type 0 where
-  pub settled : settled_datagrams base ≤ settled_datagrams cs
-  pub received : (more : List ℕ) × (received_places cs ≡ received_places base ++ more)
+  pub settled_then : settled_datagrams base ≤ settled_datagrams cs
+  pub received : (more : List ℕ) × (received_indices cs ≡ received_indices base ++ more)
 
 calls-more : (base : List CallRecord) (e : Entry) (log : Log) → CallsMore base (calls_of log) → CallsMore base (calls_of (e ∷ log))
 calls-more base (Called r) log p =
-    let g = places-more r (calls_of log) in
+    let g = indices-more r (calls_of log) in
     record {
-      settled = let l = p.settled in let m = settled-more r (calls_of log) in omega arith;
-      received = (p.received.0 ++ g.0, g.1 ∙ ap (λ zs. zs ++ g.0) p.received.1 ∙ append_assoc (received_places base) p.received.0 g.0);
+      settled_then = let l = p.settled_then in let m = settled-more r (calls_of log) in omega arith;
+      received = (p.received.0 ++ g.0, g.1 ∙ ap (λ zs. zs ++ g.0) p.received.1 ∙ append_assoc (received_indices base) p.received.0 g.0);
     }
 calls-more base _ log p = p
 
 pub datagrams-stay : (side : Side) (earlier : Log) (e : Entry) (log : Log) → DatagramsStay side earlier log → DatagramsStay side earlier (e ∷ log)
 datagrams-stay side earlier e log p =
-    let c = calls-more (calls_of earlier) e log (record { settled = p.settled; received = p.received }) in
-    record { arrived = arrived-more (datagrams_of (events_of earlier)) e log p.arrived; dequeued = dequeued-stay side _ e log p.dequeued; settled = c.settled; received = c.received }
+    let c = calls-more (calls_of earlier) e log (record { settled_then = p.settled_then; received = p.received }) in
+    record { arrived = arrived-more (datagrams_of (events_of earlier)) e log p.arrived; dequeued = dequeued-stay side _ e log p.dequeued; settled_then = c.settled_then; received = c.received }

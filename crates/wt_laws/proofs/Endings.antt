@@ -1,4 +1,4 @@
--- Where a moment ends the connection: its scan at the stream that it classified last, or the first check behind it that finds
+-- Where a moment ends the connection: its scan at the stream that it classified last, or the first check after it that finds
 -- something.
 use Rattle.std.specs.Prelude.{[], ◌&&◌, ◌++◌, ◌==◌, ◌||◌, ◌∷◌, ◌≡◌, Bool, List, None, Option, Some, false, if◌then◌else◌, nat_lt, true, ℕ}
 use Rattle.std.proofs.Common.{◌∙◌, ap, refl, subst, sym}
@@ -21,13 +21,13 @@ pub record EndsAt (P : ℕ → Type 0) (calls : CallView) (rule : SlotRule) (bef
   pub named : P stream
   pub table : StreamTable  -- as it stood then
   pub more : List Classified
-  pub goes_on : table.classified ≡ before ++ more
+  pub still_going : table.classified ≡ before ++ more
   pub dequeued : has stream table.dequeued ≡ true
   pub fresh : verdict_of stream table.classified ≡ None
   pub fault : fault_ending (rule.consequence (dispatched_streams calls table.classified) stream (rule.verdict stream)).fault ≡ Some x
   pub is : after ≡ with_classified stream (rule.verdict stream) (rule.consequence (dispatched_streams calls table.classified) stream (rule.verdict stream)) table
 
--- some are classified behind those before
+-- some are classified after those before
 abbrev pub GrowsFrom : List Classified → List Classified → Type 0
 GrowsFrom before cs = (more : List Classified) × (cs ≡ before ++ more)
 
@@ -36,22 +36,22 @@ grows-on before middle cs m n = (m.0 ++ n.0, n.1 ∙ ap (λ z. z ++ n.0) m.1 ∙
 
 pub ends-earlier : {P : ℕ → Type 0} {calls : CallView} {rule : SlotRule} (before middle : List Classified) (after : StreamTable) (x : Ending) → GrowsFrom before middle → EndsAt P calls rule middle after x → EndsAt P calls rule before after x
 ends-earlier before middle after x m r =
-    let g = grows-on before middle r.table.classified m (r.more, r.goes_on) in
-    record { stream = r.stream; named = r.named; table = r.table; more = g.0; goes_on = g.1; dequeued = r.dequeued; fresh = r.fresh; fault = r.fault; is = r.is }
+    let g = grows-on before middle r.table.classified m (r.more, r.still_going) in
+    record { stream = r.stream; named = r.named; table = r.table; more = g.0; still_going = g.1; dequeued = r.dequeued; fresh = r.fresh; fault = r.fault; is = r.is }
 
 module _ (ready : Bool) (calls : CallView) (rule : SlotRule) where
   -- the look at one stream
   abbrev look : ℕ → Scan → Scan
   look k s = visit ready calls rule k (verdict_of k s.table.classified) s
 
-  -- and at those behind it
+  -- and at those after it
   abbrev look-on : ℕ → List ℕ → Scan → Scan
   look-on k ks s = scan ready calls rule ks (look k s)
 
   scan-goes : (k : ℕ) (ks : List ℕ) (s : Scan) → s.table.progress.ending ≡ None → scan ready calls rule (k ∷ ks) s ≡ look-on k ks s
   scan-goes k ks s e = ap (λ (o : Option Ending). unless_ended o (look-on k ks) s) e
 
-  -- behind an ending nothing is done
+  -- after an ending nothing is done
   pub scan-stays : (ks : List ℕ) (s : Scan) (x : Ending) → s.table.progress.ending ≡ Some x → scan ready calls rule ks s ≡ s
   scan-stays [] s x e = refl
   scan-stays (k ∷ ks) s x e = ap (λ (o : Option Ending). unless_ended o (look-on k ks) s) e
@@ -93,7 +93,7 @@ module _ (ready : Bool) (calls : CallView) (rule : SlotRule) where
       named = n.named;
       table = s.table;
       more = [];
-      goes_on = sym (append-nil s.table.classified);
+      still_going = sym (append-nil s.table.classified);
       dequeued = h;
       fresh = n.fresh;
       fault = f;
@@ -142,7 +142,7 @@ taken-last {P} {calls} {rule} before after x r =
     let e = rule.consequence (dispatched_streams calls r.table.classified) r.stream v in
     record {
       dequeued = ap (λ (t : StreamTable). has r.stream t.dequeued) r.is ∙ r.dequeued;
-      fresh = none-front r.stream before.classified r.more (ap (verdict_of r.stream) (sym r.goes_on) ∙ r.fresh);
+      fresh = none-front r.stream before.classified r.more (ap (verdict_of r.stream) (sym r.still_going) ∙ r.fresh);
       verdict = ap (λ (t : StreamTable). verdict_of r.stream t.classified) r.is ∙ verdict-last r.stream r.table.classified (record { id = r.stream; verdict = v; surplus = e.surplus }) refl r.fresh;
       earlier = r.table.classified;
       last = record { id = r.stream; verdict = v; surplus = e.surplus };
@@ -152,7 +152,7 @@ taken-last {P} {calls} {rule} before after x r =
 
 -- ---- the checks
 
--- behind an ending none is made
+-- after an ending none is made
 pub checks-stay : (fs : List (DriverProgress → DriverProgress)) (p : DriverProgress) (x : Ending) → p.ending ≡ Some x → in_order fs p ≡ p
 checks-stay [] p x e = refl
 checks-stay (f ∷ fs) p x e = ap (λ (o : Option Ending). in_order fs (unless_ended o f p)) e ∙ checks-stay fs p x e

@@ -91,8 +91,8 @@ module _ (side : Side) (log : Log) where
     polled : (k : ℕ) (r : Reply) → is_opening log k ≡ true → Gives r (continue_opening side log k (head_left log k (stream_header k s))) → Gives r (poll_opening side log k s)
     polled k r i p = yes (is_opening log k) _ _ i p
 
-    told : (payload : List ℕ) (o : Option DatagramFact) (r : Reply) → is_open log ≡ true → datagram_fact (events_of log) ≡ o → Gives r (datagram_allowed side log (datagram_bytes (s / 4) payload) o) → Gives r (send_datagram side log payload s)
-    told payload o r p f g = yes (is_open log) _ _ p (subst (λ z. Gives r (datagram_allowed side log (datagram_bytes (s / 4) payload) z)) (sym f) g)
+    reported : (payload : List ℕ) (o : Option DatagramFact) (r : Reply) → is_open log ≡ true → datagram_fact (events_of log) ≡ o → Gives r (datagram_allowed side log (datagram_bytes (s / 4) payload) o) → Gives r (send_datagram side log payload s)
+    reported payload o r p f g = yes (is_open log) _ _ p (subst (λ z. Gives r (datagram_allowed side log (datagram_bytes (s / 4) payload) z)) (sym f) g)
 
     pub session-calls : SessionCallsAnswer side log s
     unfolding call_effect
@@ -107,11 +107,11 @@ module _ (side : Side) (log : Log) where
       opened = λ k i o r c. in-it (poll_opening side log k) _ s at d
           (polled k _ i (no (not (is_open log)) _ _ (ap not o) (no (is_refused log k (head_left log k (stream_header k s))) _ _ r (yes (is_covered log k (head_left log k (stream_header k s))) _ _ c refl))));
       datagram_ended = λ payload o. in-it (send_datagram side log payload) _ s at d (no (is_open log) _ _ o refl);
-      datagram_untold = λ payload o f. in-it (send_datagram side log payload) _ s at d (told payload None _ o f refl);
-      datagram_disabled = λ payload o f. in-it (send_datagram side log payload) _ s at d (told payload (Some facts.Disabled) _ o f refl);
-      datagram_unsupported = λ payload o f. in-it (send_datagram side log payload) _ s at d (told payload (Some facts.Unsupported) _ o f refl);
-      datagram_too_large = λ payload limit o f l. in-it (send_datagram side log payload) _ s at d (told payload (Some (facts.Limit limit)) _ o f (yes (nat_lt limit (length (datagram_bytes (s / 4) payload))) _ _ l refl));
-      datagram_sent = λ payload limit o f l. in-it (send_datagram side log payload) _ s at d (told payload (Some (facts.Limit limit)) _ o f (no (nat_lt limit (length (datagram_bytes (s / 4) payload))) _ _ l refl));
+      datagram_untold = λ payload o f. in-it (send_datagram side log payload) _ s at d (reported payload None _ o f refl);
+      datagram_disabled = λ payload o f. in-it (send_datagram side log payload) _ s at d (reported payload (Some facts.Disabled) _ o f refl);
+      datagram_unsupported = λ payload o f. in-it (send_datagram side log payload) _ s at d (reported payload (Some facts.Unsupported) _ o f refl);
+      datagram_too_large = λ payload limit o f l. in-it (send_datagram side log payload) _ s at d (reported payload (Some (facts.Limit limit)) _ o f (yes (nat_lt limit (length (datagram_bytes (s / 4) payload))) _ _ l refl));
+      datagram_sent = λ payload limit o f l. in-it (send_datagram side log payload) _ s at d (reported payload (Some (facts.Limit limit)) _ o f (no (nat_lt limit (length (datagram_bytes (s / 4) payload))) _ _ l refl));
       size = in-it _ _ s at d refl;
       id = in-it _ _ s at d refl;
       close = λ code reason. in-it (λ j. close_connection side log code reason) _ s at d refl;
@@ -244,11 +244,11 @@ module _ (side : Side) (log : Log) where
       accept_out = λ head e o r c. accepting head _ e (λ w. no (not (is_open log)) _ _ (ap not o) (no (is_refused log (requested_stream (calls_of log)) (response_rest log head)) _ _ r (yes (is_covered log (requested_stream (calls_of log)) (response_rest log head)) _ _ c refl)));
       reject_ended = λ head e o. rejecting head _ e (λ w. yes (not (is_open log)) _ _ (ap not o) refl);
       reject_refused = λ head e o r. rejecting head _ e (λ w. no (not (is_open log)) _ _ (ap not o) (yes (is_refused log (requested_stream (calls_of log)) (response_rest log head)) _ _ r refl));
-      rejected = λ head e o r c f. rejecting head _ e (λ w. no (not (is_open log)) _ _ (ap not o) (no (is_refused log (requested_stream (calls_of log)) (response_rest log head)) _ _ r (yes (is_covered log (requested_stream (calls_of log)) (response_rest log head)) _ _ c (over w f (response_rest log head)))));
+      rejected = λ head e o r c f. rejecting head _ e (λ w. no (not (is_open log)) _ _ (ap not o) (no (is_refused log (requested_stream (calls_of log)) (response_rest log head)) _ _ r (yes (is_covered log (requested_stream (calls_of log)) (response_rest log head)) _ _ c (rejected-over w f (response_rest log head)))));
     }
       where
-        over : (waiting : CallRecord) → is_response_over log (requested_stream (calls_of log)) ≡ true → (left : List ℕ) → Gives replies.Rejected (finish_rejection side log (requested_stream (calls_of log)) left waiting)
-        over w f left =
+        rejected-over : (waiting : CallRecord) → is_response_over log (requested_stream (calls_of log)) ≡ true → (left : List ℕ) → Gives replies.Rejected (finish_rejection side log (requested_stream (calls_of log)) left waiting)
+        rejected-over w f left =
             let a = and_parts (is_finished (actions_of log) (requested_stream (calls_of log))) _ f in
             no (not (is_finished (actions_of log) (requested_stream (calls_of log)))) _ _ (ap not a.0) (yes (is_some (stop_of (events_of log) (requested_stream (calls_of log))) || is_acknowledged (events_of log) (requested_stream (calls_of log))) _ _ a.1 refl)
 
@@ -311,7 +311,7 @@ module _ (side : Side) (log : Log) where
           sends _ (yes (not (local_count (actions_of log) (local_bi side) == 0)) _ _ (not-none n) (no (is_empty left) _ _ (not-true _ a.1) (no (not (is_open log)) _ _ (ap not o) (yes (is_some (stop_of (events_of log) (local_bi side))) _ _ a.0 refl))));
       fault = λ code q e. asked _ q (λ own. walked (responses.Fault code) _ own e refl);
       stream_end = λ q e. asked _ q (λ own. walked responses.Ended _ own e refl);
-      no_response = λ q e o. asked _ q (λ own. walked responses.Waiting _ own e (no (is_open log) _ _ o refl));
+      no_response = λ q e o. asked _ q (λ own. walked responses.Incomplete _ own e (no (is_open log) _ _ o refl));
       rejected = λ fields at q e s. asked _ q (λ own. walked (responses.Response fields at) _ own e (yes (not (has_success fields)) _ _ (ap not s) refl));
       session = λ fields at q e s o. asked _ q (λ own. walked (responses.Response fields at) _ own e (no (not (has_success fields)) _ _ (ap not s) (yes (is_open log) _ _ o refl)));
       ended = λ fields at q e s o. asked _ q (λ own. walked (responses.Response fields at) _ own e (no (not (has_success fields)) _ _ (ap not s) (no (is_open log) _ _ o refl)));

@@ -78,7 +78,7 @@ byte-follows log id b k false i r = Same (rw i refl) refl
 
 -- an event that ends a stream comes only where it runs
 ends-running : (side : Side) (turn : Turn) (log : Log) (k : ℕ) (e : Event) (s : StreamEnd) → Brings side turn log e → end_reported k e ≡ Some s → is_running (end_of (all_events_of log) k) ≡ true
-ends-running side turn log k e s b x = at turn e b.told b.lawful x
+ends-running side turn log k e s b x = at turn e b.reported b.lawful x
   where
     same : (id : ℕ) (o : Option StreamEnd) (c : Bool) → (id == k) ≡ c → (if c then o else None) ≡ Some s → is_running (end_of (all_events_of log) id) ≡ true → is_running (end_of (all_events_of log) k) ≡ true
     same id o true i x r = subst (λ (j : ℕ). is_running (end_of (all_events_of log) j) ≡ true) (eqb-true id k i) r
@@ -107,8 +107,8 @@ is_local side k = k % 4 == local_uni side || k % 4 == local_bi side
 -- a stream that the peer opened for a session
 pub record IsSessions (side : Side) (log : Log) (k : ℕ) : Type 0 where
   pub session : ℕ
-  pub at : ℕ
-  pub verdict : verdict_of k (stream_table side log).classified ≡ Some (verdicts.WebTransport session at)
+  pub offset : ℕ
+  pub verdict : verdict_of k (stream_table side log).classified ≡ Some (verdicts.WebTransport session offset)
 
 pub record Facts (side : Side) (log : Log) : Type 0 where
   pub same_events : is_open log ≡ true → all_events_of log ≡ events_of log
@@ -117,7 +117,7 @@ pub record Facts (side : Side) (log : Log) : Type 0 where
   pub accepted : (k : ℕ) → list_any (accepts_stream k) (calls_of log) ≡ true → (is_local side k ≡ true) ⊎ IsSessions side log k
 
 sessions-stay : (side : Side) (k : ℕ) (e : Entry) (log : Log) → IsSessions side log k → IsSessions side (e ∷ log) k
-sessions-stay side k e log s = record { session = s.session; at = s.at; verdict = classified-stays side k _ e log s.verdict }
+sessions-stay side k e log s = record { session = s.session; offset = s.offset; verdict = classified-stays side k _ e log s.verdict }
 
 or-sessions : (side : Side) (k : ℕ) (e : Entry) (log : Log) → (is_local side k ≡ true) ⊎ IsSessions side log k → (is_local side k ≡ true) ⊎ IsSessions side (e ∷ log) k
 or-sessions side k e log (inl x) = inl x
@@ -156,7 +156,7 @@ new-opening side turn log k (OpeningStarted id session) c e = subst (λ (n : ℕ
 new-opening side turn log k _ c e = absurd (cc)
 
 new-accepted : (side : Side) (turn : Turn) (log : Log) (k : ℕ) (r : CallRecord) → Facts side log → RecordCause side turn log r → accepts_stream k r ≡ true → (is_local side k ≡ true) ⊎ IsSessions side log k
-new-accepted side turn log k (StreamAccepted id) f (ByAccept x) e = let s = found-sessions side turn log id x in inr (subst (IsSessions side log) (eqb-true id k e) (record { session = x.session; at = s.0; verdict = s.1 }))
+new-accepted side turn log k (StreamAccepted id) f (ByAccept x) e = let s = found-sessions side turn log id x in inr (subst (IsSessions side log) (eqb-true id k e) (record { session = x.session; offset = s.0; verdict = s.1 }))
 new-accepted side turn log k (StreamAccepted id) f (ByOpening x) e = inl (subst (λ (n : ℕ). is_local side n ≡ true) (eqb-true id k e) (f.openings id (and_parts _ _ x.opening).0))
 new-accepted side turn log k _ f c e = absurd (cc)
 

@@ -125,15 +125,15 @@ module _ (side : Side) (log : Log) (before after : StreamTable) where
   datagram-cause false p x q n s g f = absurd (cc)
   datagram-cause true p x q n s g f = at-next (slice_get (datagrams_of (events_of log)) p.datagrams) refl g f
     where
-      settled : settled_datagrams (calls_of log) ≡ p.datagrams
-      settled = eqb-true (settled_datagrams (calls_of log)) p.datagrams (and_parts (transport_view side log).ready (settled_datagrams (calls_of log) == p.datagrams) q).1
+      all_settled : settled_datagrams (calls_of log) ≡ p.datagrams
+      all_settled = eqb-true (settled_datagrams (calls_of log)) p.datagrams (and_parts (transport_view side log).ready (settled_datagrams (calls_of log) == p.datagrams) q).1
 
       parsed : (piece : List ℕ) (r : Result (ℕ × List ℕ) ErrorCode) → datagram_of piece ≡ r → slice_get (datagrams_of (events_of log)) p.datagrams ≡ Some piece
           → after.progress.datagrams ≡ (parsed_datagram r (record p { datagrams = suc p.datagrams })).datagrams → (parsed_datagram r (record p { datagrams = suc p.datagrams })).ending ≡ Some x → EndingCause side log before after x
       parsed piece (Ok datagram) d e g f = absurd (cc)
       parsed piece (Err code) d e g f =
           ending-is (ByFault code) (record p { datagrams = suc p.datagrams }) x
-          (NoDatagram piece code (record { next = ap (slice_get (datagrams_of (events_of log))) (sym s) ∙ e; settled = settled ∙ s; counted = g ∙ ap suc s }) d) f
+          (NoDatagram piece code (record { next = ap (slice_get (datagrams_of (events_of log))) (sym s) ∙ e; all_settled = all_settled ∙ s; count_is = g ∙ ap suc s }) d) f
 
       at-next : (o : Option (List ℕ)) → slice_get (datagrams_of (events_of log)) p.datagrams ≡ o → after.progress.datagrams ≡ (dequeued_datagram o p).datagrams → (dequeued_datagram o p).ending ≡ Some x → EndingCause side log before after x
       at-next None e g f = absurd (cc)
@@ -209,7 +209,7 @@ module _ (side : Side) (log : Log) (before after : StreamTable) where
 -- ---- a moment that ends the connection
 
 module _ (side : Side) (log : Log) (before : StreamTable) (n : before.progress.ending ≡ None) where
-  -- the table behind each part of the moment
+  -- the table after each part of the moment
   abbrev pub unis : StreamTable
   unis = scan_unis (transport_view side log) (call_view log) (without_stops before)
 

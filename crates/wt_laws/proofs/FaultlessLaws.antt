@@ -1,4 +1,4 @@
--- Where the driver doesn't end the connection at a moment, the checks behind the scan found no fault.
+-- Where the driver doesn't end the connection at a moment, the checks after the scan found no fault.
 use Rattle.std.specs.Prelude.{[], ◌&&◌, ◌==◌, ◌∷◌, ◌≡◌, Bool, List, None, Option, Some, drop, false, is_some, not, true, ℕ}
 use Rattle.std.proofs.Common.{◌∙◌, ap, refl, sym}
 use Rattle.std.proofs.lemmas.Bool.{and_from, not-false, or_right}

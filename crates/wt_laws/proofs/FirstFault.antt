@@ -220,8 +220,8 @@ module _ (side : Side) (log : Log) (before after : StreamTable) where
   passes : (f : DriverProgress → DriverProgress) (fs : List (DriverProgress → DriverProgress)) (q : DriverProgress) → Left (f ∷ fs) q → (f q).ending ≡ None → Left fs (f q)
   passes f fs q a e = record { is = a.is ∙ ap (λ (o : Option Ending). in_order fs (unless_ended o f q)) a.still; still = e }
 
-  tells : (f : DriverProgress → DriverProgress) (fs : List (DriverProgress → DriverProgress)) (q : DriverProgress) (x : Ending) → Left (f ∷ fs) q → (f q).ending ≡ Some x → after.progress.ending ≡ Some x
-  tells f fs q x a e = ap (λ (z : DriverProgress). z.ending) (a.is ∙ ap (λ (o : Option Ending). in_order fs (unless_ended o f q)) a.still ∙ checks-stay fs (f q) x e) ∙ e
+  says : (f : DriverProgress → DriverProgress) (fs : List (DriverProgress → DriverProgress)) (q : DriverProgress) (x : Ending) → Left (f ∷ fs) q → (f q).ending ≡ Some x → after.progress.ending ≡ Some x
+  says f fs q x a e = ap (λ (z : DriverProgress). z.ending) (a.is ∙ ap (λ (o : Option Ending). in_order fs (unless_ended o f q)) a.still ∙ checks-stay fs (f q) x e) ∙ e
 
   -- a check that leaves them as they were, where they come, found nothing
   came-on : (f : DriverProgress → DriverProgress) (fs : List (DriverProgress → DriverProgress)) (q : DriverProgress) → Left (f ∷ fs) q → (f q).settings ≡ false → after.progress.settings ≡ true → Left fs (f q)
@@ -242,15 +242,15 @@ module _ (side : Side) (log : Log) (before after : StreamTable) where
     abbrev behind_control : DriverProgress
     behind_control = check_control view sorted.control behind_stop
 
-    counted : after.progress.datagrams ≡ behind_datagram.datagrams
-    counted = ap (λ (z : DriverProgress). z.datagrams) l.is ∙ as-first view (call_view log) sorted p ∙ ap (λ (o : Option Ending). (unless_ended o (first_check view (call_view log)) p).datagrams) l.still
+    count_is : after.progress.datagrams ≡ behind_datagram.datagrams
+    count_is = ap (λ (z : DriverProgress). z.datagrams) l.is ∙ as-first view (call_view log) sorted p ∙ ap (λ (o : Option Ending). (unless_ended o (first_check view (call_view log)) p).datagrams) l.still
 
     datagram-goes : DatagramPasses log before after → (b : Bool) → (view.ready && settled_datagrams (calls_of log) == p.datagrams) ≡ b → after.progress.datagrams ≡ (check_datagram b view p).datagrams → (check_datagram b view p).ending ≡ None
     datagram-goes d false e c = l.still
     datagram-goes d true e c = at (slice_get (datagrams_of (events_of log)) p.datagrams) refl c
       where
-        settled : settled_datagrams (calls_of log) ≡ p.datagrams
-        settled = eqb-true (settled_datagrams (calls_of log)) p.datagrams (and_parts view.ready (settled_datagrams (calls_of log) == p.datagrams) e).1
+        all_settled : settled_datagrams (calls_of log) ≡ p.datagrams
+        all_settled = eqb-true (settled_datagrams (calls_of log)) p.datagrams (and_parts view.ready (settled_datagrams (calls_of log) == p.datagrams) e).1
 
         well : (r : Result (ℕ × List ℕ) ErrorCode) → is_ok r ≡ true → (parsed_datagram r (record p { datagrams = suc p.datagrams })).ending ≡ None
         well (Ok x) o = l.still
@@ -259,16 +259,16 @@ module _ (side : Side) (log : Log) (before after : StreamTable) where
         at : (o : Option (List ℕ)) → slice_get (datagrams_of (events_of log)) p.datagrams ≡ o → after.progress.datagrams ≡ (dequeued_datagram o p).datagrams → (dequeued_datagram o p).ending ≡ None
         at None q c = l.still
         at (Some piece) q c =
-            well (datagram_of piece) (d piece (record { next = ap (slice_get (datagrams_of (events_of log))) (sym s) ∙ q; settled = settled ∙ s; counted = c ∙ dequeued-one (Some piece) p piece refl ∙ ap suc s }))
+            well (datagram_of piece) (d piece (record { next = ap (slice_get (datagrams_of (events_of log))) (sym s) ∙ q; all_settled = all_settled ∙ s; count_is = c ∙ dequeued-one (Some piece) p piece refl ∙ ap suc s }))
 
     datagram-told : (piece : List ℕ) (code : ErrorCode) → TakesDatagram log before after piece → datagram_of piece ≡ Err code → (b : Bool) → after.progress.datagrams ≡ (check_datagram b view p).datagrams → (check_datagram b view p).ending ≡ Some (ByFault code)
-    datagram-told piece code t d false c = absurd (let x = t.counted in omega arith)
+    datagram-told piece code t d false c = absurd (let x = t.count_is in omega arith)
     datagram-told piece code t d true c = dequeued-told (slice_get (datagrams_of (events_of log)) p.datagrams) p piece code (ap (slice_get (datagrams_of (events_of log))) s ∙ t.next) d
 
     -- ---- how far the checks are left
 
     left-session : DatagramPasses log before after → Left from_session behind_datagram
-    left-session d = passes (first_check view (call_view log)) from_session p l (datagram-goes d (view.ready && settled_datagrams (calls_of log) == p.datagrams) refl counted)
+    left-session d = passes (first_check view (call_view log)) from_session p l (datagram-goes d (view.ready && settled_datagrams (calls_of log) == p.datagrams) refl count_is)
 
     session-goes : SessionPasses log → (q : DriverProgress) → q.ending ≡ None → (o : Option (ℕ × ℕ)) → established_session (calls_of log) ≡ o → (check_session view o q).ending ≡ None
     session-goes c q n None e = n
@@ -298,10 +298,10 @@ module _ (side : Side) (log : Log) (before after : StreamTable) where
         later : (check_qpack view sorted.encoder q).ending ≡ None → after.progress.ending ≡ Some (ByFault h3.ClosedCriticalStream)
         later n =
             let b = passes (check_qpack view sorted.encoder) (check_qpack view sorted.decoder ∷ []) q a n in
-            tells (check_qpack view sorted.decoder) [] (check_qpack view sorted.encoder q) (ByFault h3.ClosedCriticalStream) b (qpack-told x (check_qpack view sorted.encoder q) sorted.decoder e r)
+            says (check_qpack view sorted.decoder) [] (check_qpack view sorted.encoder q) (ByFault h3.ClosedCriticalStream) b (qpack-told x (check_qpack view sorted.encoder q) sorted.decoder e r)
 
         of-end : (y : ℕ × ℕ) → sorted.encoder ≡ Some y → (b : Bool) → is_running (end_of (events_of log) y.0) ≡ b → after.progress.ending ≡ Some (ByFault h3.ClosedCriticalStream)
-        of-end y f false i = tells (check_qpack view sorted.encoder) (check_qpack view sorted.decoder ∷ []) q (ByFault h3.ClosedCriticalStream) a (qpack-told y q sorted.encoder f i)
+        of-end y f false i = says (check_qpack view sorted.encoder) (check_qpack view sorted.decoder ∷ []) q (ByFault h3.ClosedCriticalStream) a (qpack-told y q sorted.encoder f i)
         of-end y f true i = later (ap (λ (o : Option (ℕ × ℕ)). (check_qpack view o q).ending) f ∙ critical-goes (not (is_running (end_of (events_of log) y.0))) q (ap not i) a.still)
 
         at : (o : Option (ℕ × ℕ)) → sorted.encoder ≡ o → after.progress.ending ≡ Some (ByFault h3.ClosedCriticalStream)
@@ -311,7 +311,7 @@ module _ (side : Side) (log : Log) (before after : StreamTable) where
     session-told : (x : ℕ × ℕ) (w : SessionWalk) (e : Ending) → DatagramPasses log before after → established_session (calls_of log) ≡ Some x → session_walk_of (drop x.1 (contents log x.0)) (end_of (events_of log) x.0) ≡ w
         → (session_ends w (is_over (session_walk_of (drop x.1 (contents log x.0)) ends.Running)) behind_datagram).ending ≡ Some e → after.progress.ending ≡ Some e
     session-told x w e d c f g =
-        tells (check_session view (established_session (calls_of log))) from_stop behind_datagram e (left-session d)
+        says (check_session view (established_session (calls_of log))) from_stop behind_datagram e (left-session d)
         (ap (λ (o : Option (ℕ × ℕ)). (check_session view o behind_datagram).ending) c ∙ ap (λ (z : SessionWalk). (session_ends z (is_over (session_walk_of (drop x.1 (contents log x.0)) ends.Running)) behind_datagram).ending) f ∙ g)
 
     control-told : (x : ℕ × ℕ) (code : ErrorCode) (q : DriverProgress) (o : Option (ℕ × ℕ)) → o ≡ Some x → (control_walk_of (drop x.1 (contents log x.0)) (end_of (events_of log) x.0)).fault ≡ Some code → (check_control view o q).ending ≡ Some (ByFault code)
@@ -324,13 +324,13 @@ module _ (side : Side) (log : Log) (before after : StreamTable) where
 
     datagram-ends : (piece : List ℕ) (code : ErrorCode) → TakesDatagram log before after piece → datagram_of piece ≡ Err code → after.progress.ending ≡ Some (ByFault code)
     datagram-ends piece code t d =
-        tells (first_check view (call_view log)) from_session p (ByFault code) l (datagram-told piece code t d (view.ready && settled_datagrams (calls_of log) == p.datagrams) counted)
+        says (first_check view (call_view log)) from_session p (ByFault code) l (datagram-told piece code t d (view.ready && settled_datagrams (calls_of log) == p.datagrams) count_is)
 
     stop-ends : DatagramPasses log before after → SessionPasses log → view.control_stopped ≡ true → after.progress.ending ≡ Some (ByFault h3.ClosedCriticalStream)
-    stop-ends d c e = tells (critical_if view.control_stopped) from_control behind_session (ByFault h3.ClosedCriticalStream) (left-stop d c) (critical-told view.control_stopped behind_session e)
+    stop-ends d c e = says (critical_if view.control_stopped) from_control behind_session (ByFault h3.ClosedCriticalStream) (left-stop d c) (critical-told view.control_stopped behind_session e)
 
     control-ends : (x : ℕ × ℕ) (code : ErrorCode) → PassesUpToControl side log before after → sorted.control ≡ Some x → (control_walk_of (drop x.1 (contents log x.0)) (end_of (events_of log) x.0)).fault ≡ Some code → after.progress.ending ≡ Some (ByFault code)
-    control-ends x code c e f = tells (check_control view sorted.control) from_encoder behind_stop (ByFault code) (left-control c) (control-told x code behind_stop sorted.control e f)
+    control-ends x code c e f = says (check_control view sorted.control) from_encoder behind_stop (ByFault code) (left-control c) (control-told x code behind_stop sorted.control e f)
 
     -- the checks of the QPACK streams leave what is known of SETTINGS
     kept-settings : (o : Option Ending) (f : DriverProgress → DriverProgress) (q : DriverProgress) → (f q).settings ≡ q.settings → (unless_ended o f q).settings ≡ q.settings
@@ -366,11 +366,11 @@ module _ (side : Side) (log : Log) (before after : StreamTable) where
       where
         well : (piece : List ℕ) → TakesDatagram log before after piece → behind_datagram.ending ≡ None → (r : Result (ℕ × List ℕ) ErrorCode) → datagram_of piece ≡ r → is_ok (datagram_of piece) ≡ true
         well piece t w (Ok d) e = ap is_ok e
-        well piece t w (Err code) e = absurd (let f = datagram-told piece code t e (view.ready && settled_datagrams (calls_of log) == p.datagrams) counted in cc)
+        well piece t w (Err code) e = absurd (let f = datagram-told piece code t e (view.ready && settled_datagrams (calls_of log) == p.datagrams) count_is in cc)
 
     encoder-ends : (x : ℕ × ℕ) → PassesUpToControl side log before after → ControlPasses log after.classified → sorted.encoder ≡ Some x → is_running (end_of (events_of log) x.0) ≡ false → after.progress.ending ≡ Some (ByFault h3.ClosedCriticalStream)
     encoder-ends x c d e r =
-        tells (check_qpack view sorted.encoder) (check_qpack view sorted.decoder ∷ []) behind_control (ByFault h3.ClosedCriticalStream) (left-encoder c d) (qpack-told x behind_control sorted.encoder e r)
+        says (check_qpack view sorted.encoder) (check_qpack view sorted.decoder ∷ []) behind_control (ByFault h3.ClosedCriticalStream) (left-encoder c d) (qpack-told x behind_control sorted.encoder e r)
 
     decoder-ends : (x : ℕ × ℕ) → PassesUpToControl side log before after → ControlPasses log after.classified → sorted.decoder ≡ Some x → is_running (end_of (events_of log) x.0) ≡ false → after.progress.ending ≡ Some (ByFault h3.ClosedCriticalStream)
     decoder-ends x c d e r = decoder-told x behind_control (left-encoder c d) e r
@@ -486,7 +486,7 @@ module _ (side : Side) (log : Log) (before : StreamTable) (n : before.progress.e
     stopped = λ c d r e. stop-ends side log before last start none-scanned (all-left c) d r e;
     control = λ x code c e f. control-ends side log before last start none-scanned (all-left c.streams) x code c e f;
     settings = λ x c e r. settings-come side log before last start none-scanned (all-left c.streams) x c e r;
-    came = came-so;
+    has_come = came-so;
     encoder = λ x c d e r. encoder-ends side log before last start none-scanned (all-left c.streams) x c d e r;
     decoder = λ x c d e r. decoder-ends side log before last start none-scanned (all-left c.streams) x c d e r;
   }

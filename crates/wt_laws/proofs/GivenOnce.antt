@@ -16,7 +16,7 @@ use Rattle.wt_laws.proofs.TurnCauses.{reply-is-recorded}
 use Rattle.wt_laws.specs.GivenOnce.{GivenOnce, gives_stream, gave_stream}
 use Rattle.wt_laws.specs.Laws.{AcceptedRightly, GoesOnFrom, IsDuring}
 use Rattle.wt_laws.specs.Reachable.{AfterTurn, AllLawful, AtStart, Exchange, IsReachable, exchanges}
-use Rattle.wt_laws.specs.Told.{Logged, NoRecord, OneRecord, TellsOf, ThenPolled}
+use Rattle.wt_laws.specs.ReplyTells.{Logged, NoRecord, OneRecord, TellsOf, ThenPolled}
 use Rattle.wt_spec.specs.Answers.{answer_to, is_lawful, log_after}
 use Rattle.wt_spec.specs.Driver.{releases}
 use Rattle.wt_reply.specs.declared.reply.Reply.TheVariants as replies
@@ -42,17 +42,17 @@ bi-told turn j (SessionEstablished i n) q = absurd (cc)
 bi-told turn j (RequestDelivered i) q = absurd (cc)
 bi-told turn j _ q = absurd (cc)
 
-told : (turn : Turn) (k : ℕ) (r : CallRecord) (reply : Reply) → gives_stream k reply ≡ true → TellsOf turn r reply → releases k r ≡ true
-told turn k r (replies.Uni j) g q = subst (λ z. releases z r ≡ true) (eqb-true j k g) (uni-told turn j r q)
-told turn k r (replies.Bi j) g q = subst (λ z. releases z r ≡ true) (eqb-true j k g) (bi-told turn j r q)
-told turn k r _ g q = absurd (cc)
+reported : (turn : Turn) (k : ℕ) (r : CallRecord) (reply : Reply) → gives_stream k reply ≡ true → TellsOf turn r reply → releases k r ≡ true
+reported turn k r (replies.Uni j) g q = subst (λ z. releases z r ≡ true) (eqb-true j k g) (uni-told turn j r q)
+reported turn k r (replies.Bi j) g q = subst (λ z. releases z r ≡ true) (eqb-true j k g) (bi-told turn j r q)
+reported turn k r _ g q = absurd (cc)
 
 logged-releases : (turn : Turn) (k : ℕ) (before after : List CallRecord) (reply : Reply) → gives_stream k reply ≡ true → Logged turn before after reply → list_any (releases k) after ≡ true
 logged-releases turn k before after (replies.Uni j) g (NoRecord e q) = absurd (cc)
 logged-releases turn k before after (replies.Bi j) g (NoRecord e q) = absurd (cc)
 logged-releases turn k before after _ g (NoRecord e q) = absurd (cc)
-logged-releases turn k before after reply g (OneRecord r e q) = ap (λ rs. list_any (releases k) rs) e ∙ ap (λ b. b || list_any (releases k) before) (told turn k r reply g q)
-logged-releases turn k before after reply g (ThenPolled r e q) = ap (λ rs. list_any (releases k) rs) e ∙ ap (λ b. b || list_any (releases k) before) (told turn k r reply g q)
+logged-releases turn k before after reply g (OneRecord r e q) = ap (λ rs. list_any (releases k) rs) e ∙ ap (λ b. b || list_any (releases k) before) (reported turn k r reply g q)
+logged-releases turn k before after reply g (ThenPolled r e q) = ap (λ rs. list_any (releases k) rs) e ∙ ap (λ b. b || list_any (releases k) before) (reported turn k r reply g q)
 
 -- ---- what was released stays so
 
@@ -65,12 +65,12 @@ not-released side log turn kind k (middle, d, a) p = sym a.fresh ∙ stays side 
 
 -- ---- the law
 
-record Given (side : Side) (before : List Exchange) (log : Log) : Type 0 where
+record GivenOnceSoFar (side : Side) (before : List Exchange) (log : Log) : Type 0 where
   pub reachable : IsReachable side log
   pub once : GivenOnce before
   pub released : (k : ℕ) → gave_stream k before ≡ true → list_any (releases k) (calls_of log) ≡ true
 
-module _ (side : Side) (before : List Exchange) (log : Log) (turn : Turn) (l : is_lawful side log turn ≡ true) (p : Given side before log) where
+module _ (side : Side) (before : List Exchange) (log : Log) (turn : Turn) (l : is_lawful side log turn ≡ true) (p : GivenOnceSoFar side before log) where
   abbrev reply : Reply
   reply = (answer_to side log turn).reply
 
@@ -93,21 +93,21 @@ module _ (side : Side) (before : List Exchange) (log : Log) (turn : Turn) (l : i
       after : {middle : Log} → GoesOnFrom log middle → GoesOnFrom middle (log_after side log turn) → GoesOnFrom log (log_after side log turn)
       after f t = extend f t
 
-  given-turn : Given side (record { turn = turn; answer = answer_to side log turn } ∷ before) (log_after side log turn)
+  given-turn : GivenOnceSoFar side (record { turn = turn; answer = answer_to side log turn } ∷ before) (log_after side log turn)
   given-turn = record {
     reachable = AfterTurn turn p.reachable l;
     once = (new-once, p.once);
     released = λ k q. new-released k (gives_stream k reply) refl q;
   }
 
-given-law : (side : Side) → reached.Law side (Given side)
+given-law : (side : Side) → reached.Law side (GivenOnceSoFar side)
 given-law side = record {
   first = record { reachable = AtStart; once = tt; released = λ k q. absurd (cc) };
   turn = λ before log turn l p. given-turn side before log turn l p;
 }
 
 pub given-once : (side : Side) (all : List Turn) → AllLawful side [] all → GivenOnce (exchanges side all)
-given-once side all a = (holds side (Given side) (given-law side) all a).once
+given-once side all a = (holds side (GivenOnceSoFar side) (given-law side) all a).once
 
 -- by the name that a contract cites
 pub given_once_theorem : (side : Side) (all : List Turn) → AllLawful side [] all → GivenOnce (exchanges side all)

@@ -56,8 +56,8 @@ module _ (side : Side) (log : Log) (k : ℕ) (c : (local_uni side == k) ≡ fals
   leaf : (own : List Action) (r : CallRecord) → sends_of k own ≡ piece → sent_on (actions_of (log_call side log own r)) k ≡ sent_on (actions_of log) k ++ piece
   leaf own r e = flush-other side (Called r) (with_actions own log) k c ∙ sent-with k own log ∙ ap (λ xs. sent_on (actions_of log) k ++ xs) e
 
-  settled : (own : List Action) (r : CallRecord) → sends_of k own ≡ piece → sent_on (actions_of (log_call side (log_call side log own r) [] Polled)) k ≡ sent_on (actions_of log) k ++ piece
-  settled own r e = flush-other side (Called Polled) (log_call side log own r) k c ∙ leaf own r e
+  record-flushed : (own : List Action) (r : CallRecord) → sends_of k own ≡ piece → sent_on (actions_of (log_call side (log_call side log own r) [] Polled)) k ≡ sent_on (actions_of log) k ++ piece
+  record-flushed own r e = flush-other side (Called Polled) (log_call side log own r) k c ∙ leaf own r e
 
   with-close : (own : List Action) (code : ℕ) → sends_of k own ≡ piece → sends_of k (own ++ close_when_open log code) ≡ piece
   with-close own code e = sends-append k own (close_when_open log code) ∙ ap (λ xs. sends_of k own ++ xs) (none (is_open log)) ∙ append-nil (sends_of k own) ∙ e
@@ -66,19 +66,19 @@ module _ (side : Side) (log : Log) (k : ℕ) (c : (local_uni side == k) ≡ fals
       none true = refl
       none false = refl
 
-  -- what a connect does behind its request sends nothing more
+  -- what a connect does after its request sends nothing more
   read-sends : (id : ℕ) (own : List Action) (r : ResponseWalk) → sends_of k own ≡ piece → Sends (read_response side log id own r)
   read-sends id own (responses.Fault code) e = leaf (own ++ close_when_open log (code_of code)) HandshakeOver (with-close own (code_of code) e)
   read-sends id own responses.Ended e = leaf (own ++ close_when_open log 0) HandshakeOver (with-close own 0 e)
-  read-sends id own responses.Waiting e = whether (is_open log) _ _ (λ o. leaf own Polled e) (λ o. leaf own HandshakeOver e)
+  read-sends id own responses.Incomplete e = whether (is_open log) _ _ (λ o. leaf own Polled e) (λ o. leaf own HandshakeOver e)
   read-sends id own (responses.Response fields at) e =
-      whether (not (has_success fields)) _ _ (λ s. leaf (own ++ close_when_open log 0) HandshakeOver (with-close own 0 e)) (λ s. whether (is_open log) _ _ (λ o. settled own (SessionEstablished id at) e) (λ o. leaf own HandshakeOver e))
+      whether (not (has_success fields)) _ _ (λ s. leaf (own ++ close_when_open log 0) HandshakeOver (with-close own 0 e)) (λ s. whether (is_open log) _ _ (λ o. record-flushed own (SessionEstablished id at) e) (λ o. leaf own HandshakeOver e))
 
   -- a response goes on; a finished one sends nothing
   accept-sends : (id : ℕ) (left : List ℕ) (waiting : CallRecord) → is_open log ≡ true → is_refused log id left ≡ false → (is_covered log id left ≡ true → sends_of k (send_of id left) ≡ piece) → sends_of k (send_of id (bytes_within_credit log id left)) ≡ piece → Sends (accept_response side log id left waiting)
   accept-sends id left waiting o f p q =
       no (not (is_open log)) _ _ (ap not o) (no (is_refused log id left) _ _ f
-      (whether (is_covered log id left) _ _ (λ z. settled (send_of id left) (SessionEstablished id (request_end (verdict_of id (stream_table side log).classified))) (p z)) (λ z. leaf (send_of id (bytes_within_credit log id left)) waiting q)))
+      (whether (is_covered log id left) _ _ (λ z. record-flushed (send_of id left) (SessionEstablished id (request_end (verdict_of id (stream_table side log).classified))) (p z)) (λ z. leaf (send_of id (bytes_within_credit log id left)) waiting q)))
 
   reject-sends : (id : ℕ) (left : List ℕ) (waiting : CallRecord) → is_open log ≡ true → is_refused log id left ≡ false → (is_covered log id left ≡ true → sends_of k (send_of id left) ≡ piece) → sends_of k (send_of id (bytes_within_credit log id left)) ≡ piece
       → (is_finished (actions_of log) id ≡ true → piece ≡ []) → Sends (reject_response side log id left waiting)

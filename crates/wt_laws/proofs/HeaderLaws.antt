@@ -19,7 +19,7 @@ use Rattle.wt_laws.proofs.Facts.{facts-first, found-sessions, is_local, opened-l
 use Rattle.wt_laws.proofs.Looks.{from-or}
 use Rattle.wt_laws.proofs.Reached.{reached}
 use Rattle.wt_laws.proofs.ReadLaws.{local-unclassified}
-use Rattle.wt_laws.proofs.SendLaws.{Given, accepted-ends, given-entries, not-same, pending-other, still-some, take-same}
+use Rattle.wt_laws.proofs.SendLaws.{GivenStreams, accepted-ends, given-entries, not-same, pending-other, still-some, take-same}
 use Rattle.wt_laws.proofs.Sends.{more-or-same, piece_on, sends_of, with-piece}
 use Rattle.wt_laws.proofs.SessionLaws.{Handshakes, from-request, handshakes-before, handshakes-first, has_request}
 use Rattle.wt_laws.proofs.SettingsLaws.{ControlOut, first-control, keeps-control, new-opening-record, none-either, not-control}
@@ -37,9 +37,9 @@ use Rattle.wt_spec.specs.StreamTable.{verdict_of}
 use Rattle.wt_turn.specs.declared.action.Action.TheVariants as actions
 
 pub record Heads (side : Side) (log : Log) : Type 0 where
-  pub given : Given side log
+  pub given : GivenStreams side log
   pub no_control : list_any (starts_opening (local_uni side)) (calls_of log) ≡ false
-  pub counted : (k : ℕ) → list_any (starts_opening k) (calls_of log) ≡ true → k / 4 < local_count (actions_of log) (k % 4)
+  pub count_is : (k : ℕ) → list_any (starts_opening k) (calls_of log) ≡ true → k / 4 < local_count (actions_of log) (k % 4)
   pub local_accepted : (k : ℕ) → is_local side k ≡ true → list_any (accepts_stream k) (calls_of log) ≡ true → list_any (starts_opening k) (calls_of log) ≡ true
   pub in_session : (k : ℕ) → list_any (starts_opening k) (calls_of log) ≡ true → is_some (established_session (calls_of log)) ≡ true
   pub fresh : (k : ℕ) → is_local side k ≡ true → k ≢ local_uni side → local_count (actions_of log) (k % 4) ≤ k / 4 → sent_on (actions_of log) k ≡ []
@@ -58,7 +58,7 @@ fresh-piece : (side : Side) (turn : Turn) (log : Log) (k : ℕ) (a : Action) →
 fresh-piece side turn log k (actions.Send id piece) h l u c = at (id == k) refl c.1
   where
     none : list_any (starts_opening k) (calls_of log) ≡ true → ⊥
-    none o = let n = h.counted k o in absurd (omega arith)
+    none o = let n = h.count_is k o in absurd (omega arith)
 
     by-side : (sd : Side) → local_count (actions_of log) (local_bi sd % 4) ≤ local_bi sd / 4 → local_count (actions_of log) (local_bi sd) ≢ 0 → ⊥
     by-side Client y z = absurd (z (omega arith))
@@ -132,7 +132,7 @@ pub heads-action : (side : Side) (turn : Turn) (log : Log) (a : Action) → Acti
 heads-action side turn log a c h = record {
   given = (given-entries side turn).action log a h.given;
   no_control = h.no_control;
-  counted = λ k o. let n = h.counted k o in let m = more-or-same (opens (k % 4) a) (local_count (actions_of log) (k % 4)) in omega arith;
+  count_is = λ k o. let n = h.count_is k o in let m = more-or-same (opens (k % 4) a) (local_count (actions_of log) (k % 4)) in omega arith;
   local_accepted = h.local_accepted;
   in_session = h.in_session;
   fresh = λ k l n u.
@@ -163,7 +163,7 @@ pub heads-other : (side : Side) (turn : Turn) (log : Log) (a : Action) → ((k :
 heads-other side turn log a n h = record {
   given = (given-entries side turn).action log a h.given;
   no_control = h.no_control;
-  counted = λ k o. let q = h.counted k o in let m = more-or-same (opens (k % 4) a) (local_count (actions_of log) (k % 4)) in omega arith;
+  count_is = λ k o. let q = h.count_is k o in let m = more-or-same (opens (k % 4) a) (local_count (actions_of log) (k % 4)) in omega arith;
   local_accepted = h.local_accepted;
   in_session = h.in_session;
   fresh = λ k l c u. let m = more-or-same (opens (k % 4) a) (local_count (actions_of log) (k % 4)) in same k c ∙ h.fresh k l c (omega arith);
@@ -317,7 +317,7 @@ module _ (side : Side) (turn : Turn) (log : Log) (own : List Action) where
       record {
         given = (given-entries side turn).record_ then_ r x h.given;
         no_control = none-either (starts_opening (local_uni side) r) _ (new-opening-record side turn log own r p c) h.no_control;
-        counted = λ k o. from-or (starts_opening k r) _ (new-count r c k) (h.counted k) o;
+        count_is = λ k o. from-or (starts_opening k r) _ (new-count r c k) (h.count_is k) o;
         local_accepted = λ k l a. or_right (starts_opening k r) _ (from-or (accepts_stream k r) _ (new-local r x k l) (h.local_accepted k l) a);
         in_session = λ k o. still-some (establishes r) (established_session (calls_of then_)) (from-or (starts_opening k r) _ (new-session r x k) (h.in_session k) o);
         fresh = h.fresh;
@@ -333,13 +333,13 @@ pub record Both (side : Side) (log : Log) : Type 0 where
   pub heads : Heads side log
 
 pub heads-event : (side : Side) (turn : Turn) (e : Event) (log : Log) → is_open log ≡ true → Brings side turn log e → Heads side log → Heads side (Reported e ∷ log)
-heads-event side turn e log o b h = record { given = (given-entries side turn).event log e o b h.given; no_control = h.no_control; counted = h.counted; local_accepted = h.local_accepted; in_session = h.in_session; fresh = h.fresh; begun = h.begun; ungiven = h.ungiven; whole = h.whole }
+heads-event side turn e log o b h = record { given = (given-entries side turn).event log e o b h.given; no_control = h.no_control; count_is = h.count_is; local_accepted = h.local_accepted; in_session = h.in_session; fresh = h.fresh; begun = h.begun; ungiven = h.ungiven; whole = h.whole }
 
 pub heads-late : (side : Side) (turn : Turn) (e : Event) (log : Log) → is_open log ≡ false → Brings side turn log e → Heads side log → Heads side (ReportedLate e ∷ log)
-heads-late side turn e log o b h = record { given = (given-entries side turn).late log e o b h.given; no_control = h.no_control; counted = h.counted; local_accepted = h.local_accepted; in_session = h.in_session; fresh = h.fresh; begun = h.begun; ungiven = h.ungiven; whole = h.whole }
+heads-late side turn e log o b h = record { given = (given-entries side turn).late log e o b h.given; no_control = h.no_control; count_is = h.count_is; local_accepted = h.local_accepted; in_session = h.in_session; fresh = h.fresh; begun = h.begun; ungiven = h.ungiven; whole = h.whole }
 
 pub heads-byte : (side : Side) (turn : Turn) (id b : ℕ) (log : Log) → is_open log ≡ true → is_running (end_of (all_events_of log) id) ≡ true → Heads side log → Heads side (Received id b ∷ log)
-heads-byte side turn id b log o r h = record { given = (given-entries side turn).byte log id b o r h.given; no_control = h.no_control; counted = h.counted; local_accepted = h.local_accepted; in_session = h.in_session; fresh = h.fresh; begun = h.begun; ungiven = h.ungiven; whole = h.whole }
+heads-byte side turn id b log o r h = record { given = (given-entries side turn).byte log id b o r h.given; no_control = h.no_control; count_is = h.count_is; local_accepted = h.local_accepted; in_session = h.in_session; fresh = h.fresh; begun = h.begun; ungiven = h.ungiven; whole = h.whole }
 
 pub keeps-both : (side : Side) (turn : Turn) → Keeps side turn (Both side)
 keeps-both side turn = record {
@@ -358,7 +358,7 @@ first-heads side = record {
   heads = record {
     given = record { facts_hold = facts-first side; handshakes = handshakes-first side; in_session = λ k e. absurd (cc) };
     no_control = refl;
-    counted = λ k o. absurd (cc);
+    count_is = λ k o. absurd (cc);
     local_accepted = λ k l a. absurd (cc);
     in_session = λ k o. absurd (cc);
     fresh = λ k l n u. refl;

@@ -124,8 +124,8 @@ module _ (side : Side) (a b : Log) (p : EndedAlike side a b) where
   polled reply too w = leaf side a b p [] [] Polled Polled reply too refl refl refl w
 
   -- a record, then the call's own
-  settled : (r s : CallRecord) (reply too : Reply) → r ≡ s → reply ≡ too → Alike side a b (poll_only side (log_call side a [] r) reply) (poll_only side (log_call side b [] s) too)
-  settled r s reply too q w =
+  polls-alike : (r s : CallRecord) (reply too : Reply) → r ≡ s → reply ≡ too → Alike side a b (poll_only side (log_call side a [] r) reply) (poll_only side (log_call side b [] s) too)
+  polls-alike r s reply too q w =
       let x = leaf side a b p [] [] r s reply too refl refl q w in
       let y = leaf side (log_call side a [] r) (log_call side b [] s) x.after [] [] Polled Polled reply too refl refl refl w in
       record { reply = y.reply; after = y.after; none = y.none ∙ x.none }
@@ -198,7 +198,7 @@ module _ (side : Side) (a b : Log) (p : EndedAlike side a b) where
   alike-due reply again too kind s (Some c) e = at (is_for_session s c.verdict) refl
     where
       at : (m : Bool) → is_for_session s c.verdict ≡ m → Alike side a b (give_or_pass m side reply again a c.id) (give_or_pass m side reply too b c.id)
-      at true f = settled (StreamAccepted c.id) (StreamAccepted c.id) (reply c.id) (reply c.id) refl refl
+      at true f = polls-alike (StreamAccepted c.id) (StreamAccepted c.id) (reply c.id) (reply c.id) refl refl
       at false f = absurd (let d = next-is-due side a kind s c e in let t = d.turn_has_come in let o = p.closed in due (is_open a) (is_for_session s c.verdict) t o f)
         where
           due : (x y : Bool) → (x || y) ≡ true → x ≡ false → y ≡ false → ⊥
@@ -326,7 +326,7 @@ module _ (side : Side) (a b : Log) (p : EndedAlike side a b) where
   alike-walk : (id : ℕ) (r : ResponseWalk) → Alike side a b (read_response side a id [] r) (read_response side b id [] r)
   alike-walk id (responses.Fault code) = abandoning (code_of code) _ _ refl
   alike-walk id responses.Ended = abandoning 0 _ _ same-lost
-  alike-walk id responses.Waiting = if-open side a b p (is_open a) (is_open b) _ _ _ _ p.closed p.closed_too (failing _ _ same-lost)
+  alike-walk id responses.Incomplete = if-open side a b p (is_open a) (is_open b) _ _ _ _ p.closed p.closed_too (failing _ _ same-lost)
   alike-walk id (responses.Response fields at) =
       same-if side a b p (not (has_success fields)) (not (has_success fields)) _ _ _ _ refl (λ s. abandoning 0 _ _ refl)
       (λ s. if-open side a b p (is_open a) (is_open b) _ _ _ _ p.closed p.closed_too (failing _ _ (ap (λ e. connects.ConnectionError e) same-driver)))
@@ -374,7 +374,7 @@ alike-next side again too s a b p f None = polled side a b p _ _ (same-wait side
 alike-next side again too s a b p f (Some d) = at (4 * d.0 == s)
   where
     at : (m : Bool) → Alike side a b (receive_or_pass m side again a d.1) (receive_or_pass m side too b d.1)
-    at true = settled side a b p DatagramReceived DatagramReceived _ _ refl refl
+    at true = polls-alike side a b p DatagramReceived DatagramReceived _ _ refl refl
     at false =
         let x = leaf side a b p [] [] DatagramPassed DatagramPassed replies.Done replies.Done refl refl refl refl in
         let y = f x.after in

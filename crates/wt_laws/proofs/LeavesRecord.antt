@@ -221,7 +221,7 @@ module _ (side : Side) (log : Log) where
   ends-read : (id : ℕ) (own : List Action) (walk : ResponseWalk) → Ends (read_response side log id own walk)
   ends-read id own (responses.Fault code) = ends (own ++ close_when_open log (code_of code)) _
   ends-read id own responses.Ended = ends (own ++ close_when_open log 0) _
-  ends-read id own responses.Waiting = by-test Ends (is_open log) _ _ (λ o. goes-on _ refl) (λ o. ends own _)
+  ends-read id own responses.Incomplete = by-test Ends (is_open log) _ _ (λ o. goes-on _ refl) (λ o. ends own _)
   ends-read id own (responses.Response fields at) = by-test Ends (not (has_success fields)) _ _ (λ s. ends (own ++ close_when_open log 0) _) (λ s. by-test Ends (is_open log) _ _ (λ o. goes-on _ refl) (λ o. ends own _))
 
   ends-send : (id : ℕ) (own : List Action) (left : List ℕ) → Ends (send_request side log id own left)
@@ -295,7 +295,7 @@ leaves-record side log turn l = record {
   connecting = λ to. of-turn (λ u. (answer_to side log u).reply ≡ replies.Pending → handshake_state (calls_of (log_after side log u)) ≡ Connecting (reserved_name to.headers) (request_head (authority_of to.url) (path_of to.url) to.headers))
       turn (turns.Call (calls.Connect (to.text, to.headers) to.lookup to.outcome)) to.connects_to
       (subst (λ p. Connects side log to.url to.headers (connect_to side log p to.headers to.lookup to.outcome)) (sym to.parsed) (connects-to side log to.url to.headers to.lookup to.outcome));
-  over = ends-turn side log turn;
+  ends_handshake = ends-turn side log turn;
 }
 
 -- ---- by the name that a contract cites

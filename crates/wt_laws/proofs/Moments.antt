@@ -91,7 +91,7 @@ module _ {c : Causes} (P : StreamTable → Type 0) (i : IsKept c P) (calls : Cal
 
 -- ---- the checks
 
--- what the checks behind the scan dequeue and read has a cause
+-- what the checks after the scan dequeue and read has a cause
 pub record CheckCauses (c : Causes) (cs : List Classified) (t : TransportView) (d : Dispatched) : Type 0 where
   pub datagram : (n : ℕ) → is_some (t.datagram n) ≡ true → c.datagram n
   pub settings : (x : ℕ × ℕ) → d.control ≡ Some x → is_some (control_walk_of (drop x.1 (t.contents x.0)) (t.end x.0)).settings ≡ true → c.settings cs
@@ -202,7 +202,7 @@ pub small-bi : (side : Side) → nat_lt (peer_bi side) 4 ≡ true
 small-bi Client = refl
 small-bi Server = refl
 
--- behind the scans, before the checks
+-- after the scans, before the checks
 pub kept-streams : (P : StreamTable → Type 0) (side : Side) (log : Log) → IsKept (causes side log) P → (t : StreamTable) → P (without_stops t)
     → P (scan_bis (transport_view side log) (call_view log) (scan_unis (transport_view side log) (call_view log) (without_stops t)))
 kept-streams P side log i t p =

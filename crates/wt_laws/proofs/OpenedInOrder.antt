@@ -96,7 +96,7 @@ none-order : (as_ : List Action) (log : Log) → NoneOpens as_ → OpenedInOrder
 none-order [] log q p = p
 none-order (a ∷ as_) log q p = none-order as_ (Sent a ∷ log) q.1 (one-more a log (q.0 log) p)
 
--- what the driver sends behind an opening
+-- what the driver sends after an opening
 abbrev Behind : Side → ℕ → ℕ → List Stopped → ℕ → Option Ending → List Action
 Behind side credit sent stops session ending = send_of (local_uni side) (drop sent (take credit local_control_bytes)) ++ stop_actions stops ++ close_actions session ending
 

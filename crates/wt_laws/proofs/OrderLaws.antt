@@ -47,7 +47,7 @@ known-before k (c ∷ cs) x n p = at (c.id == k) p (known-before k cs x n)
     at true p f = refl
     at false p f = f p
 
--- ---- one more stream behind the others
+-- ---- one more stream after the others
 
 later-more : (kind k : ℕ) (cs : List Classified) (x : Classified) → (x.id % 4 ≡ kind → k < x.id) → AllLater kind k cs → AllLater kind k (cs ++ x ∷ [])
 later-more kind k [] x l p = (l, tt)

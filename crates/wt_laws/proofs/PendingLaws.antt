@@ -39,7 +39,7 @@ use Rattle.wt_laws.proofs.StreamLaws.{none-left}
 use Rattle.wt_laws.specs.Causes.{FoundDatagram, FoundStream, accepted_kind, is_accept, is_receive}
 use Rattle.wt_laws.specs.Left.{PassesDatagram, PassesNone, PassesStream, PassesTo, PendingExactly, lacks_response, connect_waits, datagram_reply, handshake_waits, has_no_stream, has_nothing_left, is_none_queued, is_pending, is_waiting, lacks_credit, may_dial, of_session, passing_reply, rejection_waits, request_waits, response_waits, session_reply, stream_reply}
 use Rattle.wt_laws.specs.Laws.{GoesOnFrom, is_left_for}
-use Rattle.wt_laws.specs.Told.{given_stream}
+use Rattle.wt_laws.specs.ReplyTells.{given_stream}
 use Rattle.wt_spec.specs.Answers.{answer_to, call_effect, in_session, is_client, is_first, is_lawful, may_call, on_session, turn_effect}
 use Rattle.wt_spec.specs.Connect.{address_of, connect_to, outcome_error, port_of, unless_stopped, with_address}
 use Rattle.wt_spec.specs.Connection.{accept_due, accept_first, accept_stream, datagram_allowed, datagram_within, give_or_pass, is_for_session, is_opening, next_datagram, next_due, open_stream, pass_stream, poll_opening, receive_datagram, receive_first, receive_next, receive_or_pass, send_datagram, stream_header}
@@ -115,7 +115,7 @@ module _ (side : Side) (log : Log) where
   waits-read : (id : ℕ) (own : List Action) (r : ResponseWalk) → Waits (is_open log && is_waiting r) (read_response side log id own r)
   waits-read id own (responses.Fault code) = and-false (is_open log)
   waits-read id own responses.Ended = and-false (is_open log)
-  waits-read id own responses.Waiting = if-open (is_open log) _ _ refl refl ∙ and-true (is_open log)
+  waits-read id own responses.Incomplete = if-open (is_open log) _ _ refl refl ∙ and-true (is_open log)
   waits-read id own (responses.Response fields at) = unless-success (has_success fields) (is_open log) _ _ _ refl refl refl
 
   -- no rest, an ended connection, a stop, a covered rest
@@ -376,8 +376,8 @@ record Decides (side : Side) (turn : Turn) (start : Log) (x : Effect) : Type 0 w
   pub gives : (r : Reply) → passing_reply side turn decided ≡ Some r → x.reply ≡ r
 
 -- the reply is the one that is told
-told : (o : Option Reply) (x y : Reply) → o ≡ Some x → (r : Reply) → o ≡ Some r → x ≡ y → y ≡ r
-told o x y e r f g = let z : x ≡ r = cc in sym g ∙ z
+reported : (o : Option Reply) (x y : Reply) → o ≡ Some x → (r : Reply) → o ≡ Some r → x ≡ y → y ≡ r
+reported o x y e r f g = let z : x ≡ r = cc in sym g ∙ z
 
 module _ (side : Side) (turn : Turn) where
   not-accepting : (log : Log) (k : ℕ) (b : Bool) → is_accept turn ≡ false → FoundStream side turn log k b → ⊥
@@ -419,11 +419,11 @@ module _ (side : Side) (turn : Turn) where
       no_stream = λ k f. no-other log k c d e t f;
       no_datagram = λ f. not-receiving log false n f;
       exactly = q c.id ∙ and-false (is_open log) ∙ ap (λ b. is_open log && b) (sym (nothing-so log (Some c) d e));
-      gives = λ r x. told (passing_reply side turn log) _ _ (gives-so log (Some c) d e) r x refl;
+      gives = λ r x. reported (passing_reply side turn log) _ _ (gives-so log (Some c) d e) r x refl;
     }
     decides-given again log c false r d e t = record {
       decided = r.decided;
-      passes = PassesStream c.id (record { accepts = a; session = s; at = at; is_established = d; found = c; next = ap (λ m. next_due side log m s) i ∙ e; same = refl; named = t }) r.passes;
+      passes = PassesStream c.id (record { accepts = a; session = s; offset = at; is_established = d; found = c; next = ap (λ m. next_due side log m s) i ∙ e; same = refl; named = t }) r.passes;
       reaches = r.reaches;
       no_stream = r.no_stream;
       no_datagram = r.no_datagram;
@@ -440,7 +440,7 @@ module _ (side : Side) (turn : Turn) where
       no_stream = λ k g. none-found log k d e g;
       no_datagram = λ g. not-receiving log false n g;
       exactly = reply-if side log (is_open log) _ _ refl refl ∙ and-true (is_open log) ∙ ap (λ b. is_open log && b) (sym (nothing-so log None d e));
-      gives = λ r x. told (passing_reply side turn log) _ _ (gives-so log None d e) r x refl;
+      gives = λ r x. reported (passing_reply side turn log) _ _ (gives-so log None d e) r x refl;
     }
     decides-due again log (Some c) f d e = decides-given again log c (is_for_session s c.verdict) (f c e) d e refl
 
@@ -473,7 +473,7 @@ module _ (side : Side) (turn : Turn) where
       → Decides side turn log (on_session side log (accept_stream side reply kind log))
   decides-accept log kind reply a n i w v q =
       decides-in log (accept_stream side reply kind log) (established_session (calls_of log)) refl (λ d. w log ∙ ap (of_session (λ j. not (is_some (next_due side log kind j)))) d)
-      (λ d r x. told (passing_reply side turn log) replies.NoSession _ (v log ∙ ap (λ z. Some (session_reply (λ j. stream_reply side log reply (next_due side log kind j)) z)) d) r x refl)
+      (λ d r x. reported (passing_reply side turn log) replies.NoSession _ (v log ∙ ap (λ z. Some (session_reply (λ j. stream_reply side log reply (next_due side log kind j)) z)) d) r x refl)
       (λ s at d. decides-first kind a n i w reply v q s at (suc (peer_count side (events_of log) kind)) log d (at-first side log kind))
 
   -- ---- datagrams
@@ -502,11 +502,11 @@ module _ (side : Side) (turn : Turn) where
       no_stream = λ k f. not-accepting log k false n f;
       no_datagram = λ f. no-other-datagram log x d e t f;
       exactly = and-false (is_open log) ∙ ap (λ b. is_open log && b) (sym (none-so log (Some x) d e));
-      gives = λ r y. told (passing_reply side turn log) _ _ (datagram-so log (Some x) d e) r y refl;
+      gives = λ r y. reported (passing_reply side turn log) _ _ (datagram-so log (Some x) d e) r y refl;
     }
     decides-taken again log x false r d e t = record {
       decided = r.decided;
-      passes = PassesDatagram (record { receives = a; session = s; at = at; is_established = d; datagram = x; next = e; named = t }) r.passes;
+      passes = PassesDatagram (record { receives = a; session = s; offset = at; is_established = d; datagram = x; next = e; named = t }) r.passes;
       reaches = r.reaches;
       no_stream = r.no_stream;
       no_datagram = r.no_datagram;
@@ -522,7 +522,7 @@ module _ (side : Side) (turn : Turn) where
       no_stream = λ k f. not-accepting log k false n f;
       no_datagram = λ f. absurd (let x = f.next in cc);
       exactly = reply-if side log (is_open log) _ _ refl refl ∙ and-true (is_open log) ∙ ap (λ b. is_open log && b) (sym (none-so log None d e));
-      gives = λ r y. told (passing_reply side turn log) _ _ (datagram-so log None d e) r y refl;
+      gives = λ r y. reported (passing_reply side turn log) _ _ (datagram-so log None d e) r y refl;
     }
 
     decides-next : (again : Log → Effect) (log : Log) (o : Option (ℕ × List ℕ)) → ((x : ℕ × List ℕ) → next_datagram side log ≡ Some x → Decides side turn (log_call side log [] DatagramPassed) (again (log_call side log [] DatagramPassed)))
@@ -562,7 +562,7 @@ decides-passing side log (turns.Call calls.AcceptBi) p = decides-accept side (tu
 decides-passing side log (turns.Call calls.ReceiveDatagram) p =
     let t = turns.Call calls.ReceiveDatagram in
     decides-in side t log (receive_datagram side log) (established_session (calls_of log)) refl (λ d. ap (of_session (λ j. not (is_some (next_datagram side log)))) d)
-    (λ d r x. told (passing_reply side t log) replies.NoSession _ (ap (λ z. Some (session_reply (λ j. datagram_reply side log (next_datagram side log)) z)) d) r x refl)
+    (λ d r x. reported (passing_reply side t log) replies.NoSession _ (ap (λ z. Some (session_reply (λ j. datagram_reply side log (next_datagram side log)) z)) d) r x refl)
     (λ s at d. decides-receive side t refl refl (λ g. refl) (λ g. refl) s at (suc (length (datagrams_of (events_of log)))) log d (omega arith))
 decides-passing side log (turns.Call _) p = absurd (cc)
 decides-passing side log _ p = absurd (cc)

@@ -1,4 +1,4 @@
--- What the driver sends at a moment that finds the connection open goes out right behind it.
+-- What the driver sends at a moment that finds the connection open goes out right after it.
 use Rattle.std.specs.Prelude.{[], ◌&&◌, ◌++◌, ◌∷◌, ◌≡◌, Bool, List, false, true}
 use Rattle.std.proofs.Common.{ap, refl, subst}
 use Rattle.wt_turn.specs.Log.{Called, Entry, Log, Received, Reported, ReportedLate, Sent, is_open, with_actions}

@@ -21,7 +21,7 @@ use Rattle.wt_laws.specs.Laws.{ReadsFromStart, ReadsInOrder, more_read, read_fro
 use Rattle.wt_laws.specs.Reachable.{AllLawful, Exchange, exchanges, is_among}
 use Rattle.wt_laws.specs.RecordCauses.{RecordCause}
 use Rattle.wt_laws.specs.ReplyCauses.{ReplyCause}
-use Rattle.wt_laws.specs.Told.{Logged, NoRecord, OneRecord, TellsOf, ThenPolled, datagram_told, given_stream, is_quiet, read_piece, request_told, session_told}
+use Rattle.wt_laws.specs.ReplyTells.{Logged, NoRecord, OneRecord, TellsOf, ThenPolled, datagram_told, given_stream, is_quiet, read_piece, request_told, session_told}
 use Rattle.wt_spec.specs.Answers.{answer_to, is_lawful, log_after, log_from}
 use Rattle.wt_spec.specs.Driver.{stream_table}
 use Rattle.wt_spec.specs.Halves.{body_start, bytes_read, has_receiving_half, is_accepted, total_read, unread_body}
@@ -125,7 +125,7 @@ from-half side log k f h = at (f.accepted k (and_parts (is_accepted log k) _ (an
   where
     at : (is_local side k ≡ true) ⊎ IsSessions side log k → (offset : ℕ) × Anchored side log k offset
     at (inl l) = (0, OfLocal l refl)
-    at (inr s) = (s.at, OfSession s.session s.verdict)
+    at (inr s) = (s.offset, OfSession s.session s.verdict)
 
 -- ---- what reads gave so far
 
@@ -224,7 +224,7 @@ take-same zero xs = refl
 take-same (suc m) [] = refl
 take-same (suc m) (x ∷ xs) = ap (λ ys. x ∷ ys) (take-same m xs)
 
--- a piece behind a prefix
+-- a piece after a prefix
 longer : (bytes body : List ℕ) (n m : ℕ) → bytes ≡ take n body → n ≤ length body → (bytes ++ take m (drop n body) ≡ take (length (take m (drop n body)) + n) body) × (length (take m (drop n body)) + n ≤ length body)
 longer bytes body n m e l =
     let p = length (take m (drop n body)) in

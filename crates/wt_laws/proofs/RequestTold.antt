@@ -17,7 +17,7 @@ use Rattle.wt_laws.proofs.SessionLaws.{first-queued}
 use Rattle.wt_laws.specs.Laws.{GoesOnFrom, RequestTold}
 use Rattle.wt_laws.specs.Reachable.{AfterTurn, IsReachable}
 use Rattle.wt_laws.specs.Runs.{StaysSo}
-use Rattle.wt_laws.specs.Told.{Logged, NoRecord, OneRecord, TellsOf, ThenPolled, datagram_told, given_stream, is_quiet, read_piece, request_told, session_told}
+use Rattle.wt_laws.specs.ReplyTells.{Logged, NoRecord, OneRecord, TellsOf, ThenPolled, datagram_told, given_stream, is_quiet, read_piece, request_told, session_told}
 use Rattle.wt_spec.specs.Answers.{is_lawful, log_after}
 use Rattle.wt_spec.specs.Driver.{delivers, stream_table}
 use Rattle.wt_spec.specs.StreamTable.{verdict_of}
@@ -55,9 +55,9 @@ request-told side log turn r l k headers e =
     let w = why-reply side log turn l (replies.Request k headers) e in
     let q = first-queued side c.decided w.1 w.2 w.3 in
     let s = stays side d.to_end in
-    let v : verdict_of k (stream_table side (log_after side log turn)).classified ≡ Some (verdicts.Request q.request.headers q.request.at) =
-    s.verdict k _ (subst (λ (j : ℕ). verdict_of j (stream_table side c.decided).classified ≡ Some (verdicts.Request q.request.headers q.request.at)) w.4 q.request.verdict) in
-    let b = carries side (log_after side log turn) k q.request.headers q.request.at ((facts-hold side (log_after side log turn) (AfterTurn turn r l)).verdicts k _ v) in
+    let v : verdict_of k (stream_table side (log_after side log turn)).classified ≡ Some (verdicts.Request q.request.headers q.request.offset) =
+    s.verdict k _ (subst (λ (j : ℕ). verdict_of j (stream_table side c.decided).classified ≡ Some (verdicts.Request q.request.headers q.request.offset)) w.4 q.request.verdict) in
+    let b = carries side (log_after side log turn) k q.request.headers q.request.offset ((facts-hold side (log_after side log turn) (AfterTurn turn r l)).verdicts k _ v) in
     let fresh = subst (λ (j : ℕ). list_any (delivers j) (calls_of c.decided) ≡ false) w.4 q.fresh in
     record {
       fresh = not-yet (list_any (delivers k) (calls_of log)) _ ((stays side d.from_start).delivered k) fresh;
@@ -65,7 +65,7 @@ request-told side log turn r l k headers e =
         delivered = delivered-by turn k headers (calls_of c.decided) (calls_of (log_after side log turn)) _ e c.logged;
         settings = s.settings q.request.settings;
         headers = q.request.headers;
-        at = q.request.at;
+        offset = q.request.offset;
         opened = b.opened;
         bytes = b.bytes;
         verdict = v;

@@ -79,7 +79,7 @@ accepted-ends k (StreamAccepted id ∷ cs) e = either-true (id == k) (list_any (
 accepted-ends k (_ ∷ cs) e = accepted-ends k cs e
 
 -- a session is established where a stream was given
-pub record Given (side : Side) (log : Log) : Type 0 where
+pub record GivenStreams (side : Side) (log : Log) : Type 0 where
   pub facts_hold : Facts side log
   pub handshakes : Handshakes side log
   pub in_session : (k : ℕ) → list_any (accepts_stream k) (calls_of log) ≡ true → is_some (established_session (calls_of log)) ≡ true
@@ -93,7 +93,7 @@ accept-some side turn log k (StreamAccepted id) (ByAccept f) e = ap is_some f.is
 accept-some side turn log k (StreamAccepted id) (ByOpening f) e = ap is_some f.is_established
 accept-some side turn log k _ c e = absurd (cc)
 
-pub given-entries : (side : Side) (turn : Turn) → KeepsEntries side turn (Given side)
+pub given-entries : (side : Side) (turn : Turn) → KeepsEntries side turn (GivenStreams side)
 given-entries side turn = record {
   action = λ log a p. record { facts_hold = (facts-entries side turn).action log a p.facts_hold; handshakes = (handshakes-entries side turn).action log a p.handshakes; in_session = p.in_session };
   event = λ log e o b p. record { facts_hold = (facts-entries side turn).event log e o b p.facts_hold; handshakes = (handshakes-entries side turn).event log e o b p.handshakes; in_session = p.in_session };
@@ -106,8 +106,8 @@ given-entries side turn = record {
   };
 }
 
-given-holds : (side : Side) (log : Log) → IsReachable side log → Given side log
-given-holds side log r = reached (Given side) (record { facts_hold = facts-first side; handshakes = handshakes-first side; in_session = λ k e. absurd (cc) }) (λ turn. by-entries (given-entries side turn)) log r
+given-holds : (side : Side) (log : Log) → IsReachable side log → GivenStreams side log
+given-holds side log r = reached (GivenStreams side) (record { facts_hold = facts-first side; handshakes = handshakes-first side; in_session = λ k e. absurd (cc) }) (λ turn. by-entries (given-entries side turn)) log r
 
 -- of a given stream: only a write sends on it
 pub record Alone (side : Side) (k : ℕ) (calls_ : List CallRecord) : Type 0 where
@@ -119,7 +119,7 @@ ended-opening : (a b : Bool) → b ≡ true → (a && not b) ≡ false
 ended-opening true b e = rw e refl
 ended-opening false b e = refl
 
-pub alone : (side : Side) (log : Log) (k : ℕ) → Given side log → is_accepted log k ≡ true → Alone side k (calls_of log)
+pub alone : (side : Side) (log : Log) (k : ℕ) → GivenStreams side log → is_accepted log k ≡ true → Alone side k (calls_of log)
 alone side log k g a = record {
   no_opening = ended-opening (list_any (starts_opening k) (calls_of log)) (list_any (ends_opening k) (calls_of log)) (accepted-ends k (calls_of log) a);
   no_request = λ r e. request (g.facts_hold.accepted k a) (g.handshakes.delivered (requested_stream (calls_of log)) (g.handshakes.has_one r)) e;
@@ -148,7 +148,7 @@ other-own side turn k (a ∷ own) log n s c = rw (other-piece side turn k a log 
 -- ---- a turn that doesn't write on it
 
 record Unsent (side : Side) (k : ℕ) (bytes : List ℕ) (log : Log) : Type 0 where
-  pub given : Given side log
+  pub given : GivenStreams side log
   pub accepted : is_accepted log k ≡ true
   pub same : sent_on (actions_of log) k ≡ bytes
 

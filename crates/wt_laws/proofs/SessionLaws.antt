@@ -27,7 +27,7 @@ use Rattle.wt_laws.specs.Causes.{ByAcceptance, ByAnswer, ByRejection, ByResponse
 use Rattle.wt_laws.specs.Laws.{AfterRequest, AfterResponse, EstablishedHow, EstablishedRightly, GoesOnFrom, OneSession, SessionTold, SessionsRightly, WasDelivered}
 use Rattle.wt_laws.specs.Reachable.{IsReachable, is_among}
 use Rattle.wt_laws.specs.RecordCauses.{DeliverCause, RecordCause}
-use Rattle.wt_laws.specs.Told.{Logged, NoRecord, OneRecord, TellsOf, ThenPolled, datagram_told, given_stream, is_quiet, read_piece, request_told, session_told}
+use Rattle.wt_laws.specs.ReplyTells.{Logged, NoRecord, OneRecord, TellsOf, ThenPolled, datagram_told, given_stream, is_quiet, read_piece, request_told, session_told}
 use Rattle.wt_spec.specs.Answers.{is_client, is_lawful, log_after}
 use Rattle.wt_spec.specs.Connection.{first_of}
 use Rattle.wt_spec.specs.Driver.{call_view, delivers, established_session, session_id, settings_came, stream_table}
@@ -56,11 +56,11 @@ settings-stay side e log p = kept (λ t. t.progress.settings ≡ true) side e lo
 pub record HadRequest (side : Side) (log : Log) (k : ℕ) : Type 0 where
   pub settings : settings_came side log ≡ true
   pub headers : Fields
-  pub at : ℕ
-  pub verdict : verdict_of k (stream_table side log).classified ≡ Some (verdicts.Request headers at)
+  pub offset : ℕ
+  pub verdict : verdict_of k (stream_table side log).classified ≡ Some (verdicts.Request headers offset)
 
 delivered-stays : (side : Side) (e : Entry) (log : Log) (k : ℕ) → HadRequest side log k → HadRequest side (e ∷ log) k
-delivered-stays side e log k w = record { settings = settings-stay side e log w.settings; headers = w.headers; at = w.at; verdict = classified-stays side k _ e log w.verdict }
+delivered-stays side e log k w = record { settings = settings-stay side e log w.settings; headers = w.headers; offset = w.offset; verdict = classified-stays side k _ e log w.verdict }
 
 -- ---- the handshake
 
@@ -139,7 +139,7 @@ first-queued side log c later q = at (settings_came side log) refl q
         let p = first-picked keep (λ x. true) (stream_table side log).classified c (once side log) (ap (first_of (λ x. true)) e) in
         let a = and_parts (not (list_any (delivers c.id) (calls_of log))) _ p.kept_for in
         let v = request-verdict c.verdict (and_parts (is_request c.verdict) _ a.1).0 in
-        record { request = record { settings = s; headers = v.0; at = v.1; verdict = p.among ∙ ap Some v.2 }; same = ap request_fields_of v.2; fresh = not-true _ a.0 }
+        record { request = record { settings = s; headers = v.0; offset = v.1; verdict = p.among ∙ ap Some v.2 }; same = ap request_fields_of v.2; fresh = not-true _ a.0 }
     at false s e = absurd (cc)
 
 pub was-delivered : (side : Side) {turn : Turn} (log : Log) (k : ℕ) → DeliverCause side turn log k → HadRequest side log k
@@ -212,7 +212,7 @@ handshakes-before side own log f =
       none_yet = λ e. ap established_session (sym c) ∙ f.none_yet (ap (λ cs. is_under_way (handshake_state cs)) c ∙ e);
       acceptance = λ head e. f.acceptance head (ap handshake_state c ∙ e);
       delivered = λ k x. let y = f.delivered k (ap (list_any (delivers k)) c ∙ x) in
-          record { settings = ap (λ (z : StreamTable). z.progress.settings) (sym t) ∙ y.settings; headers = y.headers; at = y.at; verdict = ap (λ (z : StreamTable). verdict_of k z.classified) (sym t) ∙ y.verdict };
+          record { settings = ap (λ (z : StreamTable). z.progress.settings) (sym t) ∙ y.settings; headers = y.headers; offset = y.offset; verdict = ap (λ (z : StreamTable). verdict_of k z.classified) (sym t) ∙ y.verdict };
       has_one = λ e. ap (λ cs. list_any (delivers (requested_stream cs)) cs) (sym c) ∙ f.has_one (ap (λ cs. has_request (handshake_state cs)) c ∙ e);
       by_server = λ e. f.by_server (ap (λ cs. has_request (handshake_state cs)) c ∙ e);
       by_client = λ reserved head e. f.by_client reserved head (ap handshake_state c ∙ e);
@@ -221,11 +221,11 @@ handshakes-before side own log f =
 -- ---- the law
 
 -- the bytes of a request's stream carry it, also before a call's own actions
-carried-before : (side : Side) (own : List Action) (log : Log) (k : ℕ) (y : HadRequest side log k) → Facts side (with_actions own log) → Carries side log k y.headers y.at
+carried-before : (side : Side) (own : List Action) (log : Log) (k : ℕ) (y : HadRequest side log k) → Facts side (with_actions own log) → Carries side log k y.headers y.offset
 unfolding stream_table
 carried-before side own log k y f =
     let t = blind-actions (stream_table side) (λ a g. refl) own log in
-    let c = carries side (with_actions own log) k y.headers y.at (f.verdicts k _ (ap (λ (z : StreamTable). verdict_of k z.classified) t ∙ y.verdict)) in
+    let c = carries side (with_actions own log) k y.headers y.offset (f.verdicts k _ (ap (λ (z : StreamTable). verdict_of k z.classified) t ∙ y.verdict)) in
     record {
       opened = sym (blind-actions (λ g. is_among (peer_bi side) (peer_count side (events_of g) (peer_bi side)) k) (λ a g. refl) own log) ∙ c.opened;
       bytes = sym (blind-actions (λ g. bi_verdict_of (contents g k) (end_of (events_of g) k)) (λ a g. refl) own log) ∙ c.bytes;
@@ -236,7 +236,7 @@ one-delivered side turn log own head s f g x i =
     let d : list_any (delivers s) (calls_of log) ≡ true = subst (λ (n : ℕ). list_any (delivers n) (calls_of log) ≡ true) (sym i) (f.has_one (from-request turn (calls_of log) true head x)) in
     let y = f.delivered s d in
     let c = carried-before side own log s y g in
-    record { delivered = d; settings = y.settings; headers = y.headers; at = y.at; opened = c.opened; bytes = c.bytes; verdict = y.verdict }
+    record { delivered = d; settings = y.settings; headers = y.headers; offset = y.offset; opened = c.opened; bytes = c.bytes; verdict = y.verdict }
 
 established-how : (side : Side) (turn : Turn) (log : Log) (own : List Action) (s at : ℕ) → Handshakes side log → Facts side (with_actions own log) → EstablishCause side turn log own s at → EstablishedHow side log own s at
 established-how side turn log own s at f g (ByAnswer head x i c o a) =

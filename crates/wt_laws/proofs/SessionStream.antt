@@ -44,7 +44,7 @@ use Rattle.wt_turn.specs.declared.call.Call.TheVariants as calls
 use Rattle.wt_wire.specs.declared.error.ErrorCode.TheVariants as h3
 use Rattle.wt_turn.specs.declared.turn.Turn.TheVariants as turns
 
-pub record Out (side : Side) (frame : Option (List ℕ)) (log : Log) : Type 0 where
+pub record FrameOut (side : Side) (frame : Option (List ℕ)) (log : Log) : Type 0 where
   pub heads : Heads side log
   pub begun : (k : ℕ) → is_session_stream side (calls_of log) k ≡ true → (n : ℕ) × (sent_on (actions_of log) k ≡ take n (unwrap_or frame []))
   pub responding : (accepts : Bool) (head : List ℕ) → handshake_state (calls_of log) ≡ Responding accepts head → frame ≡ Some head
@@ -135,24 +135,24 @@ pending-quiet side log k n =
 
 module _ (side : Side) (frame : Option (List ℕ)) where
   -- a stream whose request was delivered isn't this end's
-  request-not-local : (log : Log) (k : ℕ) → Out side frame log → list_any (delivers k) (calls_of log) ≡ true → is_local side k ≡ true → ⊥
+  request-not-local : (log : Log) (k : ℕ) → FrameOut side frame log → list_any (delivers k) (calls_of log) ≡ true → is_local side k ≡ true → ⊥
   request-not-local log k h d l = absurd (let w = (h.heads.given.handshakes.delivered k d).verdict in let n = local-unclassified side log k l in cc)
 
-  request-not-given : (log : Log) (k : ℕ) → Out side frame log → list_any (delivers k) (calls_of log) ≡ true → is_accepted log k ≡ true → ⊥
+  request-not-given : (log : Log) (k : ℕ) → FrameOut side frame log → list_any (delivers k) (calls_of log) ≡ true → is_accepted log k ≡ true → ⊥
   request-not-given log k h d a = at (h.heads.given.facts_hold.accepted k a)
     where
       at : (is_local side k ≡ true) ⊎ IsSessions side log k → ⊥
       at (inl l) = request-not-local log k h d l
       at (inr s) = absurd (let w = (h.heads.given.handshakes.delivered k d).verdict in let v = s.verdict in cc)
 
-  not-started : (log : Log) (k : ℕ) → Out side frame log → is_session_stream side (calls_of log) k ≡ true → list_any (starts_opening k) (calls_of log) ≡ true → ⊥
+  not-started : (log : Log) (k : ℕ) → FrameOut side frame log → is_session_stream side (calls_of log) k ≡ true → list_any (starts_opening k) (calls_of log) ≡ true → ⊥
   not-started log k h i o = at (is_client side) refl
     where
       at : (b : Bool) → is_client side ≡ b → ⊥
       at true c = absurd (let e = on-client side (calls_of log) k true c refl i in let x = ap (λ j. list_any (starts_opening j) (calls_of log)) e in let y = h.no_opening c in cc)
       at false c = request-not-local log k h (on-server side (calls_of log) k false c refl i) (h.heads.given.facts_hold.openings k o)
 
-  pub not-given : (log : Log) (k : ℕ) → Out side frame log → is_session_stream side (calls_of log) k ≡ true → is_accepted log k ≡ true → ⊥
+  pub not-given : (log : Log) (k : ℕ) → FrameOut side frame log → is_session_stream side (calls_of log) k ≡ true → is_accepted log k ≡ true → ⊥
   not-given log k h i a = at (is_client side) refl
     where
       at : (b : Bool) → is_client side ≡ b → ⊥
@@ -162,7 +162,7 @@ module _ (side : Side) (frame : Option (List ℕ)) where
           not-started log k h i (h.heads.local_accepted k l a)
       at false c = request-not-given log k h (on-server side (calls_of log) k false c refl i) a
 
-  pub not-control-stream : (log : Log) (k : ℕ) → Out side frame log → is_session_stream side (calls_of log) k ≡ true → k ≢ local_uni side
+  pub not-control-stream : (log : Log) (k : ℕ) → FrameOut side frame log → is_session_stream side (calls_of log) k ≡ true → k ≢ local_uni side
   not-control-stream log k h i e = at (is_client side) refl
     where
       other : (sd : Side) → local_bi sd ≢ local_uni sd
@@ -188,12 +188,12 @@ module _ (side : Side) (frame : Option (List ℕ)) where
       none-of (suc n) = refl
 
   module _ (turn : Turn) (t : (head : List ℕ) → head_frame_of turn ≡ Some head → frame ≡ Some head) where
-    response-frame : (log : Log) (accepts : Bool) (head : List ℕ) → Out side frame log → ResponseFrom turn (calls_of log) accepts head → frame ≡ Some head
+    response-frame : (log : Log) (accepts : Bool) (head : List ℕ) → FrameOut side frame log → ResponseFrom turn (calls_of log) accepts head → frame ≡ Some head
     response-frame log accepts head h (ByAcceptance id headers a e f s) = t head (ap head_frame_of e ∙ ap Some (sym f))
     response-frame log accepts head h (ByRejection id a f s) = t head f
     response-frame log accepts head h (FromBefore t s) = h.responding accepts head s
 
-    -- a rest of the frame goes out behind the prefix
+    -- a rest of the frame goes out after the prefix
     goes-on : (log : Log) (k : ℕ) (head piece : List ℕ) → frame ≡ Some head → (p : (n : ℕ) × (sent_on (actions_of log) k ≡ take n (unwrap_or frame []))) → piece ≡ bytes_within_credit log k (head_left log k head)
         → (n : ℕ) × (sent_on (actions_of log) k ++ piece ≡ take n (unwrap_or frame []))
     goes-on log k head piece f p q =
@@ -211,7 +211,7 @@ module _ (side : Side) (frame : Option (List ℕ)) where
     sends-written : (log : Log) (id k : ℕ) → (id == k) ≡ true → (is_accepted log id && not (id % 4 == peer_uni side)) ≡ true → is_accepted log k ≡ true
     sends-written log id k e w = subst (λ (j : ℕ). is_accepted log j ≡ true) (eqb-true id k e) (and_parts (is_accepted log id) _ w).0
 
-    action-begun : (log : Log) (k : ℕ) (a : Action) → Out side frame log → is_session_stream side (calls_of log) k ≡ true → ActionCause side turn log a → (n : ℕ) × (sent_on (actions_of log) k ++ piece_on k a ≡ take n (unwrap_or frame []))
+    action-begun : (log : Log) (k : ℕ) (a : Action) → FrameOut side frame log → is_session_stream side (calls_of log) k ≡ true → ActionCause side turn log a → (n : ℕ) × (sent_on (actions_of log) k ++ piece_on k a ≡ take n (unwrap_or frame []))
     action-begun log k (actions.Send id piece) h i c = at (id == k) refl c.1
       where
         at : (b : Bool) → (id == k) ≡ b → SendCause side turn log id piece → (n : ℕ) × (sent_on (actions_of log) k ++ (if b then piece else []) ≡ take n (unwrap_or frame []))
@@ -223,25 +223,25 @@ module _ (side : Side) (frame : Option (List ℕ)) where
     action-begun log k _ h i c = ((h.begun k i).0, append-nil (sent_on (actions_of log) k) ∙ (h.begun k i).1)
 
     -- nothing more goes out on it once the session is established
-    action-whole : (log : Log) (k at_ : ℕ) (a : Action) → Out side frame log → established_session (calls_of log) ≡ Some (k, at_) → ActionCause side turn log a → piece_on k a ≡ []
+    action-whole : (log : Log) (k at_ : ℕ) (a : Action) → FrameOut side frame log → established_session (calls_of log) ≡ Some (k, at_) → ActionCause side turn log a → piece_on k a ≡ []
     action-whole log k at_ (actions.Send id piece) h d c = at (id == k) refl c.1
       where
         i : is_session_stream side (calls_of log) k ≡ true
         i = (h.whole k at_ d).0
 
-        over : is_under_way (handshake_state (calls_of log)) ≡ true → ⊥
-        over u = absurd (let n = h.heads.given.handshakes.none_yet u in cc)
+        none-under-way : is_under_way (handshake_state (calls_of log)) ≡ true → ⊥
+        none-under-way u = absurd (let n = h.heads.given.handshakes.none_yet u in cc)
 
         at : (b : Bool) → (id == k) ≡ b → SendCause side turn log id piece → (if b then piece else []) ≡ []
         at false e x = refl
         at true e (OfWrite bytes b w m q) = absurd (not-given log k h i (sends-written log id k e w))
         at true e (OfHeader session u z d o q) = absurd (not-started log k h i (subst (λ (j : ℕ). list_any (starts_opening j) (calls_of log) ≡ true) (eqb-true id k e) (and_parts (list_any (starts_opening id) (calls_of log)) _ o).0))
-        at true e (OfResponse accepts head f r q) = absurd (over (under-way-request (handshake_state (calls_of log)) (from-request turn (calls_of log) accepts head f)))
-        at true e (OfRequest head c s r z q) = absurd (over (ap is_under_way s))
+        at true e (OfResponse accepts head f r q) = absurd (none-under-way (under-way-request (handshake_state (calls_of log)) (from-request turn (calls_of log) accepts head f)))
+        at true e (OfRequest head c s r z q) = absurd (none-under-way (ap is_under_way s))
     action-whole log k at_ _ h d c = refl
 
     -- nor once the response is finished
-    action-finished : (log : Log) (k : ℕ) (a : Action) → Out side frame log → is_session_stream side (calls_of log) k ≡ true → is_finished (actions_of log) k ≡ true → ActionCause side turn log a → piece_on k a ≡ []
+    action-finished : (log : Log) (k : ℕ) (a : Action) → FrameOut side frame log → is_session_stream side (calls_of log) k ≡ true → is_finished (actions_of log) k ≡ true → ActionCause side turn log a → piece_on k a ≡ []
     action-finished log k (actions.Send id piece) h i d c = at (id == k) refl c.1
       where
         none : (head : List ℕ) → frame ≡ Some head → piece ≡ bytes_within_credit log k (head_left log k head) → piece ≡ []
@@ -259,7 +259,7 @@ module _ (side : Side) (frame : Option (List ℕ)) where
     action-finished log k _ h i d c = refl
 
     -- the response is finished once all of it is out
-    new-finished : (log : Log) (k : ℕ) (a : Action) → Out side frame log → is_session_stream side (calls_of log) k ≡ true → finishes k a ≡ true → ActionCause side turn log a → frame ≡ Some (sent_on (actions_of (Sent a ∷ log)) k)
+    new-finished : (log : Log) (k : ℕ) (a : Action) → FrameOut side frame log → is_session_stream side (calls_of log) k ≡ true → finishes k a ≡ true → ActionCause side turn log a → frame ≡ Some (sent_on (actions_of (Sent a ∷ log)) k)
     new-finished log k (actions.Finish id) h i e c = at c.1
       where
         at : FinishCause side turn log id → frame ≡ Some (sent_on (actions_of log) k)
@@ -271,7 +271,7 @@ module _ (side : Side) (frame : Option (List ℕ)) where
             g ∙ ap Some (sym (all-of-it side turn log [] p.0 head (sent_on (actions_of log) k) (p.1 ∙ ap (λ xs. take p.0 xs) u) (subst (λ (j : ℕ). head_left log j head ≡ []) (eqb-true id k e) l)))
     new-finished log k _ h i e c = absurd (cc)
 
-    untouched-send : (log : Log) (k : ℕ) (a : Action) → Out side frame log → is_local side k ≡ false → is_accepted log k ≡ false → list_any (delivers k) (calls_of log) ≡ false → ActionCause side turn log a → piece_on k a ≡ []
+    untouched-send : (log : Log) (k : ℕ) (a : Action) → FrameOut side frame log → is_local side k ≡ false → is_accepted log k ≡ false → list_any (delivers k) (calls_of log) ≡ false → ActionCause side turn log a → piece_on k a ≡ []
     untouched-send log k (actions.Send id piece) h l n d c = at (id == k) refl c.1
       where
         at : (b : Bool) → (id == k) ≡ b → SendCause side turn log id piece → (if b then piece else []) ≡ []
@@ -282,7 +282,7 @@ module _ (side : Side) (frame : Option (List ℕ)) where
         at true e (OfRequest head c s r z q) = absurd (let x = is-local-bi side in let y = ap (is_local side) (sym r ∙ eqb-true id k e) in cc)
     untouched-send log k _ h l n d c = refl
 
-    untouched-finish : (log : Log) (k : ℕ) (a : Action) → Out side frame log → is_accepted log k ≡ false → list_any (delivers k) (calls_of log) ≡ false → ActionCause side turn log a → finishes k a ≡ false
+    untouched-finish : (log : Log) (k : ℕ) (a : Action) → FrameOut side frame log → is_accepted log k ≡ false → list_any (delivers k) (calls_of log) ≡ false → ActionCause side turn log a → finishes k a ≡ false
     untouched-finish log k (actions.Finish id) h n d c = at (id == k) refl c.1
       where
         at : (b : Bool) → (id == k) ≡ b → FinishCause side turn log id → b ≡ false
@@ -294,7 +294,7 @@ module _ (side : Side) (frame : Option (List ℕ)) where
     same-sent : (log : Log) (k : ℕ) (a : Action) → piece_on k a ≡ [] → sent_on (actions_of (Sent a ∷ log)) k ≡ sent_on (actions_of log) k
     same-sent log k a e = with-piece k a (sent_on (actions_of log) k) ∙ ap (λ ys. sent_on (actions_of log) k ++ ys) e ∙ append-nil (sent_on (actions_of log) k)
 
-    out-action : (log : Log) (a : Action) → ActionCause side turn log a → Out side frame log → Out side frame (Sent a ∷ log)
+    out-action : (log : Log) (a : Action) → ActionCause side turn log a → FrameOut side frame log → FrameOut side frame (Sent a ∷ log)
     out-action log a c h = record {
       heads = heads-action side turn log a c h.heads;
       begun = λ k i. let p = action-begun log k a h i c in (p.0, with-piece k a (sent_on (actions_of log) k) ∙ p.1);
@@ -312,13 +312,13 @@ module _ (side : Side) (frame : Option (List ℕ)) where
         at k i true e f = h.finished k i e ∙ ap Some (sym (same-sent log k a (action-finished log k a h i e c)))
         at k i false e f = new-finished log k a h i (from-or (finishes k a) false (λ x. x) (λ x. absurd (cc)) f) c
 
-    pub out-own : (own : List Action) (log : Log) → OwnCauses side turn log own → Out side frame log → Out side frame (with_actions own log)
+    pub out-own : (own : List Action) (log : Log) → OwnCauses side turn log own → FrameOut side frame log → FrameOut side frame (with_actions own log)
     out-own [] log c h = h
     out-own (a ∷ own) log c h = out-own own (Sent a ∷ log) c.1 (out-action log a c.0 h)
 
   -- ---- what the driver sends
 
-  out-driver : (as_ : List Action) (log : Log) → ((k : ℕ) → k ≢ local_uni side → AllQuiet k as_) → Out side frame log → Out side frame (with_actions as_ log)
+  out-driver : (as_ : List Action) (log : Log) → ((k : ℕ) → k ≢ local_uni side → AllQuiet k as_) → FrameOut side frame log → FrameOut side frame (with_actions as_ log)
   out-driver [] log q h = h
   out-driver (a ∷ as_) log q h = out-driver as_ (Sent a ∷ log) (λ k n. (q k n).1) (record {
     heads = heads-other side (turns.Call calls.Closed) log a (λ k n. (q k n).0.0) h.heads;
@@ -339,11 +339,11 @@ module _ (side : Side) (frame : Option (List ℕ)) where
       same : (k : ℕ) → k ≢ local_uni side → sent_on (actions_of (Sent a ∷ log)) k ≡ sent_on (actions_of log) k
       same k c = with-piece k a (sent_on (actions_of log) k) ∙ ap (λ ys. sent_on (actions_of log) k ++ ys) (q k c).0.0 ∙ append-nil (sent_on (actions_of log) k)
 
-  out-flush : (e : Entry) (log : Log) → Out side frame (e ∷ log) → Out side frame (log_and_flush side log e)
+  out-flush : (e : Entry) (log : Log) → FrameOut side frame (e ∷ log) → FrameOut side frame (log_and_flush side log e)
   unfolding flush
   out-flush e log h = at (is_moment e && is_open (e ∷ log))
     where
-      at : (b : Bool) → Out side frame (apply_if b (with_actions (pending_actions side (e ∷ log))) (e ∷ log))
+      at : (b : Bool) → FrameOut side frame (apply_if b (with_actions (pending_actions side (e ∷ log))) (e ∷ log))
       at true = out-driver (pending_actions side (e ∷ log)) (e ∷ log) (pending-quiet side (e ∷ log)) h
       at false = h
 
@@ -366,7 +366,7 @@ module _ (side : Side) (frame : Option (List ℕ)) where
             older false e d = inr (c, from-or (delivers k r) false (λ x. x) (λ x. absurd (cc)) d, e)
 
     -- nothing was sent on a stream whose request is delivered now
-    new-untouched : (r : CallRecord) (k : ℕ) → Out side frame then_ → HadRequest side then_ k → list_any (delivers k) (calls_of then_) ≡ false → (sent_on (actions_of then_) k ≡ []) × (is_finished (actions_of then_) k ≡ false)
+    new-untouched : (r : CallRecord) (k : ℕ) → FrameOut side frame then_ → HadRequest side then_ k → list_any (delivers k) (calls_of then_) ≡ false → (sent_on (actions_of then_) k ≡ []) × (is_finished (actions_of then_) k ≡ false)
     new-untouched r k h w d =
         let l : is_local side k ≡ false = not-true-so (is_local side k) (λ l. absurd (let n = local-unclassified side then_ k l in let v = w.verdict in cc)) in
         h.untouched k l (not-true-so (is_accepted then_ k) (λ a. given (h.heads.given.facts_hold.accepted k a))) d
@@ -379,21 +379,21 @@ module _ (side : Side) (frame : Option (List ℕ)) where
     had-request (RequestDelivered id) k c e = subst (λ (j : ℕ). HadRequest side then_ j) (eqb-true id k e) (was-delivered side then_ id c)
     had-request _ k c e = absurd (cc)
 
-    record-begun : (r : CallRecord) → Out side frame then_ → RecordCause side turn then_ r → (k : ℕ) → is_session_stream side (r ∷ calls_of then_) k ≡ true → (n : ℕ) × (sent_on (actions_of then_) k ≡ take n (unwrap_or frame []))
+    record-begun : (r : CallRecord) → FrameOut side frame then_ → RecordCause side turn then_ r → (k : ℕ) → is_session_stream side (r ∷ calls_of then_) k ≡ true → (n : ℕ) × (sent_on (actions_of then_) k ≡ take n (unwrap_or frame []))
     record-begun r h c k i = at (new-stream r k i)
       where
         at : (is_session_stream side (calls_of then_) k ≡ true) ⊎ ((is_client side ≡ false) × (delivers k r ≡ true) × (list_any (delivers k) (calls_of then_) ≡ false)) → (n : ℕ) × (sent_on (actions_of then_) k ≡ take n (unwrap_or frame []))
         at (inl j) = h.begun k j
         at (inr x) = (0, (new-untouched r k h (had-request r k c x.1) x.2).0)
 
-    record-finished : (r : CallRecord) → Out side frame then_ → RecordCause side turn then_ r → (k : ℕ) → is_session_stream side (r ∷ calls_of then_) k ≡ true → is_finished (actions_of then_) k ≡ true → frame ≡ Some (sent_on (actions_of then_) k)
+    record-finished : (r : CallRecord) → FrameOut side frame then_ → RecordCause side turn then_ r → (k : ℕ) → is_session_stream side (r ∷ calls_of then_) k ≡ true → is_finished (actions_of then_) k ≡ true → frame ≡ Some (sent_on (actions_of then_) k)
     record-finished r h c k i f = at (new-stream r k i)
       where
         at : (is_session_stream side (calls_of then_) k ≡ true) ⊎ ((is_client side ≡ false) × (delivers k r ≡ true) × (list_any (delivers k) (calls_of then_) ≡ false)) → frame ≡ Some (sent_on (actions_of then_) k)
         at (inl j) = h.finished k j f
         at (inr x) = absurd (let y = (new-untouched r k h (had-request r k c x.1) x.2).1 in cc)
 
-    record-responding : (r : CallRecord) → Out side frame then_ → RecordCause side turn then_ r → (accepts : Bool) (head : List ℕ) → handshake_state (r ∷ calls_of then_) ≡ Responding accepts head → frame ≡ Some head
+    record-responding : (r : CallRecord) → FrameOut side frame then_ → RecordCause side turn then_ r → (accepts : Bool) (head : List ℕ) → handshake_state (r ∷ calls_of then_) ≡ Responding accepts head → frame ≡ Some head
     record-responding (ResponseStarted a hd) h c accepts head e =
         let x : hd ≡ head = cc in response-frame turn t then_ a hd h c.0 ∙ ap Some x
     record-responding (SessionEstablished id at) h c accepts head e = absurd (cc)
@@ -402,7 +402,7 @@ module _ (side : Side) (frame : Option (List ℕ)) where
     record-responding (ConnectStarted reserved hd) h c accepts head e = absurd (cc)
     record-responding _ h c accepts head e = h.responding accepts head e
 
-    record-connecting : (r : CallRecord) → Out side frame then_ → RecordCause side turn then_ r → (reserved : Option (List ℕ)) (head : List ℕ) → handshake_state (r ∷ calls_of then_) ≡ Connecting reserved head → (frame ≡ Some head) × (is_client side ≡ true)
+    record-connecting : (r : CallRecord) → FrameOut side frame then_ → RecordCause side turn then_ r → (reserved : Option (List ℕ)) (head : List ℕ) → handshake_state (r ∷ calls_of then_) ≡ Connecting reserved head → (frame ≡ Some head) × (is_client side ≡ true)
     record-connecting (ConnectStarted o hd) h c reserved head e = let x : hd ≡ head = cc in (t hd (ap head_frame_of c.dials.to.connects_to ∙ ap (request_to c.dials.to.headers) c.dials.to.parsed ∙ ap Some (sym c.request)) ∙ ap Some x, c.by_client)
     record-connecting (SessionEstablished id at) h c reserved head e = absurd (cc)
     record-connecting HandshakeOver h c reserved head e = absurd (cc)
@@ -410,7 +410,7 @@ module _ (side : Side) (frame : Option (List ℕ)) where
     record-connecting (ResponseStarted a hd) h c reserved head e = absurd (cc)
     record-connecting _ h c reserved head e = h.connecting reserved head e
 
-    record-asked : (r : CallRecord) → Out side frame then_ → RecordCause side turn then_ r → has_request (handshake_state (r ∷ calls_of then_)) ≡ true → is_client side ≡ false
+    record-asked : (r : CallRecord) → FrameOut side frame then_ → RecordCause side turn then_ r → has_request (handshake_state (r ∷ calls_of then_)) ≡ true → is_client side ≡ false
     record-asked (RequestDelivered k) h c e = c.by_server
     record-asked (ResponseStarted a hd) h c e = h.asked (from-request turn (calls_of then_) a hd c.0)
     record-asked (ConnectStarted o hd) h c e = absurd (cc)
@@ -419,24 +419,24 @@ module _ (side : Side) (frame : Option (List ℕ)) where
     record-asked _ h c e = h.asked e
 
     -- the session's stream, as the session is established
-    record Stands (k : ℕ) : Type 0 where
+    record SessionIs (k : ℕ) : Type 0 where
       pub of_session : is_session_stream side (calls_of then_) k ≡ true
       pub is_out : frame ≡ Some (sent_on (actions_of then_) k)
       pub opened : is_client side ≡ true → local_count (actions_of then_) (local_bi side) ≢ 0
 
-    all-out : (k : ℕ) (head : List ℕ) → Out side frame then_ → is_session_stream side (calls_of then_) k ≡ true → frame ≡ Some head → head_left then_ k head ≡ [] → frame ≡ Some (sent_on (actions_of then_) k)
+    all-out : (k : ℕ) (head : List ℕ) → FrameOut side frame then_ → is_session_stream side (calls_of then_) k ≡ true → frame ≡ Some head → head_left then_ k head ≡ [] → frame ≡ Some (sent_on (actions_of then_) k)
     all-out k head h i f l =
         let p = h.begun k i in
         let u : unwrap_or frame [] ≡ head = ap (λ (o : Option (List ℕ)). unwrap_or o []) f in
         f ∙ ap Some (sym (all-of-it side turn then_ [] p.0 head (sent_on (actions_of then_) k) (p.1 ∙ ap (λ xs. take p.0 xs) u) l))
 
-    stands : (k at_ : ℕ) → Out side frame then_ → EstablishedBy side turn then_ k at_ → Stands k
-    stands k at_ h c = by c.how
+    session-is : (k at_ : ℕ) → FrameOut side frame then_ → EstablishedBy side turn then_ k at_ → SessionIs k
+    session-is k at_ h c = by c.how
       where
         same-calls : calls_of c.before ≡ calls_of then_
         same-calls = sym (ap calls_of c.is ∙ calls-with c.own c.before)
 
-        by : EstablishCause side turn c.before c.own k at_ → Stands k
+        by : EstablishCause side turn c.before c.own k at_ → SessionIs k
         by (ByAnswer head f i v o a) =
             let g : ResponseFrom turn (calls_of then_) true head = subst (λ cs. ResponseFrom turn cs true head) same-calls f in
             let q = from-request turn (calls_of then_) true head g in
@@ -454,18 +454,18 @@ module _ (side : Side) (frame : Option (List ℕ)) where
               opened = λ b e. n (ap (λ g. local_count (actions_of g) k) (sym c.is) ∙ ap (λ j. local_count (actions_of then_) j) i ∙ e);
             }
 
-    record-opened : (r : CallRecord) → Out side frame then_ → RecordCause side turn then_ r → is_client side ≡ true → is_some (established_session (r ∷ calls_of then_)) ≡ true → local_count (actions_of then_) (local_bi side) ≢ 0
-    record-opened (SessionEstablished id at) h c b e = (stands id at h c).opened b
+    record-opened : (r : CallRecord) → FrameOut side frame then_ → RecordCause side turn then_ r → is_client side ≡ true → is_some (established_session (r ∷ calls_of then_)) ≡ true → local_count (actions_of then_) (local_bi side) ≢ 0
+    record-opened (SessionEstablished id at) h c b e = (session-is id at h c).opened b
     record-opened _ h c b e = h.opened b e
 
-    record-whole : (r : CallRecord) → Out side frame then_ → RecordCause side turn then_ r → (s at : ℕ) → established_session (r ∷ calls_of then_) ≡ Some (s, at) → (is_session_stream side (r ∷ calls_of then_) s ≡ true) × (frame ≡ Some (sent_on (actions_of then_) s))
+    record-whole : (r : CallRecord) → FrameOut side frame then_ → RecordCause side turn then_ r → (s at : ℕ) → established_session (r ∷ calls_of then_) ≡ Some (s, at) → (is_session_stream side (r ∷ calls_of then_) s ≡ true) × (frame ≡ Some (sent_on (actions_of then_) s))
     record-whole (SessionEstablished id at_) h c s at e =
         let x : id ≡ s = ap session_id e in
-        let y = stands id at_ h c in
+        let y = session-is id at_ h c in
         (more-sessions side (calls_of then_) (SessionEstablished id at_) s (subst (λ (j : ℕ). is_session_stream side (calls_of then_) j ≡ true) x y.of_session), y.is_out ∙ ap (λ j. Some (sent_on (actions_of then_) j)) x)
     record-whole r h c s at e = let w = h.whole s at e in (more-sessions side (calls_of then_) r s w.0, w.1)
 
-    record-no-opening : (r : CallRecord) → Out side frame log → CallCause side turn log own r → is_client side ≡ true → starts_opening (local_bi side) r ≡ true → ⊥
+    record-no-opening : (r : CallRecord) → FrameOut side frame log → CallCause side turn log own r → is_client side ≡ true → starts_opening (local_bi side) r ≡ true → ⊥
     record-no-opening (OpeningStarted id s) h c b e =
         let k = eqb-true id (local_bi side) e in
         let q = starts side log own id s c in
@@ -482,14 +482,14 @@ module _ (side : Side) (frame : Option (List ℕ)) where
         kind-of Server j e = omega arith
     record-no-opening _ h c b e = absurd (cc)
 
-    record-untouched : (r : CallRecord) → Out side frame then_ → (k : ℕ) → is_local side k ≡ false → list_any (accepts_stream k) (r ∷ calls_of then_) ≡ false → list_any (delivers k) (r ∷ calls_of then_) ≡ false → (sent_on (actions_of then_) k ≡ []) × (is_finished (actions_of then_) k ≡ false)
+    record-untouched : (r : CallRecord) → FrameOut side frame then_ → (k : ℕ) → is_local side k ≡ false → list_any (accepts_stream k) (r ∷ calls_of then_) ≡ false → list_any (delivers k) (r ∷ calls_of then_) ≡ false → (sent_on (actions_of then_) k ≡ []) × (is_finished (actions_of then_) k ≡ false)
     record-untouched r h k l n d = h.untouched k l (or_parts (accepts_stream k r) _ n).1 (or_parts (delivers k r) _ d).1
 
     neither-opens : (a b : Bool) → (a ≡ true → ⊥) → b ≡ false → (a || b) ≡ false
     neither-opens true b f e = absurd (f refl)
     neither-opens false b f e = e
 
-    out-record : (r : CallRecord) → ControlOut side log → Out side frame log → Out side frame then_ → CallCause side turn log own r → Out side frame (Called r ∷ then_)
+    out-record : (r : CallRecord) → ControlOut side log → FrameOut side frame log → FrameOut side frame then_ → CallCause side turn log own r → FrameOut side frame (Called r ∷ then_)
     out-record r p b h c =
         let x = of-record side turn log own r c in
         record {
@@ -509,9 +509,9 @@ module _ (side : Side) (frame : Option (List ℕ)) where
 
 pub record Both (side : Side) (frame : Option (List ℕ)) (log : Log) : Type 0 where
   pub control : ControlOut side log
-  pub out : Out side frame log
+  pub out : FrameOut side frame log
 
-out-entry : (side : Side) (frame : Option (List ℕ)) (e : Entry) (log : Log) → calls_of (e ∷ log) ≡ calls_of log → actions_of (e ∷ log) ≡ actions_of log → Heads side (e ∷ log) → Out side frame log → Out side frame (e ∷ log)
+out-entry : (side : Side) (frame : Option (List ℕ)) (e : Entry) (log : Log) → calls_of (e ∷ log) ≡ calls_of log → actions_of (e ∷ log) ≡ actions_of log → Heads side (e ∷ log) → FrameOut side frame log → FrameOut side frame (e ∷ log)
 out-entry side frame e log c a g h = record {
   heads = g;
   begun = rw (c, a) h.begun;
@@ -539,7 +539,7 @@ keeps-out side frame turn t = record {
   };
 }
 
-out-first : (side : Side) (frame : Option (List ℕ)) → Out side frame []
+out-first : (side : Side) (frame : Option (List ℕ)) → FrameOut side frame []
 out-first side frame = record {
   heads = (first-heads side).heads;
   begun = λ k i. (0, refl);
@@ -643,7 +643,7 @@ pub record SoFar (side : Side) (before : List Exchange) (log : Log) : Type 0 whe
   pub unanswered : is_client side ≡ false → is_unanswered (handshake_state (calls_of log)) ≡ true → session_frame before ≡ None
 
 -- with no frame so far nothing is out, so any may come
-reframed : (side : Side) (frame : Option (List ℕ)) (log : Log) (id : ℕ) → handshake_state (calls_of log) ≡ Requested id → Out side None log → Out side frame log
+reframed : (side : Side) (frame : Option (List ℕ)) (log : Log) (id : ℕ) → handshake_state (calls_of log) ≡ Requested id → FrameOut side None log → FrameOut side frame log
 reframed side frame log id s h = record {
   heads = h.heads;
   begun = λ k i. (0, (h.begun k i).1 ∙ none-of (h.begun k i).0);
@@ -669,7 +669,7 @@ pub record TurnStart (side : Side) (log : Log) (t : Turn) : Type 0 where
 
 begun-so : (side : Side) (before : List Exchange) (log : Log) (t : Turn) (f : List ℕ) → SoFar side before log → head_frame_of t ≡ Some f → Begins side log t → Both side (Some f) log
 begun-so side before log t f p e (Connects c n) = subst (λ g. Both side (Some f) g) (sym n) (record { control = first-control side; out = out-first side (Some f) })
-begun-so side before log t f p e (Answers id c s n) = record { control = p.both.control; out = reframed side (Some f) log id s (subst (λ o. Out side o log) (p.unanswered c (ap is_unanswered s)) p.both.out) }
+begun-so side before log t f p e (Answers id c s n) = record { control = p.both.control; out = reframed side (Some f) log id s (subst (λ o. FrameOut side o log) (p.unanswered c (ap is_unanswered s)) p.both.out) }
 
 pub start-of-turn : (side : Side) (before : List Exchange) (log : Log) (t : Turn) → is_lawful side log t ≡ true → SoFar side before log → TurnStart side log t
 start-of-turn side before log t l p = at (head_frame_of t) refl
@@ -713,7 +713,7 @@ so-far side = record {
 so-far-after : (side : Side) (log : Log) (turn : Turn) → is_lawful side log turn ≡ true → (before : List Exchange) × SoFar side before log → (before : List Exchange) × SoFar side before (log_after side log turn)
 so-far-after side log turn l s = (record { turn = turn; answer = answer_to side log turn } ∷ s.0, so-far-turn side s.0 log turn l s.1)
 
--- what holds so far holds of each log that lawful turns lead to, behind some exchanges
+-- what holds so far holds of each log that lawful turns lead to, after some exchanges
 pub so-far-reached : (side : Side) (log : Log) → IsReachable side log → (before : List Exchange) × SoFar side before log
 so-far-reached side log AtStart = ([], (so-far side).first)
 so-far-reached side log (AfterTurn turn r l) = so-far-after side _ turn l (so-far-reached side _ r)

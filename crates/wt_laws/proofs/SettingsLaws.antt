@@ -99,7 +99,7 @@ pub record ControlOut (side : Side) (log : Log) : Type 0 where
   pub unconnected : is_connected (all_events_of log) ≡ false → (count ≡ 0) × (unis_allowed (events_of log) ≡ 0)
   pub as_allowed : AsAllowed side log
 
--- what goes on behind a prefix
+-- what goes on after a prefix
 take-on : (n m : ℕ) (xs : List ℕ) → n ≤ m → take n xs ++ drop (length (take n xs)) (take m xs) ≡ take m xs
 take-on zero m xs l = refl
 take-on (suc n) zero xs l = absurd (omega arith)
@@ -231,7 +231,7 @@ sent-now side log r = at (nat_lt 0 (unis_allowed (events_of log))) refl
       };
     }
 
--- behind a moment: sent where the connection is open, else it was sent before
+-- after a moment: sent where the connection is open, else it was sent before
 behind-moment : (side : Side) (e : Entry) (log : Log) → is_moment e ≡ true → Ready side (e ∷ log) → (is_open (e ∷ log) ≡ false → AsAllowed side (e ∷ log)) → ControlOut side (log_and_flush side log e)
 unfolding flush
 behind-moment side e log m r f = at (is_open (e ∷ log)) refl
@@ -279,8 +279,8 @@ data-fits side log _ id total e l = absurd (cc)
 
 credit-event : (side : Side) (turn : Turn) (log : Log) (e : Event) → Brings side turn log e → all_events_of log ≡ events_of log → (count : ℕ) → count ≤ credit (events_of log) (local_uni side)
     → (is_connected (all_events_of log) ≡ false → count ≡ 0) → count ≤ credit (e ∷ events_of log) (local_uni side)
-credit-event side turn log (Connected u b c d) x q n l z = let y = z (connected-fits side log turn u b c d x.told x.lawful) in omega arith
-credit-event side turn log (MaxData id total) x q n l z = at (id == local_uni side) refl (subst (λ es. credit es id ≤ total) q (data-fits side log turn id total x.told x.lawful))
+credit-event side turn log (Connected u b c d) x q n l z = let y = z (connected-fits side log turn u b c d x.reported x.lawful) in omega arith
+credit-event side turn log (MaxData id total) x q n l z = at (id == local_uni side) refl (subst (λ es. credit es id ≤ total) q (data-fits side log turn id total x.reported x.lawful))
   where
     at : (b : Bool) → (id == local_uni side) ≡ b → credit (events_of log) id ≤ total → n ≤ credit (MaxData id total ∷ events_of log) (local_uni side)
     at true i d = let y : credit (events_of log) (local_uni side) ≤ total = subst (λ (k : ℕ). credit (events_of log) k ≤ total) (eqb-true id (local_uni side) i) d in rw i (omega arith)
@@ -289,7 +289,7 @@ credit-event side turn log _ x q n l z = l
 
 connected-event : (side : Side) (turn : Turn) (log : Log) (e : Event) → Brings side turn log e → is_connected (e ∷ all_events_of log) ≡ false → unis_allowed (events_of log) ≡ 0 → (is_connected (all_events_of log) ≡ false) × (unis_allowed (e ∷ events_of log) ≡ 0)
 connected-event side turn log (Connected u b c d) x f z = absurd (cc)
-connected-event side turn log (MaxUni total) x f z = absurd (let y = uni-fits side log turn total x.told x.lawful in cc)
+connected-event side turn log (MaxUni total) x f z = absurd (let y = uni-fits side log turn total x.reported x.lawful in cc)
 connected-event side turn log _ x f z = (f, z)
 
 pub before-connected : (side : Side) (turn : Turn) (log : Log) (e : Event) → Brings side turn log e → is_connected (e ∷ all_events_of log) ≡ false → is_connected (all_events_of log) ≡ false

@@ -18,7 +18,7 @@ use Rattle.wt_turn.specs.declared.turn.Turn.TheVariants as turns
 
 -- a lawful turn brings this event now
 pub record Brings (side : Side) (turn : Turn) (log : Log) (e : Event) : Type 0 where
-  pub told : event_of turn ≡ Some e
+  pub reported : event_of turn ≡ Some e
   pub lawful : fits side log turn ≡ true
 
 -- from one log to another, in the moments of one turn

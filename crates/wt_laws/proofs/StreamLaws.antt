@@ -84,15 +84,15 @@ left-is-due log kind session x e =
 -- where none of those that are kept passes the test, the narrower one holds of none
 none-narrow : (keep test narrow : Classified → Bool) → ((x : Classified) → narrow x ≡ true → (keep x ≡ true) × (test x ≡ true)) → (cs : List Classified) → first_of test (only keep cs) ≡ None → list_any narrow cs ≡ false
 none-narrow keep test narrow m [] e = refl
-none-narrow keep test narrow m (x ∷ cs) e = at (narrow x) refl (none-narrow keep test narrow m cs (behind (keep x) e))
+none-narrow keep test narrow m (x ∷ cs) e = at (narrow x) refl (none-narrow keep test narrow m cs (of-later (keep x) e))
   where
     tested : (b : Bool) → (if b then Some x else first_of test (only keep cs)) ≡ None → first_of test (only keep cs) ≡ None
     tested true e = absurd (cc)
     tested false e = e
 
-    behind : (a : Bool) → first_of test (kept_if a x ++ only keep cs) ≡ None → first_of test (only keep cs) ≡ None
-    behind true e = tested (test x) e
-    behind false e = e
+    of-later : (a : Bool) → first_of test (kept_if a x ++ only keep cs) ≡ None → first_of test (only keep cs) ≡ None
+    of-later true e = tested (test x) e
+    of-later false e = e
 
     at : (b : Bool) → narrow x ≡ b → list_any narrow cs ≡ false → (b || list_any narrow cs) ≡ false
     at true n r =
@@ -124,8 +124,8 @@ given-rightly side turn log kind k f g =
     let h = f.verdicts k _ v.1 in
     record {
       session = x.session;
-      at = v.0;
-      begins = x.at;
+      offset = v.0;
+      begins = x.offset;
       is_established = x.is_established;
       opened = a;
       header = as-uni side log kind k _ a h;

@@ -32,25 +32,25 @@ use Rattle.wt_reply.specs.declared.reply.Reply.TheVariants as replies
 use Rattle.wt_turn.specs.declared.turn.Turn.TheVariants as turns
 
 -- an effect with this reply has this alone of the call's own in its log
-abbrev Out : Side → Log → Reply → Action → CallRecord → Effect → Type 0
-Out side log reply a r x = x.reply ≡ reply → x.log ≡ log_call side log (a ∷ []) r
+abbrev ActsOnce : Side → Log → Reply → Action → CallRecord → Effect → Type 0
+ActsOnce side log reply a r x = x.reply ≡ reply → x.log ≡ log_call side log (a ∷ []) r
 
 pub by-test : (P : Effect → Type 0) (b : Bool) (x y : Effect) → (b ≡ true → P x) → (b ≡ false → P y) → P (if b then x else y)
 by-test P true x y f g = f refl
 by-test P false x y f g = g refl
 
-out-within : (side : Side) (log : Log) (bytes : List ℕ) (fact : DatagramFact) → Out side log replies.Done (actions.DatagramOut bytes) Polled (datagram_within side log bytes fact)
+out-within : (side : Side) (log : Log) (bytes : List ℕ) (fact : DatagramFact) → ActsOnce side log replies.Done (actions.DatagramOut bytes) Polled (datagram_within side log bytes fact)
 out-within side log bytes facts.Disabled e = absurd (cc)
 out-within side log bytes facts.Unsupported e = absurd (cc)
-out-within side log bytes (facts.Limit limit) e = by-test (Out side log replies.Done (actions.DatagramOut bytes) Polled) (nat_lt limit (length bytes)) _ _ (λ b x. absurd (cc)) (λ b x. refl) e
+out-within side log bytes (facts.Limit limit) e = by-test (ActsOnce side log replies.Done (actions.DatagramOut bytes) Polled) (nat_lt limit (length bytes)) _ _ (λ b x. absurd (cc)) (λ b x. refl) e
 
-out-allowed : (side : Side) (log : Log) (bytes : List ℕ) (o : Option DatagramFact) → Out side log replies.Done (actions.DatagramOut bytes) Polled (datagram_allowed side log bytes o)
+out-allowed : (side : Side) (log : Log) (bytes : List ℕ) (o : Option DatagramFact) → ActsOnce side log replies.Done (actions.DatagramOut bytes) Polled (datagram_allowed side log bytes o)
 out-allowed side log bytes None e = absurd (cc)
 out-allowed side log bytes (Some fact) e = out-within side log bytes fact e
 
-out-datagram : (side : Side) (log : Log) (payload : List ℕ) (s : ℕ) → Out side log replies.Done (actions.DatagramOut (datagram_bytes (s / 4) payload)) Polled (send_datagram side log payload s)
+out-datagram : (side : Side) (log : Log) (payload : List ℕ) (s : ℕ) → ActsOnce side log replies.Done (actions.DatagramOut (datagram_bytes (s / 4) payload)) Polled (send_datagram side log payload s)
 out-datagram side log payload s =
-    by-test (Out side log replies.Done (actions.DatagramOut (datagram_bytes (s / 4) payload)) Polled) (is_open log) _ _ (λ o. out-allowed side log (datagram_bytes (s / 4) payload) (datagram_fact (events_of log))) (λ o e. absurd (cc))
+    by-test (ActsOnce side log replies.Done (actions.DatagramOut (datagram_bytes (s / 4) payload)) Polled) (is_open log) _ _ (λ o. out-allowed side log (datagram_bytes (s / 4) payload) (datagram_fact (events_of log))) (λ o e. absurd (cc))
 
 in-datagram : (side : Side) (log : Log) (payload : List ℕ) (o : Option (ℕ × ℕ)) → established_session (calls_of log) ≡ o → (in_session side log (send_datagram side log payload) o).reply ≡ replies.Done
     → (s : ℕ) × (at : ℕ) × (established_session (calls_of log) ≡ Some (s, at)) × ((in_session side log (send_datagram side log payload) o).log ≡ log_call side log (actions.DatagramOut (datagram_bytes (s / 4) payload) ∷ []) Polled)
@@ -65,20 +65,20 @@ open-sends side log a r false o = absurd (cc)
 out-close : (side : Side) (log : Log) (code : ℕ) (reason : List ℕ) → is_open log ≡ true → (close_connection side log code reason).log ≡ log_call side log (actions.Close code reason ∷ []) Polled
 out-close side log code reason p = open-sends side log (actions.Close code reason) Polled (is_open log) p
 
-in-close : (side : Side) (log : Log) (code : ℕ) (reason : List ℕ) (o : Option (ℕ × ℕ)) → is_open log ≡ true → Out side log replies.Done (actions.Close code reason) Polled (in_session side log (λ s. close_connection side log code reason) o)
+in-close : (side : Side) (log : Log) (code : ℕ) (reason : List ℕ) (o : Option (ℕ × ℕ)) → is_open log ≡ true → ActsOnce side log replies.Done (actions.Close code reason) Polled (in_session side log (λ s. close_connection side log code reason) o)
 in-close side log code reason None p e = absurd (cc)
 in-close side log code reason (Some s) p e = out-close side log code reason p
 
-out-half : (side : Side) (log : Log) (call : ℕ → Effect) (k : ℕ) (a : Action) (r : CallRecord) (b : Bool) → Out side log replies.Done a r (call k) → Out side log replies.Done a r (on_half b side log call k)
+out-half : (side : Side) (log : Log) (call : ℕ → Effect) (k : ℕ) (a : Action) (r : CallRecord) (b : Bool) → ActsOnce side log replies.Done a r (call k) → ActsOnce side log replies.Done a r (on_half b side log call k)
 out-half side log call k a r true f e = f e
 out-half side log call k a r false f e = absurd (cc)
 
-out-reset : (side : Side) (log : Log) (k code : ℕ) → is_open log ≡ true → Out side log replies.Done (actions.ResetOut k code) Polled (reset side log k code)
+out-reset : (side : Side) (log : Log) (k code : ℕ) → is_open log ≡ true → ActsOnce side log replies.Done (actions.ResetOut k code) Polled (reset side log k code)
 out-reset side log k code p =
-    by-test (Out side log replies.Done (actions.ResetOut k code) Polled) (is_done log k) _ _ (λ d e. absurd (cc)) (λ d.
-    by-test (Out side log replies.Done (actions.ResetOut k code) Polled) (is_open log) _ _ (λ o e. refl) (λ o e. absurd (cc)))
+    by-test (ActsOnce side log replies.Done (actions.ResetOut k code) Polled) (is_done log k) _ _ (λ d e. absurd (cc)) (λ d.
+    by-test (ActsOnce side log replies.Done (actions.ResetOut k code) Polled) (is_open log) _ _ (λ o e. refl) (λ o e. absurd (cc)))
 
-out-stop : (side : Side) (log : Log) (k code : ℕ) → is_open log ≡ true → Out side log replies.Done (actions.StopOut k code) (StreamGivenUp k) (stop_receiving side log k code)
+out-stop : (side : Side) (log : Log) (k code : ℕ) → is_open log ≡ true → ActsOnce side log replies.Done (actions.StopOut k code) (StreamGivenUp k) (stop_receiving side log k code)
 out-stop side log k code p e = open-sends side log (actions.StopOut k code) (StreamGivenUp k) (is_open log) p
 
 finishes-it : (log : Log) (k : ℕ) → is_open log ≡ true → is_finished (actions_of log) k ≡ false → is_reset log k ≡ false → stop_of (events_of log) k ≡ None → finish_once log k ≡ actions.Finish k ∷ []
@@ -98,10 +98,10 @@ out-finish side log k false h f = absurd (cc)
 
 -- ---- openings
 
-out-open : (side : Side) (log : Log) (kind k s : ℕ) → Out side log (replies.Opening k) (actions.Opened k) (OpeningStarted k s) (open_stream side log kind s)
+out-open : (side : Side) (log : Log) (kind k s : ℕ) → ActsOnce side log (replies.Opening k) (actions.Opened k) (OpeningStarted k s) (open_stream side log kind s)
 out-open side log kind k s =
-    by-test (Out side log (replies.Opening k) (actions.Opened k) (OpeningStarted k s)) (not (is_open log)) _ _ (λ o e. absurd (cc)) (λ o.
-    by-test (Out side log (replies.Opening k) (actions.Opened k) (OpeningStarted k s)) (may_open side log kind) _ _ (λ m e. (
+    by-test (ActsOnce side log (replies.Opening k) (actions.Opened k) (OpeningStarted k s)) (not (is_open log)) _ _ (λ o e. absurd (cc)) (λ o.
+    by-test (ActsOnce side log (replies.Opening k) (actions.Opened k) (OpeningStarted k s)) (may_open side log kind) _ _ (λ m e. (
     let n : next_id side log kind ≡ k = cc in
     ap (λ (b : Bool). log_call side log (if b then actions.Opened (next_id side log kind) ∷ [] else []) (OpeningStarted (next_id side log kind) s)) m
     ∙ ap (λ j. log_call side log (actions.Opened j ∷ []) (OpeningStarted j s)) n)) (λ m e. absurd (cc)))

@@ -17,13 +17,13 @@ use Rattle.wt_spec.specs.Driver.{log_and_flush}
 use Rattle.wt_turn.specs.declared.turn.Turn.TheVariants as turns
 
 module _ (side : Side) (log : Log) where
-  told : (x e : Event) → Some x ≡ Some e → log_and_flush side log (event_entry (is_open log) x) ≡ log_and_flush side log (event_entry (is_open log) e)
-  told x e t = let same : x ≡ e = cc in ap (λ y. log_and_flush side log (event_entry (is_open log) y)) same
+  reported : (x e : Event) → Some x ≡ Some e → log_and_flush side log (event_entry (is_open log) x) ≡ log_and_flush side log (event_entry (is_open log) e)
+  reported x e t = let same : x ≡ e = cc in ap (λ y. log_and_flush side log (event_entry (is_open log) y)) same
 
   event-arrives : (turn : Turn) (e : Event) → event_of turn ≡ Some e → log_after side log turn ≡ log_and_flush side log (event_entry (is_open log) e)
   event-arrives (turns.Call c) e t = absurd (cc)
   event-arrives (turns.Bytes id piece) e t = absurd (cc)
-  event-arrives _ e t = told _ e t
+  event-arrives _ e t = reported _ e t
 
 module _ (side : Side) (id : ℕ) where
   byte-in : (log : Log) (b : ℕ) → contents (log_and_flush side log (Received id b)) id ≡ contents log id ++ b ∷ []
@@ -32,16 +32,16 @@ module _ (side : Side) (id : ℕ) where
       ∙ ap (λ (x : Bool). if x then contents log id ++ b ∷ [] else contents log id) (eq-eqb id id refl)
 
   piece-arrives : (piece : List ℕ) (log : Log) → PieceArrives log (receive side log id piece) id piece
-  piece-arrives [] log = record { came = []; rest = []; order = refl; is_in = sym (append-nil (contents log id)); whole = λ o. refl }
+  piece-arrives [] log = record { has_come = []; rest = []; order = refl; is_in = sym (append-nil (contents log id)); whole = λ o. refl }
   piece-arrives (b ∷ piece) log = at (is_open log) refl (λ g. piece-arrives piece g)
     where
       at : (o : Bool) → is_open log ≡ o → ((g : Log) → PieceArrives g (receive side g id piece) id piece)
           → PieceArrives log (receive side (if o then log_and_flush side log (Received id b) else log) id piece) id (b ∷ piece)
       at true o f =
           let p = f (log_and_flush side log (Received id b)) in
-          record { came = b ∷ p.came; rest = p.rest; order = ap (λ z. b ∷ z) p.order; is_in = p.is_in ∙ ap (λ z. z ++ p.came) (byte-in log b) ∙ append_assoc (contents log id) (b ∷ []) p.came; whole = p.whole }
+          record { has_come = b ∷ p.has_come; rest = p.rest; order = ap (λ z. b ∷ z) p.order; is_in = p.is_in ∙ ap (λ z. z ++ p.has_come) (byte-in log b) ∙ append_assoc (contents log id) (b ∷ []) p.has_come; whole = p.whole }
       at false o f = record {
-        came = [];
+        has_come = [];
         rest = b ∷ piece;
         order = refl;
         is_in = ap (λ g. contents g id) (late-bytes side log id piece o) ∙ sym (append-nil (contents log id));

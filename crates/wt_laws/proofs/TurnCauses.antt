@@ -50,8 +50,8 @@ module _ (side : Side) (turn : Turn) (start : Log) where
   -- the moments of a call
   call-caused : {last log : Log} (c : Call) → turn ≡ turns.Call c → Steps side turn last log → CausedIn side turn start log → CausedIn side turn start last
   call-caused c t Nothing p = p
-  call-caused c t (ByEvent e o b s) p = absurd (let x = b.told in let y = ap event_of t in cc)
-  call-caused c t (ByLate e o b s) p = absurd (let x = b.told in let y = ap event_of t in cc)
+  call-caused c t (ByEvent e o b s) p = absurd (let x = b.reported in let y = ap event_of t in cc)
+  call-caused c t (ByLate e o b s) p = absurd (let x = b.reported in let y = ap event_of t in cc)
   call-caused c t (ByByte id b piece x o r s) p = absurd (let y = ap is_call t in let z = ap is_call x in cc)
   call-caused c t (steps.ByCall {log} own r x d s) p =
       let q = own-caused own log x p in
@@ -70,24 +70,24 @@ module _ (side : Side) (id : ℕ) (piece : List ℕ) (start : Log) where
   turn = turns.Bytes id piece
 
   -- so far these bytes came
-  abbrev Came : List ℕ → Log → Type 0
-  Came earlier log = contents log id ≡ contents start id ++ earlier
+  abbrev HasArrived : List ℕ → Log → Type 0
+  HasArrived earlier log = contents log id ≡ contents start id ++ earlier
 
-  came-more : (log : Log) (earlier : List ℕ) (b : ℕ) → Came earlier log → Came (earlier ++ b ∷ []) (log_and_flush side log (Received id b))
+  came-more : (log : Log) (earlier : List ℕ) (b : ℕ) → HasArrived earlier log → HasArrived (earlier ++ b ∷ []) (log_and_flush side log (Received id b))
   came-more log earlier b c =
       blind-flush (λ g. contents g id) (λ a g. refl) side (Received id b) log
       ∙ ap (λ (x : Bool). if x then contents log id ++ b ∷ [] else contents log id) (eq-eqb id id refl)
       ∙ ap (λ bytes. bytes ++ b ∷ []) c ∙ append_assoc (contents start id) earlier (b ∷ [])
 
-  pieces-caused : (later earlier : List ℕ) (log : Log) → piece ≡ earlier ++ later → Came earlier log → CausedIn side turn start log → CausedIn side turn start (receive side log id later)
+  pieces-caused : (later earlier : List ℕ) (log : Log) → piece ≡ earlier ++ later → HasArrived earlier log → CausedIn side turn start log → CausedIn side turn start (receive side log id later)
   pieces-caused [] earlier log s c p = p
   pieces-caused (b ∷ later) earlier log s c p = at (is_open log) refl (λ g d q. pieces-caused later (earlier ++ b ∷ []) g (s ∙ sym (append_assoc earlier (b ∷ []) later)) d q)
     where
-      at : (o : Bool) → is_open log ≡ o → ((g : Log) → Came (earlier ++ b ∷ []) g → CausedIn side turn start g → CausedIn side turn start (receive side g id later))
+      at : (o : Bool) → is_open log ≡ o → ((g : Log) → HasArrived (earlier ++ b ∷ []) g → CausedIn side turn start g → CausedIn side turn start (receive side g id later))
           → CausedIn side turn start (receive side (if o then log_and_flush side log (Received id b) else log) id later)
       at true o f =
           f (log_and_flush side log (Received id b)) (came-more log earlier b c)
-          (flush-caused side turn start (Received id b) log (goes-on p) refl (WithEntry (Received id b) (record { piece = piece; told = refl; earlier = earlier; later = later; order = s; came = c; was_open = o }) p))
+          (flush-caused side turn start (Received id b) log (goes-on p) refl (WithEntry (Received id b) (record { piece = piece; reported = refl; earlier = earlier; later = later; order = s; has_come = c; was_open = o }) p))
       at false o f = subst (λ g. CausedIn side turn start g) (sym (late-bytes side log id later o)) p
 
 -- ---- every turn

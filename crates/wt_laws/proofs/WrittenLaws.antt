@@ -17,7 +17,7 @@ use Rattle.wt_laws.proofs.ReadLaws.{local-unclassified}
 use Rattle.wt_laws.proofs.SendLaws.{alone, flush-other, flushed-accept, given-sends, none-accepted, not-same, other-own}
 use Rattle.wt_laws.proofs.Sends.{sent-with}
 use Rattle.wt_laws.proofs.SessionLaws.{one-session}
-use Rattle.wt_laws.proofs.SessionStream.{Both, Out, SoFar, keeps-out, not-true-so, out-own, so-far, so-far-turn, start-of-turn}
+use Rattle.wt_laws.proofs.SessionStream.{Both, FrameOut, SoFar, keeps-out, not-true-so, out-own, so-far, so-far-turn, start-of-turn}
 use Rattle.wt_laws.proofs.Steps.{Keeps, KeepsEntries, blind-flush, by-entries, calls-with, of-record}
 use Rattle.wt_laws.specs.Causes.{AcceptCause, ByAccept, ByOpening, OwnCauses, bytes_for, head_frame_of, is_accept, polls_opening}
 use Rattle.wt_laws.specs.Laws.{SendsAll, accepted_by, head_of, written_on}
@@ -47,7 +47,7 @@ module _ (side : Side) (frame : Option (List ℕ)) (turn : Turn) (t : (head : Li
     abbrev later : Log
     later = with_actions own log
 
-    out-later : Out side frame later
+    out-later : FrameOut side frame later
     out-later = out-own side frame turn t own log x p.both.out
 
     older : (s at : ℕ) → is_accepted later k ≡ true → established_session (calls_of later) ≡ Some (s, at) → sent_on (actions_of later) k ≡ head_of side k s

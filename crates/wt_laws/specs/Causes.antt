@@ -104,8 +104,8 @@ is_under_way _ = true
 pub record FoundStream (side : Side) (turn : Turn) (log : Log) (k : ℕ) (for_session : Bool) : Type 0 where
   pub accepts : is_accept turn ≡ true
   pub session : ℕ
-  pub at : ℕ
-  pub is_established : established_session (calls_of log) ≡ Some (session, at)
+  pub offset : ℕ
+  pub is_established : established_session (calls_of log) ≡ Some (session, offset)
   pub found : Classified
   pub next : next_due side log (accepted_kind side turn) session ≡ Some found
   pub same : found.id ≡ k
@@ -116,8 +116,8 @@ pub record OpenedStream (side : Side) (turn : Turn) (log : Log) (k : ℕ) : Type
   pub polls : polls_opening k turn ≡ true
   pub opening : is_opening log k ≡ true
   pub session : ℕ
-  pub at : ℕ
-  pub is_established : established_session (calls_of log) ≡ Some (session, at)
+  pub offset : ℕ
+  pub is_established : established_session (calls_of log) ≡ Some (session, offset)
   pub whole : head_left log k (stream_header k session) ≡ []
 
 -- why an accept gives or passes this stream
@@ -129,8 +129,8 @@ pub data AcceptCause (side : Side) (turn : Turn) (log : Log) (k : ℕ) : Type 0 
 pub record FoundDatagram (side : Side) (turn : Turn) (log : Log) (for_session : Bool) : Type 0 where
   pub receives : is_receive turn ≡ true
   pub session : ℕ
-  pub at : ℕ
-  pub is_established : established_session (calls_of log) ≡ Some (session, at)
+  pub offset : ℕ
+  pub is_established : established_session (calls_of log) ≡ Some (session, offset)
   pub datagram : ℕ × List ℕ
   pub next : next_datagram side log ≡ Some datagram
   pub named : (4 * datagram.0 == session) ≡ for_session
@@ -139,16 +139,22 @@ pub record FoundDatagram (side : Side) (turn : Turn) (log : Log) (for_session : 
 pub data ResponseFrom (turn : Turn) (before : List CallRecord) (accepts : Bool) (head : List ℕ) : Type 0 where
   ByAcceptance : (id : ℕ) (headers : Fields) → accepts ≡ true → turn ≡ turns.Call (calls.Accept headers) → head ≡ response_head (codes "200") headers
       → handshake_state before ≡ Requested id → ResponseFrom turn before accepts head
-  ByRejection : (id : ℕ) → accepts ≡ false → head_frame_of turn ≡ Some head → handshake_state before ≡ Requested id → ResponseFrom turn before accepts head
+  ByRejection : (id : ℕ) → accepts ≡ false → head_frame_of turn ≡ Some head → handshake_state before ≡ Requested id
+      → ResponseFrom turn before accepts head
   FromBefore : turn ≡ turns.Call calls.Handshake → handshake_state before ≡ Responding accepts head → ResponseFrom turn before accepts head
 
 -- the rest of an acceptance goes out; or the call goes on with a connect that has no reserved name among its headers and whose whole
 -- request is out, and reads a response with a status code from 200 to 299
 pub data EstablishCause (side : Side) (turn : Turn) (log : Log) (own : List Action) (id at : ℕ) : Type 0 where
-  ByAnswer : (head : List ℕ) → ResponseFrom turn (calls_of log) true head → id ≡ requested_stream (calls_of log) → is_covered log id (head_left log id head) ≡ true
-      → own ≡ send_of id (head_left log id head) → at ≡ request_end (verdict_of id (stream_table side log).classified) → EstablishCause side turn log own id at
-  ByResponse : (head : List ℕ) (fields : Fields) → turn ≡ turns.Call calls.Handshake → handshake_state (calls_of log) ≡ Connecting None head → settings_came side log ≡ true
-      → response_walk_of (contents log id) (end_of (events_of log) id) ≡ responses.Response fields at → has_success fields ≡ true → id ≡ local_bi side → local_count (actions_of (with_actions own log)) id ≢ 0 → head_left (with_actions own log) id head ≡ [] → EstablishCause side turn log own id at
+  ByAnswer : (head : List ℕ) → ResponseFrom turn (calls_of log) true head → id ≡ requested_stream (calls_of log)
+      → is_covered log id (head_left log id head) ≡ true
+      → own ≡ send_of id (head_left log id head) → at ≡ request_end (verdict_of id (stream_table side log).classified)
+      → EstablishCause side turn log own id at
+  ByResponse : (head : List ℕ) (fields : Fields) → turn ≡ turns.Call calls.Handshake → handshake_state (calls_of log) ≡ Connecting None head
+      → settings_came side log ≡ true
+      → response_walk_of (contents log id) (end_of (events_of log) id) ≡ responses.Response fields at → has_success fields ≡ true
+      → id ≡ local_bi side → local_count (actions_of (with_actions own log)) id ≢ 0 → head_left (with_actions own log) id head ≡ []
+      → EstablishCause side turn log own id at
 
 -- what establishes a session, with these actions right before its record
 pub record EstablishedBy (side : Side) (turn : Turn) (log : Log) (id at : ℕ) : Type 0 where
@@ -170,21 +176,32 @@ opened_kind side _ = None
 -- why a stream of this kind is opened: the call opens one on the established session; or a connect under way, with no reserved name
 -- among its headers, opens that of its request, which has none yet
 pub data OpenCause (side : Side) (turn : Turn) (log : Log) (kind : ℕ) : Type 0 where
-  OfCall : (session at : ℕ) → opened_kind side turn ≡ Some kind → established_session (calls_of log) ≡ Some (session, at) → OpenCause side turn log kind
-  OfRequest : (head : List ℕ) → turn ≡ turns.Call calls.Handshake → handshake_state (calls_of log) ≡ Connecting None head → settings_came side log ≡ true → kind ≡ local_bi side → local_count (actions_of log) (local_bi side) ≡ 0 → OpenCause side turn log kind
+  OfCall : (session at : ℕ) → opened_kind side turn ≡ Some kind → established_session (calls_of log) ≡ Some (session, at)
+      → OpenCause side turn log kind
+  OfRequest : (head : List ℕ) → turn ≡ turns.Call calls.Handshake → handshake_state (calls_of log) ≡ Connecting None head
+      → settings_came side log ≡ true → kind ≡ local_bi side → local_count (actions_of log) (local_bi side) ≡ 0
+      → OpenCause side turn log kind
 
 -- what a call sends on a stream, which the peer didn't stop (see ActionCause); of a connect's request, where no reserved name is among
 -- its headers
 pub data SendCause (side : Side) (turn : Turn) (log : Log) (k : ℕ) (piece : List ℕ) : Type 0 where
-  OfWrite : (bytes : List ℕ) → bytes_for k turn ≡ Some bytes → has_sending_half side log k ≡ true → write_error log k ≡ None → piece ≡ bytes_within_credit log k bytes → SendCause side turn log k piece
-  OfHeader : (session at : ℕ) → polls_opening k turn ≡ true → established_session (calls_of log) ≡ Some (session, at) → is_opening log k ≡ true → piece ≡ bytes_within_credit log k (head_left log k (stream_header k session)) → SendCause side turn log k piece
-  OfResponse : (accepts : Bool) (head : List ℕ) → ResponseFrom turn (calls_of log) accepts head → k ≡ requested_stream (calls_of log) → piece ≡ bytes_within_credit log k (head_left log k head) → SendCause side turn log k piece
-  OfRequest : (head : List ℕ) → turn ≡ turns.Call calls.Handshake → handshake_state (calls_of log) ≡ Connecting None head → k ≡ local_bi side → local_count (actions_of log) (local_bi side) ≢ 0 → piece ≡ bytes_within_credit log k (head_left log k head) → SendCause side turn log k piece
+  OfWrite : (bytes : List ℕ) → bytes_for k turn ≡ Some bytes → has_sending_half side log k ≡ true → write_error log k ≡ None
+      → piece ≡ bytes_within_credit log k bytes → SendCause side turn log k piece
+  OfHeader : (session at : ℕ) → polls_opening k turn ≡ true → established_session (calls_of log) ≡ Some (session, at)
+      → is_opening log k ≡ true → piece ≡ bytes_within_credit log k (head_left log k (stream_header k session))
+      → SendCause side turn log k piece
+  OfResponse : (accepts : Bool) (head : List ℕ) → ResponseFrom turn (calls_of log) accepts head → k ≡ requested_stream (calls_of log)
+      → piece ≡ bytes_within_credit log k (head_left log k head) → SendCause side turn log k piece
+  OfRequest : (head : List ℕ) → turn ≡ turns.Call calls.Handshake → handshake_state (calls_of log) ≡ Connecting None head
+      → k ≡ local_bi side → local_count (actions_of log) (local_bi side) ≢ 0 → piece ≡ bytes_within_credit log k (head_left log k head)
+      → SendCause side turn log k piece
 
 -- why a sending half is finished
 pub data FinishCause (side : Side) (turn : Turn) (log : Log) (k : ℕ) : Type 0 where
-  OfCall : turn ≡ turns.Call (calls.Finish k) → has_sending_half side log k ≡ true → is_finished (actions_of log) k ≡ false → is_reset log k ≡ false → stop_of (events_of log) k ≡ None → FinishCause side turn log k
-  OfRejection : (head : List ℕ) → ResponseFrom turn (calls_of log) false head → k ≡ requested_stream (calls_of log) → head_left log k head ≡ [] → is_finished (actions_of log) k ≡ false → FinishCause side turn log k
+  OfCall : turn ≡ turns.Call (calls.Finish k) → has_sending_half side log k ≡ true → is_finished (actions_of log) k ≡ false
+      → is_reset log k ≡ false → stop_of (events_of log) k ≡ None → FinishCause side turn log k
+  OfRejection : (head : List ℕ) → ResponseFrom turn (calls_of log) false head → k ≡ requested_stream (calls_of log)
+      → head_left log k head ≡ [] → is_finished (actions_of log) k ≡ false → FinishCause side turn log k
 
 -- why a receiving half is stopped
 pub data StopCause (side : Side) (turn : Turn) (log : Log) (k code : ℕ) : Type 0 where
@@ -193,7 +210,7 @@ pub data StopCause (side : Side) (turn : Turn) (log : Log) (k code : ℕ) : Type
 
 -- the call goes on with a connect, and this is what the walk over its response comes to (RFC 9114, section 4.1)
 pub record ResponseIs (side : Side) (turn : Turn) (log : Log) (walk : ResponseWalk) : Type 0 where
-  pub goes_on : turn ≡ turns.Call calls.Handshake
+  pub still_going : turn ≡ turns.Call calls.Handshake
   pub reserved : Option (List ℕ)
   pub request : List ℕ
   pub under_way : handshake_state (calls_of log) ≡ Connecting reserved request
@@ -209,32 +226,42 @@ IsRequestOut side log request = (local_count (actions_of log) (local_bi side) �
 -- ended before a response
 pub data HandshakeFailure (side : Side) (turn : Turn) (log : Log) : Type 0 where
   Rejects : (head : List ℕ) → ResponseFrom turn (calls_of log) false head → is_finished (actions_of log) (requested_stream (calls_of log)) ≡ true
-      → (is_some (stop_of (events_of log) (requested_stream (calls_of log))) || is_acknowledged (events_of log) (requested_stream (calls_of log))) ≡ true → HandshakeFailure side turn log
-  Reserves : (name head : List ℕ) → turn ≡ turns.Call calls.Handshake → handshake_state (calls_of log) ≡ Connecting (Some name) head → settings_came side log ≡ true → HandshakeFailure side turn log
-  Stops : (reserved : Option (List ℕ)) (head : List ℕ) → turn ≡ turns.Call calls.Handshake → handshake_state (calls_of log) ≡ Connecting reserved head → is_refused log (local_bi side) (head_left log (local_bi side) head) ≡ true → HandshakeFailure side turn log
-  Declines : (fields : Fields) (at : ℕ) (response : ResponseIs side turn log (responses.Response fields at)) → IsRequestOut side log response.request → has_success fields ≡ false → HandshakeFailure side turn log
+      → (is_some (stop_of (events_of log) (requested_stream (calls_of log))) || is_acknowledged (events_of log) (requested_stream (calls_of log)))
+      ≡ true
+      → HandshakeFailure side turn log
+  Reserves : (name head : List ℕ) → turn ≡ turns.Call calls.Handshake → handshake_state (calls_of log) ≡ Connecting (Some name) head
+      → settings_came side log ≡ true → HandshakeFailure side turn log
+  Stops : (reserved : Option (List ℕ)) (head : List ℕ) → turn ≡ turns.Call calls.Handshake
+      → handshake_state (calls_of log) ≡ Connecting reserved head
+      → is_refused log (local_bi side) (head_left log (local_bi side) head) ≡ true → HandshakeFailure side turn log
+  Declines : (fields : Fields) (at : ℕ) (response : ResponseIs side turn log (responses.Response fields at))
+      → IsRequestOut side log response.request → has_success fields ≡ false → HandshakeFailure side turn log
   EndsStream : (response : ResponseIs side turn log responses.Ended) → IsRequestOut side log response.request → HandshakeFailure side turn log
 
 -- the code with which a handshake that fails closes the connection
 pub data HandshakeCode (side : Side) (turn : Turn) (log : Log) (code : ℕ) : Type 0 where
   Plain : HandshakeFailure side turn log → code ≡ 0 → HandshakeCode side turn log code
-  StoppedEarly : (accepts : Bool) (head : List ℕ) → ResponseFrom turn (calls_of log) accepts head → is_refused log (requested_stream (calls_of log)) (head_left log (requested_stream (calls_of log)) head) ≡ true
+  StoppedEarly : (accepts : Bool) (head : List ℕ) → ResponseFrom turn (calls_of log) accepts head
+      → is_refused log (requested_stream (calls_of log)) (head_left log (requested_stream (calls_of log)) head) ≡ true
       → code ≡ code_of h3.ClosedCriticalStream → HandshakeCode side turn log code
-  OfResponse : (fault : ErrorCode) (response : ResponseIs side turn log (responses.Fault fault)) → IsRequestOut side log response.request → code ≡ code_of fault → HandshakeCode side turn log code
+  OfResponse : (fault : ErrorCode) (response : ResponseIs side turn log (responses.Fault fault)) → IsRequestOut side log response.request
+      → code ≡ code_of fault → HandshakeCode side turn log code
 
 -- the application closes the established session, or the endpoint the connection, or a handshake that fails does
 pub data CloseCause (side : Side) (turn : Turn) (log : Log) (code : ℕ) (reason : List ℕ) : Type 0 where
-  OfCall : (session at : ℕ) → turn ≡ turns.Call (calls.Close code reason) → established_session (calls_of log) ≡ Some (session, at) → CloseCause side turn log code reason
+  OfCall : (session at : ℕ) → turn ≡ turns.Call (calls.Close code reason) → established_session (calls_of log) ≡ Some (session, at)
+      → CloseCause side turn log code reason
   OfEndpoint : turn ≡ turns.Call (calls.EndpointClose code reason) → CloseCause side turn log code reason
-  OfHandshake : is_under_way (handshake_state (calls_of log)) ≡ true → HandshakeCode side turn log code → reason ≡ [] → CloseCause side turn log code reason
+  OfHandshake : is_under_way (handshake_state (calls_of log)) ≡ true → HandshakeCode side turn log code → reason ≡ []
+      → CloseCause side turn log code reason
 
 -- the call sends a datagram of the established session, which is these bytes
 pub record DatagramOf (turn : Turn) (log : Log) (bytes : List ℕ) : Type 0 where
   pub payload : List ℕ
   pub session : ℕ
-  pub at : ℕ
+  pub offset : ℕ
   pub sends : turn ≡ turns.Call (calls.SendDatagram payload)
-  pub is_established : established_session (calls_of log) ≡ Some (session, at)
+  pub is_established : established_session (calls_of log) ≡ Some (session, offset)
   pub bytes_are : bytes ≡ datagram_bytes (session / 4) payload
 
 -- the call connects to a URL of https
@@ -258,12 +285,15 @@ pub record DialCause (turn : Turn) (address : Addr) (name : List ℕ) : Type 0 w
 -- why this action goes out
 abbrev pub ActionCause : Side → Turn → Log → Action → Type 0
 ActionCause side turn log (actions.Dial address name) = (log ≡ []) × (is_client side ≡ true) × DialCause turn address name
-ActionCause side turn log (actions.Opened id) = (is_open log ≡ true) × (kind : ℕ) × (may_open side log kind ≡ true) × (id ≡ next_id side log kind) × ((kind == local_uni side || kind == local_bi side) ≡ true) × OpenCause side turn log kind
+ActionCause side turn log (actions.Opened id) = (is_open log ≡ true) × (kind : ℕ) × (may_open side log kind ≡ true)
+    × (id ≡ next_id side log kind) × ((kind == local_uni side || kind == local_bi side) ≡ true) × OpenCause side turn log kind
 ActionCause side turn log (actions.Send id piece) = (is_open log ≡ true) × SendCause side turn log id piece × (stop_of (events_of log) id ≡ None)
 ActionCause side turn log (actions.Finish id) = (is_open log ≡ true) × FinishCause side turn log id
-ActionCause side turn log (actions.ResetOut id code) = (is_open log ≡ true) × (turn ≡ turns.Call (calls.ResetSend id code)) × (has_sending_half side log id ≡ true) × (is_done log id ≡ false)
+ActionCause side turn log (actions.ResetOut id code) = (is_open log ≡ true) × (turn ≡ turns.Call (calls.ResetSend id code))
+    × (has_sending_half side log id ≡ true) × (is_done log id ≡ false)
 ActionCause side turn log (actions.StopOut id code) = (is_open log ≡ true) × StopCause side turn log id code
-ActionCause side turn log (actions.DatagramOut piece) = (is_open log ≡ true) × DatagramOf turn log piece × (limit : ℕ) × (datagram_fact (events_of log) ≡ Some (facts.Limit limit)) × (nat_lt limit (length piece) ≡ false)
+ActionCause side turn log (actions.DatagramOut piece) = (is_open log ≡ true) × DatagramOf turn log piece × (limit : ℕ)
+    × (datagram_fact (events_of log) ≡ Some (facts.Limit limit)) × (nat_lt limit (length piece) ≡ false)
 ActionCause side turn log (actions.Close code reason) = (is_open log ≡ true) × CloseCause side turn log code reason
 
 -- each of these actions has its cause, those before it counted

@@ -19,36 +19,36 @@ abbrev pub receives : CallRecord → Bool
 receives DatagramReceived = true
 receives _ = false
 
--- these places, and one more where the test holds
-abbrev pub with_place : Bool → ℕ → List ℕ → List ℕ
-with_place true place before = before ++ place ∷ []
-with_place false place before = before
+-- these indices, and one more where the test holds
+abbrev pub with_index : Bool → ℕ → List ℕ → List ℕ
+with_index true index before = before ++ index ∷ []
+with_index false index before = before
 
--- the places of the datagrams that calls received, in the order of the calls: how many datagrams came before each
-abbrev pub received_places : List CallRecord → List ℕ
-received_places [] = []
-received_places (r ∷ earlier) = with_place (receives r) (settled_datagrams earlier) (received_places earlier)
+-- the indices of the datagrams that calls received, in the order of the calls: how many datagrams came before each
+abbrev pub received_indices : List CallRecord → List ℕ
+received_indices [] = []
+received_indices (r ∷ earlier) = with_index (receives r) (settled_datagrams earlier) (received_indices earlier)
 
 -- ---- which one is given
 
--- A receive gives this datagram of the established session: the first of all that came, behind those that earlier calls received
+-- A receive gives this datagram of the established session: the first of all that came, after those that earlier calls received
 -- or passed, that names the session. It was dequeued by then, and counts as received from then on.
 pub record DatagramGiven (side : Side) (log : Log) (turn : Turn) (payload : List ℕ) : Type 0 where
   pub by_receive : is_receive turn ≡ true
   pub session : ℕ
   pub begins : ℕ
   pub is_established : established_session (calls_of log) ≡ Some (session, begins)
-  pub place : ℕ  -- so many came before it
+  pub index : ℕ  -- so many came before it
   pub piece : List ℕ
-  pub arrived : slice_get (datagrams_of (events_of log)) place ≡ Some piece
-  pub names : payload_for session (well_formed piece) ≡ payload ∷ []
-  pub fresh : settled_datagrams (calls_of log) ≤ place
-  pub is_first : payloads_for session (drop (settled_datagrams (calls_of log)) (take place (datagrams_of (events_of log)))) ≡ []
+  pub arrived : slice_get (datagrams_of (events_of log)) index ≡ Some piece
+  pub payload_is : payload_for session (well_formed piece) ≡ payload ∷ []
+  pub fresh : settled_datagrams (calls_of log) ≤ index
+  pub is_first : payloads_for session (drop (settled_datagrams (calls_of log)) (take index (datagrams_of (events_of log)))) ≡ []
   pub decided : Log
   pub during : IsDuring side log turn decided
-  pub dequeued : place < (stream_table side decided).progress.datagrams
-  pub settled : settled_datagrams (calls_of (log_after side log turn)) ≡ suc place
-  pub received : received_places (calls_of (log_after side log turn)) ≡ received_places (calls_of log) ++ place ∷ []
+  pub dequeued : index < (stream_table side decided).progress.datagrams
+  pub settled_then : settled_datagrams (calls_of (log_after side log turn)) ≡ suc index
+  pub received : received_indices (calls_of (log_after side log turn)) ≡ received_indices (calls_of log) ++ index ∷ []
 
 -- each reply that gives a datagram gives it so
 abbrev pub DatagramTold : Side → Log → Turn → Type 0
@@ -61,5 +61,5 @@ DatagramTold side log turn = (payload : List ℕ) → (answer_to side log turn).
 pub record DatagramsStay (side : Side) (earlier later : Log) : Type 0 where
   pub arrived : (more : List (List ℕ)) × (datagrams_of (events_of later) ≡ datagrams_of (events_of earlier) ++ more)
   pub dequeued : (stream_table side earlier).progress.datagrams ≤ (stream_table side later).progress.datagrams
-  pub settled : settled_datagrams (calls_of earlier) ≤ settled_datagrams (calls_of later)
-  pub received : (more : List ℕ) × (received_places (calls_of later) ≡ received_places (calls_of earlier) ++ more)
+  pub settled_then : settled_datagrams (calls_of earlier) ≤ settled_datagrams (calls_of later)
+  pub received : (more : List ℕ) × (received_indices (calls_of later) ≡ received_indices (calls_of earlier) ++ more)

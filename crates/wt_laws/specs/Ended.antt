@@ -29,12 +29,16 @@ EndsWith last all = (before : List Action) × (all ≡ before ++ last ∷ [])
 -- A turn in which the driver ends the connection has that close as the last action of its answer: for a fault with the fault's code,
 -- at the end of the session with H3_NO_ERROR. From then on the connection isn't open.
 pub record EndingGoesOut (side : Side) (log : Log) (turn : Turn) : Type 0 where
-  pub fault : (code : ErrorCode) → ending_of side log ≡ None → ending_of side (log_after side log turn) ≡ Some (ByFault code) → EndsWith (actions.Close (code_of code) []) (answer_to side log turn).actions
-  pub session : (code : ℕ) (reason : List ℕ) (by_capsule : Bool) → ending_of side log ≡ None → ending_of side (log_after side log turn) ≡ Some (BySession code reason by_capsule)
+  pub fault : (code : ErrorCode) → ending_of side log ≡ None → ending_of side (log_after side log turn) ≡ Some (ByFault code)
+      → EndsWith (actions.Close (code_of code) []) (answer_to side log turn).actions
+  pub session : (code : ℕ) (reason : List ℕ) (by_capsule : Bool) → ending_of side log ≡ None
+      → ending_of side (log_after side log turn) ≡ Some (BySession code reason by_capsule)
       → EndsWith (actions.Close (code_of h3.NoError) []) (answer_to side log turn).actions
-  pub closed : (e : Ending) → ending_of side log ≡ None → ending_of side (log_after side log turn) ≡ Some e → is_open (log_after side log turn) ≡ false
+  pub closed : (e : Ending) → ending_of side log ≡ None → ending_of side (log_after side log turn) ≡ Some e
+      → is_open (log_after side log turn) ≡ false
 
--- What the driver sends at a moment that finds the connection open goes out right behind it, in its order.
+-- What the driver sends at a moment that finds the connection open goes out right after it, in its order.
 abbrev pub PendingGoesOut : Side → Log → Type 0
 PendingGoesOut side log =
-    (e : Entry) (earlier : Log) → is_moment e ≡ true → is_open (e ∷ earlier) ≡ true → GoesOnFrom (e ∷ earlier) log → GoesOnFrom (with_actions (pending_actions side (e ∷ earlier)) (e ∷ earlier)) log
+    (e : Entry) (earlier : Log) → is_moment e ≡ true → is_open (e ∷ earlier) ≡ true → GoesOnFrom (e ∷ earlier) log
+    → GoesOnFrom (with_actions (pending_actions side (e ∷ earlier)) (e ∷ earlier)) log

@@ -55,28 +55,41 @@ reply_to side log call = (answer_to side log (turns.Call call)).reply
 -- without what it asks for, a session or a half of a stream, a call says so: the session first
 pub record AsksFirst (side : Side) (log : Log) (call : Call) : Type 0 where
   pub no_session : asks_for_session (turns.Call call) ≡ true → established_session (calls_of log) ≡ None → reply_to side log call ≡ replies.NoSession
-  pub no_half : asks_for_session (turns.Call call) ≡ false → half_of side log (turns.Call call) ≡ Some false → reply_to side log call ≡ replies.NoStream
+  pub no_half : asks_for_session (turns.Call call) ≡ false → half_of side log (turns.Call call) ≡ Some false
+      → reply_to side log call ≡ replies.NoStream
 
 -- ---- the calls on session s
 
 -- what opens, polls of openings, sends of datagrams and the questions about the session answer, and closes
 pub record SessionCallsAnswer (side : Side) (log : Log) (s : ℕ) : Type 0 where
   pub uni_ended : is_open log ≡ false → reply_to side log calls.OpenUni ≡ replies.Failed (transport_error log)
-  pub uni_opens : is_open log ≡ true → may_open side log (local_uni side) ≡ true → reply_to side log calls.OpenUni ≡ replies.Opening (next_id side log (local_uni side))
+  pub uni_opens : is_open log ≡ true → may_open side log (local_uni side) ≡ true
+      → reply_to side log calls.OpenUni ≡ replies.Opening (next_id side log (local_uni side))
   pub bi_ended : is_open log ≡ false → reply_to side log calls.OpenBi ≡ replies.Failed (transport_error log)
-  pub bi_opens : is_open log ≡ true → may_open side log (local_bi side) ≡ true → reply_to side log calls.OpenBi ≡ replies.Opening (next_id side log (local_bi side))
+  pub bi_opens : is_open log ≡ true → may_open side log (local_bi side) ≡ true
+      → reply_to side log calls.OpenBi ≡ replies.Opening (next_id side log (local_bi side))
   pub not_opening : (k : ℕ) → is_opening log k ≡ false → reply_to side log (calls.PollOpening k) ≡ replies.NoStream
-  pub opening_ended : (k : ℕ) → is_opening log k ≡ true → is_open log ≡ false → reply_to side log (calls.PollOpening k) ≡ replies.OpeningFailed openings.NotConnected
-  pub opening_refused : (k : ℕ) → is_opening log k ≡ true → is_open log ≡ true → is_refused log k (head_left log k (stream_header k s)) ≡ true → reply_to side log (calls.PollOpening k) ≡ replies.OpeningFailed openings.Refused
-  pub opened : (k : ℕ) → is_opening log k ≡ true → is_open log ≡ true → is_refused log k (head_left log k (stream_header k s)) ≡ false → is_covered log k (head_left log k (stream_header k s)) ≡ true
+  pub opening_ended : (k : ℕ) → is_opening log k ≡ true → is_open log ≡ false
+      → reply_to side log (calls.PollOpening k) ≡ replies.OpeningFailed openings.NotConnected
+  pub opening_refused : (k : ℕ) → is_opening log k ≡ true → is_open log ≡ true
+      → is_refused log k (head_left log k (stream_header k s)) ≡ true
+      → reply_to side log (calls.PollOpening k) ≡ replies.OpeningFailed openings.Refused
+  pub opened : (k : ℕ) → is_opening log k ≡ true → is_open log ≡ true → is_refused log k (head_left log k (stream_header k s)) ≡ false
+      → is_covered log k (head_left log k (stream_header k s)) ≡ true
       → reply_to side log (calls.PollOpening k) ≡ opened_reply k
-  pub datagram_ended : (payload : List ℕ) → is_open log ≡ false → reply_to side log (calls.SendDatagram payload) ≡ replies.DatagramFailed datagrams.NotConnected
-  pub datagram_untold : (payload : List ℕ) → is_open log ≡ true → datagram_fact (events_of log) ≡ None → reply_to side log (calls.SendDatagram payload) ≡ replies.DatagramFailed datagrams.NotConnected
-  pub datagram_disabled : (payload : List ℕ) → is_open log ≡ true → datagram_fact (events_of log) ≡ Some facts.Disabled → reply_to side log (calls.SendDatagram payload) ≡ replies.DatagramFailed datagrams.Disabled
-  pub datagram_unsupported : (payload : List ℕ) → is_open log ≡ true → datagram_fact (events_of log) ≡ Some facts.Unsupported → reply_to side log (calls.SendDatagram payload) ≡ replies.DatagramFailed datagrams.UnsupportedByPeer
-  pub datagram_too_large : (payload : List ℕ) (limit : ℕ) → is_open log ≡ true → datagram_fact (events_of log) ≡ Some (facts.Limit limit) → nat_lt limit (length (datagram_bytes (s / 4) payload)) ≡ true
+  pub datagram_ended : (payload : List ℕ) → is_open log ≡ false
+      → reply_to side log (calls.SendDatagram payload) ≡ replies.DatagramFailed datagrams.NotConnected
+  pub datagram_untold : (payload : List ℕ) → is_open log ≡ true → datagram_fact (events_of log) ≡ None
+      → reply_to side log (calls.SendDatagram payload) ≡ replies.DatagramFailed datagrams.NotConnected
+  pub datagram_disabled : (payload : List ℕ) → is_open log ≡ true → datagram_fact (events_of log) ≡ Some facts.Disabled
+      → reply_to side log (calls.SendDatagram payload) ≡ replies.DatagramFailed datagrams.Disabled
+  pub datagram_unsupported : (payload : List ℕ) → is_open log ≡ true → datagram_fact (events_of log) ≡ Some facts.Unsupported
+      → reply_to side log (calls.SendDatagram payload) ≡ replies.DatagramFailed datagrams.UnsupportedByPeer
+  pub datagram_too_large : (payload : List ℕ) (limit : ℕ) → is_open log ≡ true → datagram_fact (events_of log) ≡ Some (facts.Limit limit)
+      → nat_lt limit (length (datagram_bytes (s / 4) payload)) ≡ true
       → reply_to side log (calls.SendDatagram payload) ≡ replies.DatagramFailed datagrams.TooLarge
-  pub datagram_sent : (payload : List ℕ) (limit : ℕ) → is_open log ≡ true → datagram_fact (events_of log) ≡ Some (facts.Limit limit) → nat_lt limit (length (datagram_bytes (s / 4) payload)) ≡ false → reply_to side log (calls.SendDatagram payload) ≡ replies.Done
+  pub datagram_sent : (payload : List ℕ) (limit : ℕ) → is_open log ≡ true → datagram_fact (events_of log) ≡ Some (facts.Limit limit)
+      → nat_lt limit (length (datagram_bytes (s / 4) payload)) ≡ false → reply_to side log (calls.SendDatagram payload) ≡ replies.Done
   pub size : reply_to side log calls.MaxDatagramSize ≡ replies.Size (payload_limit s (datagram_fact (events_of log)))
   pub id : reply_to side log calls.SessionId ≡ replies.Id s
   pub close : (code : ℕ) (reason : List ℕ) → reply_to side log (calls.Close code reason) ≡ replies.Done
@@ -86,18 +99,26 @@ pub record SessionCallsAnswer (side : Side) (log : Log) (s : ℕ) : Type 0 where
 
 -- what writes, finishes, resets and the questions about the half answer, each in its order
 pub record SendingCallsAnswer (side : Side) (log : Log) (k : ℕ) : Type 0 where
-  pub write_failed : (bytes : List ℕ) (e : StreamWriteError) → write_error log k ≡ Some e → reply_to side log (calls.Write k bytes) ≡ replies.WriteFailed e
+  pub write_failed : (bytes : List ℕ) (e : StreamWriteError) → write_error log k ≡ Some e
+      → reply_to side log (calls.Write k bytes) ≡ replies.WriteFailed e
   pub write_none : write_error log k ≡ None → reply_to side log (calls.Write k []) ≡ replies.Written 0
-  pub written : (bytes : List ℕ) (b : ℕ) (more : List ℕ) → write_error log k ≡ None → bytes_within_credit log k bytes ≡ b ∷ more → reply_to side log (calls.Write k bytes) ≡ replies.Written (length (b ∷ more))
-  pub write_all_failed : (bytes : List ℕ) (e : StreamWriteError) → write_error log k ≡ Some e → reply_to side log (calls.WriteAll k bytes) ≡ replies.WriteFailed e
-  pub all_written : (bytes : List ℕ) → write_error log k ≡ None → (length (bytes_within_credit log k bytes) == length bytes) ≡ true → reply_to side log (calls.WriteAll k bytes) ≡ replies.AllWritten
-  pub some_written : (bytes : List ℕ) → write_error log k ≡ None → (length (bytes_within_credit log k bytes) == length bytes) ≡ false → reply_to side log (calls.WriteAll k bytes) ≡ replies.Count (length (bytes_within_credit log k bytes))
-  pub finish_stopped : (code : ℕ) → stop_of (events_of log) k ≡ Some code → reply_to side log (calls.Finish k) ≡ replies.WriteFailed (writes.Stopped code)
+  pub written : (bytes : List ℕ) (b : ℕ) (more : List ℕ) → write_error log k ≡ None → bytes_within_credit log k bytes ≡ b ∷ more
+      → reply_to side log (calls.Write k bytes) ≡ replies.Written (length (b ∷ more))
+  pub write_all_failed : (bytes : List ℕ) (e : StreamWriteError) → write_error log k ≡ Some e
+      → reply_to side log (calls.WriteAll k bytes) ≡ replies.WriteFailed e
+  pub all_written : (bytes : List ℕ) → write_error log k ≡ None → (length (bytes_within_credit log k bytes) == length bytes) ≡ true
+      → reply_to side log (calls.WriteAll k bytes) ≡ replies.AllWritten
+  pub some_written : (bytes : List ℕ) → write_error log k ≡ None → (length (bytes_within_credit log k bytes) == length bytes) ≡ false
+      → reply_to side log (calls.WriteAll k bytes) ≡ replies.Count (length (bytes_within_credit log k bytes))
+  pub finish_stopped : (code : ℕ) → stop_of (events_of log) k ≡ Some code
+      → reply_to side log (calls.Finish k) ≡ replies.WriteFailed (writes.Stopped code)
   pub finished : stop_of (events_of log) k ≡ None → is_done log k ≡ true → reply_to side log (calls.Finish k) ≡ replies.Finished
-  pub finish_ended : stop_of (events_of log) k ≡ None → is_done log k ≡ false → is_open log ≡ false → reply_to side log (calls.Finish k) ≡ replies.WriteFailed writes.NotConnected
+  pub finish_ended : stop_of (events_of log) k ≡ None → is_done log k ≡ false → is_open log ≡ false
+      → reply_to side log (calls.Finish k) ≡ replies.WriteFailed writes.NotConnected
   pub stopped : (code : ℕ) → stop_of (events_of log) k ≡ Some code → reply_to side log (calls.Stopped k) ≡ replies.StoppedBy (writes.Stopped code)
   pub stopped_done : stop_of (events_of log) k ≡ None → is_done log k ≡ true → reply_to side log (calls.Stopped k) ≡ replies.StoppedBy writes.Closed
-  pub stopped_ended : stop_of (events_of log) k ≡ None → is_done log k ≡ false → is_open log ≡ false → reply_to side log (calls.Stopped k) ≡ replies.StoppedBy writes.NotConnected
+  pub stopped_ended : stop_of (events_of log) k ≡ None → is_done log k ≡ false → is_open log ≡ false
+      → reply_to side log (calls.Stopped k) ≡ replies.StoppedBy writes.NotConnected
   pub reset_done : (code : ℕ) → is_done log k ≡ true → reply_to side log (calls.ResetSend k code) ≡ replies.ClosedStream
   pub reset : (code : ℕ) → is_done log k ≡ false → reply_to side log (calls.ResetSend k code) ≡ replies.Done
   pub priority_done : is_done log k ≡ true → reply_to side log (calls.Priority k) ≡ replies.ClosedStream
@@ -109,14 +130,23 @@ pub record SendingCallsAnswer (side : Side) (log : Log) (k : ℕ) : Type 0 where
 -- what reads answer, by the bytes that are unread and then by the end of the stream
 pub record ReceivingCallsAnswer (side : Side) (log : Log) (k : ℕ) : Type 0 where
   pub read_none : reply_to side log (calls.Read k 0) ≡ replies.Read (Some [])
-  pub read : (size b : ℕ) (more : List ℕ) → (size == 0) ≡ false → unread_body side log k ≡ b ∷ more → reply_to side log (calls.Read k size) ≡ replies.Read (Some (take size (b ∷ more)))
-  pub read_end : (size : ℕ) → (size == 0) ≡ false → unread_body side log k ≡ [] → end_of (events_of log) k ≡ ends.Fin → reply_to side log (calls.Read k size) ≡ replies.Read None
-  pub read_reset : (size code : ℕ) → (size == 0) ≡ false → unread_body side log k ≡ [] → end_of (events_of log) k ≡ ends.Reset code → reply_to side log (calls.Read k size) ≡ replies.ReadFailed (reads.Reset code)
-  pub read_ended : (size : ℕ) → (size == 0) ≡ false → unread_body side log k ≡ [] → end_of (events_of log) k ≡ ends.Running → is_open log ≡ false → reply_to side log (calls.Read k size) ≡ replies.ReadFailed reads.NotConnected
-  pub exact : (size : ℕ) → nat_lt (length (unread_body side log k)) size ≡ false → reply_to side log (calls.ReadExact k size) ≡ replies.Exact (take size (unread_body side log k))
-  pub exact_early : (size : ℕ) → nat_lt (length (unread_body side log k)) size ≡ true → end_of (events_of log) k ≡ ends.Fin → reply_to side log (calls.ReadExact k size) ≡ replies.ExactFailed (exacts.FinishedEarly (length (unread_body side log k))) (unread_body side log k)
-  pub exact_reset : (size code : ℕ) → nat_lt (length (unread_body side log k)) size ≡ true → end_of (events_of log) k ≡ ends.Reset code → reply_to side log (calls.ReadExact k size) ≡ replies.ExactFailed (exacts.Read (reads.Reset code)) []
-  pub exact_ended : (size : ℕ) → nat_lt (length (unread_body side log k)) size ≡ true → end_of (events_of log) k ≡ ends.Running → is_open log ≡ false → reply_to side log (calls.ReadExact k size) ≡ replies.ExactFailed (exacts.Read reads.NotConnected) []
+  pub read : (size b : ℕ) (more : List ℕ) → (size == 0) ≡ false → unread_body side log k ≡ b ∷ more
+      → reply_to side log (calls.Read k size) ≡ replies.Read (Some (take size (b ∷ more)))
+  pub read_end : (size : ℕ) → (size == 0) ≡ false → unread_body side log k ≡ [] → end_of (events_of log) k ≡ ends.Fin
+      → reply_to side log (calls.Read k size) ≡ replies.Read None
+  pub read_reset : (size code : ℕ) → (size == 0) ≡ false → unread_body side log k ≡ [] → end_of (events_of log) k ≡ ends.Reset code
+      → reply_to side log (calls.Read k size) ≡ replies.ReadFailed (reads.Reset code)
+  pub read_ended : (size : ℕ) → (size == 0) ≡ false → unread_body side log k ≡ [] → end_of (events_of log) k ≡ ends.Running
+      → is_open log ≡ false → reply_to side log (calls.Read k size) ≡ replies.ReadFailed reads.NotConnected
+  pub exact : (size : ℕ) → nat_lt (length (unread_body side log k)) size ≡ false
+      → reply_to side log (calls.ReadExact k size) ≡ replies.Exact (take size (unread_body side log k))
+  pub exact_early : (size : ℕ) → nat_lt (length (unread_body side log k)) size ≡ true → end_of (events_of log) k ≡ ends.Fin
+      → reply_to side log (calls.ReadExact k size)
+      ≡ replies.ExactFailed (exacts.FinishedEarly (length (unread_body side log k))) (unread_body side log k)
+  pub exact_reset : (size code : ℕ) → nat_lt (length (unread_body side log k)) size ≡ true → end_of (events_of log) k ≡ ends.Reset code
+      → reply_to side log (calls.ReadExact k size) ≡ replies.ExactFailed (exacts.Read (reads.Reset code)) []
+  pub exact_ended : (size : ℕ) → nat_lt (length (unread_body side log k)) size ≡ true → end_of (events_of log) k ≡ ends.Running
+      → is_open log ≡ false → reply_to side log (calls.ReadExact k size) ≡ replies.ExactFailed (exacts.Read reads.NotConnected) []
   pub stop : (code : ℕ) → reply_to side log (calls.StopRecv k code) ≡ replies.Done
 
 -- ---- a server's handshake
@@ -136,26 +166,36 @@ response_rest log head = head_left log (requested_stream (calls_of log)) head
 
 -- An acceptance or a rejection, in its order: the connection's end, the peer's stop, then the response that is out.
 pub record ResponsesAnswer (side : Side) (log : Log) (call : Call) : Type 0 where
-  pub accept_ended : (head : List ℕ) → response_by (handshake_state (calls_of log)) call ≡ Some (true, head) → is_open log ≡ false → reply_to side log call ≡ replies.Failed (transport_error log)
-  pub accept_refused : (head : List ℕ) → response_by (handshake_state (calls_of log)) call ≡ Some (true, head) → is_open log ≡ true → is_refused log (requested_stream (calls_of log)) (response_rest log head) ≡ true
+  pub accept_ended : (head : List ℕ) → response_by (handshake_state (calls_of log)) call ≡ Some (true, head) → is_open log ≡ false
+      → reply_to side log call ≡ replies.Failed (transport_error log)
+  pub accept_refused : (head : List ℕ) → response_by (handshake_state (calls_of log)) call ≡ Some (true, head) → is_open log ≡ true
+      → is_refused log (requested_stream (calls_of log)) (response_rest log head) ≡ true
       → reply_to side log call ≡ replies.Failed (errors.LocalH3Error h3.ClosedCriticalStream)
-  pub accept_out : (head : List ℕ) → response_by (handshake_state (calls_of log)) call ≡ Some (true, head) → is_open log ≡ true → is_refused log (requested_stream (calls_of log)) (response_rest log head) ≡ false → is_covered log (requested_stream (calls_of log)) (response_rest log head) ≡ true
+  pub accept_out : (head : List ℕ) → response_by (handshake_state (calls_of log)) call ≡ Some (true, head) → is_open log ≡ true
+      → is_refused log (requested_stream (calls_of log)) (response_rest log head) ≡ false
+      → is_covered log (requested_stream (calls_of log)) (response_rest log head) ≡ true
       → reply_to side log call ≡ replies.Session (requested_stream (calls_of log))
-  pub reject_ended : (head : List ℕ) → response_by (handshake_state (calls_of log)) call ≡ Some (false, head) → is_open log ≡ false → reply_to side log call ≡ replies.Rejected
-  pub reject_refused : (head : List ℕ) → response_by (handshake_state (calls_of log)) call ≡ Some (false, head) → is_open log ≡ true → is_refused log (requested_stream (calls_of log)) (response_rest log head) ≡ true → reply_to side log call ≡ replies.Rejected
-  pub rejected : (head : List ℕ) → response_by (handshake_state (calls_of log)) call ≡ Some (false, head) → is_open log ≡ true → is_refused log (requested_stream (calls_of log)) (response_rest log head) ≡ false → is_covered log (requested_stream (calls_of log)) (response_rest log head) ≡ true
+  pub reject_ended : (head : List ℕ) → response_by (handshake_state (calls_of log)) call ≡ Some (false, head) → is_open log ≡ false
+      → reply_to side log call ≡ replies.Rejected
+  pub reject_refused : (head : List ℕ) → response_by (handshake_state (calls_of log)) call ≡ Some (false, head) → is_open log ≡ true
+      → is_refused log (requested_stream (calls_of log)) (response_rest log head) ≡ true → reply_to side log call ≡ replies.Rejected
+  pub rejected : (head : List ℕ) → response_by (handshake_state (calls_of log)) call ≡ Some (false, head) → is_open log ≡ true
+      → is_refused log (requested_stream (calls_of log)) (response_rest log head) ≡ false
+      → is_covered log (requested_stream (calls_of log)) (response_rest log head) ≡ true
       → is_response_over log (requested_stream (calls_of log)) ≡ true → reply_to side log call ≡ replies.Rejected
 
 -- a call for a request gives the first that is queued, and without one fails once the connection has ended
 pub record RequestsAnswer (side : Side) (log : Log) : Type 0 where
-  pub request : (queued : Classified) (later : List Classified) → queued_requests side log ≡ queued ∷ later → reply_to side log calls.Incoming ≡ replies.Request queued.id (request_fields_of queued.verdict)
+  pub request : (queued : Classified) (later : List Classified) → queued_requests side log ≡ queued ∷ later
+      → reply_to side log calls.Incoming ≡ replies.Request queued.id (request_fields_of queued.verdict)
   pub ended : queued_requests side log ≡ [] → is_open log ≡ false → reply_to side log calls.Incoming ≡ replies.Failed (driver_error side log)
 
 -- ---- a client's handshake
 
 -- A connect that doesn't dial fails for the first of these: its URL, the address of its host, the endpoint.
 pub record ConnectsAnswer (side : Side) (log : Log) (text : List ℕ) (headers : Fields) (lookup : Lookup) (outcome : ConnectOutcome) : Type 0 where
-  pub no_url : (e : ParseError) → parse_url None text ≡ Err e → reply_to side log (calls.Connect (text, headers) lookup outcome) ≡ replies.ConnectFailed (connects.InvalidUrl refusals.Parse)
+  pub no_url : (e : ParseError) → parse_url None text ≡ Err e
+      → reply_to side log (calls.Connect (text, headers) lookup outcome) ≡ replies.ConnectFailed (connects.InvalidUrl refusals.Parse)
   pub not_https : (url : Parts) → parse_url None text ≡ Ok url → bytes_eq url.scheme (codes "https") ≡ false → reply_to side log (calls.Connect (text, headers) lookup outcome) ≡ replies.ConnectFailed (connects.InvalidUrl refusals.Scheme)
   pub no_address : (url : Parts) (e : ConnectingError) → parse_url None text ≡ Ok url → bytes_eq url.scheme (codes "https") ≡ true → address_of (host_or_empty url) (port_of url) lookup ≡ Err e
       → reply_to side log (calls.Connect (text, headers) lookup outcome) ≡ replies.ConnectFailed e
@@ -169,14 +209,19 @@ walk_at side log = response_walk_of (contents log (local_bi side)) (end_of (even
 -- the request is out, or goes out now, on a stream that is open or opens now
 pub data RequestOut (side : Side) (log : Log) (head : List ℕ) : Type 0 where
   IsOut : local_count (actions_of log) (local_bi side) ≢ 0 → is_empty (head_left log (local_bi side) head) ≡ true → RequestOut side log head
-  GoesOutNow : is_open log ≡ true → (local_count (actions_of log) (local_bi side) ≡ 0 → may_open side log (local_bi side) ≡ true) → stop_of (events_of log) (local_bi side) ≡ None
-      → is_covered log (local_bi side) (head_left log (local_bi side) head) ≡ true → is_empty (head_left log (local_bi side) head) ≡ false → RequestOut side log head
+  GoesOutNow : is_open log ≡ true → (local_count (actions_of log) (local_bi side) ≡ 0 → may_open side log (local_bi side) ≡ true)
+      → stop_of (events_of log) (local_bi side) ≡ None
+      → is_covered log (local_bi side) (head_left log (local_bi side) head) ≡ true → is_empty (head_left log (local_bi side) head) ≡ false
+      → RequestOut side log head
 
 -- A connect that is under way, with this reserved name among its headers and this request, step by step.
 pub record ConnectGoesOn (side : Side) (log : Log) (reserved : Option (List ℕ)) (head : List ℕ) : Type 0 where
-  pub no_connection : is_connected (events_of log) ≡ false → is_open log ≡ false → reply_to side log calls.Handshake ≡ replies.ConnectFailed (loss_to_connect log)
-  pub no_settings : is_connected (events_of log) ≡ true → settings_came side log ≡ false → is_open log ≡ false → reply_to side log calls.Handshake ≡ replies.ConnectFailed (connects.ConnectionError (driver_error side log))
-  pub reserved_name : (name : List ℕ) → is_connected (events_of log) ≡ true → settings_came side log ≡ true → reserved ≡ Some name → reply_to side log calls.Handshake ≡ replies.ConnectFailed (connects.ReservedHeader name)
+  pub no_connection : is_connected (events_of log) ≡ false → is_open log ≡ false
+      → reply_to side log calls.Handshake ≡ replies.ConnectFailed (loss_to_connect log)
+  pub no_settings : is_connected (events_of log) ≡ true → settings_came side log ≡ false → is_open log ≡ false
+      → reply_to side log calls.Handshake ≡ replies.ConnectFailed (connects.ConnectionError (driver_error side log))
+  pub reserved_name : (name : List ℕ) → is_connected (events_of log) ≡ true → settings_came side log ≡ true → reserved ≡ Some name
+      → reply_to side log calls.Handshake ≡ replies.ConnectFailed (connects.ReservedHeader name)
 
 -- a connect under way that got as far as its request
 pub record MaySend (side : Side) (log : Log) (head : List ℕ) : Type 0 where
@@ -184,17 +229,27 @@ pub record MaySend (side : Side) (log : Log) (head : List ℕ) : Type 0 where
   pub connected : is_connected (events_of log) ≡ true
   pub settings : settings_came side log ≡ true
 
--- Behind these steps: the stream of the request, the request, then its response.
+-- After these steps: the stream of the request, the request, then its response.
 pub record RequestGoesOn (side : Side) (log : Log) (head : List ℕ) : Type 0 where
-  pub no_stream : local_count (actions_of log) (local_bi side) ≡ 0 → is_open log ≡ false → reply_to side log calls.Handshake ≡ replies.ConnectFailed (loss_to_connect log)
-  pub unsent : local_count (actions_of log) (local_bi side) ≢ 0 → is_empty (head_left log (local_bi side) head) ≡ false → is_open log ≡ false → reply_to side log calls.Handshake ≡ replies.ConnectFailed (loss_to_connect log)
-  pub refused : local_count (actions_of log) (local_bi side) ≢ 0 → is_open log ≡ true → is_refused log (local_bi side) (head_left log (local_bi side) head) ≡ true → reply_to side log calls.Handshake ≡ replies.ConnectFailed connects.SessionRejected
-  pub fault : (code : ErrorCode) → RequestOut side log head → walk_at side log ≡ responses.Fault code → reply_to side log calls.Handshake ≡ replies.ConnectFailed (connects.ConnectionError (errors.LocalH3Error code))
-  pub stream_end : RequestOut side log head → walk_at side log ≡ responses.Ended → reply_to side log calls.Handshake ≡ replies.ConnectFailed (loss_to_connect log)
-  pub no_response : RequestOut side log head → walk_at side log ≡ responses.Waiting → is_open log ≡ false → reply_to side log calls.Handshake ≡ replies.ConnectFailed (loss_to_connect log)
-  pub rejected : (fields : Fields) (at : ℕ) → RequestOut side log head → walk_at side log ≡ responses.Response fields at → has_success fields ≡ false → reply_to side log calls.Handshake ≡ replies.ConnectFailed connects.SessionRejected
-  pub session : (fields : Fields) (at : ℕ) → RequestOut side log head → walk_at side log ≡ responses.Response fields at → has_success fields ≡ true → is_open log ≡ true → reply_to side log calls.Handshake ≡ replies.Session (local_bi side)
-  pub ended : (fields : Fields) (at : ℕ) → RequestOut side log head → walk_at side log ≡ responses.Response fields at → has_success fields ≡ true → is_open log ≡ false
+  pub no_stream : local_count (actions_of log) (local_bi side) ≡ 0 → is_open log ≡ false
+      → reply_to side log calls.Handshake ≡ replies.ConnectFailed (loss_to_connect log)
+  pub unsent : local_count (actions_of log) (local_bi side) ≢ 0 → is_empty (head_left log (local_bi side) head) ≡ false
+      → is_open log ≡ false → reply_to side log calls.Handshake ≡ replies.ConnectFailed (loss_to_connect log)
+  pub refused : local_count (actions_of log) (local_bi side) ≢ 0 → is_open log ≡ true
+      → is_refused log (local_bi side) (head_left log (local_bi side) head) ≡ true
+      → reply_to side log calls.Handshake ≡ replies.ConnectFailed connects.SessionRejected
+  pub fault : (code : ErrorCode) → RequestOut side log head → walk_at side log ≡ responses.Fault code
+      → reply_to side log calls.Handshake ≡ replies.ConnectFailed (connects.ConnectionError (errors.LocalH3Error code))
+  pub stream_end : RequestOut side log head → walk_at side log ≡ responses.Ended
+      → reply_to side log calls.Handshake ≡ replies.ConnectFailed (loss_to_connect log)
+  pub no_response : RequestOut side log head → walk_at side log ≡ responses.Incomplete → is_open log ≡ false
+      → reply_to side log calls.Handshake ≡ replies.ConnectFailed (loss_to_connect log)
+  pub rejected : (fields : Fields) (at : ℕ) → RequestOut side log head → walk_at side log ≡ responses.Response fields at
+      → has_success fields ≡ false → reply_to side log calls.Handshake ≡ replies.ConnectFailed connects.SessionRejected
+  pub session : (fields : Fields) (at : ℕ) → RequestOut side log head → walk_at side log ≡ responses.Response fields at
+      → has_success fields ≡ true → is_open log ≡ true → reply_to side log calls.Handshake ≡ replies.Session (local_bi side)
+  pub ended : (fields : Fields) (at : ℕ) → RequestOut side log head → walk_at side log ≡ responses.Response fields at
+      → has_success fields ≡ true → is_open log ≡ false
       → reply_to side log calls.Handshake ≡ replies.ConnectFailed (connects.ConnectionError (driver_error side log))
 
 -- ---- how far a head is out
@@ -206,7 +261,11 @@ IsOutAsFar side log call k head = sent_on (actions_of (log_after side log (turns
 -- A call that finds the connection open and goes on with a head, of which the peer didn't stop a rest, sends it as far as
 -- credit allows: the header of a stream that is being opened, a response, and the request of a connect that has a stream.
 pub record HeadsGoOut (side : Side) (log : Log) (call : Call) : Type 0 where
-  pub header : (k s at : ℕ) → call ≡ calls.PollOpening k → established_session (calls_of log) ≡ Some (s, at) → is_opening log k ≡ true → is_open log ≡ true → is_refused log k (head_left log k (stream_header k s)) ≡ false → IsOutAsFar side log call k (stream_header k s)
-  pub response : (accepts : Bool) (head : List ℕ) → response_by (handshake_state (calls_of log)) call ≡ Some (accepts, head) → is_open log ≡ true → is_refused log (requested_stream (calls_of log)) (response_rest log head) ≡ false → IsOutAsFar side log call (requested_stream (calls_of log)) head
-  pub request : (head : List ℕ) → call ≡ calls.Handshake → MaySend side log head → is_open log ≡ true → (local_count (actions_of log) (local_bi side) ≡ 0 → may_open side log (local_bi side) ≡ true)
+  pub header : (k s at : ℕ) → call ≡ calls.PollOpening k → established_session (calls_of log) ≡ Some (s, at) → is_opening log k ≡ true
+      → is_open log ≡ true → is_refused log k (head_left log k (stream_header k s)) ≡ false → IsOutAsFar side log call k (stream_header k s)
+  pub response : (accepts : Bool) (head : List ℕ) → response_by (handshake_state (calls_of log)) call ≡ Some (accepts, head)
+      → is_open log ≡ true → is_refused log (requested_stream (calls_of log)) (response_rest log head) ≡ false
+      → IsOutAsFar side log call (requested_stream (calls_of log)) head
+  pub request : (head : List ℕ) → call ≡ calls.Handshake → MaySend side log head → is_open log ≡ true
+      → (local_count (actions_of log) (local_bi side) ≡ 0 → may_open side log (local_bi side) ≡ true)
       → is_refused log (local_bi side) (head_left log (local_bi side) head) ≡ false → IsOutAsFar side log call (local_bi side) head

@@ -31,11 +31,13 @@ DatagramPasses log before after = (piece : List ℕ) → TakesDatagram log befor
 
 -- the session goes on
 abbrev pub SessionPasses : Log → Type 0
-SessionPasses log = (s : ℕ × ℕ) → established_session (calls_of log) ≡ Some s → session_walk_of (drop s.1 (contents log s.0)) (end_of (events_of log) s.0) ≡ walks.Running
+SessionPasses log = (s : ℕ × ℕ) → established_session (calls_of log) ≡ Some s
+    → session_walk_of (drop s.1 (contents log s.0)) (end_of (events_of log) s.0) ≡ walks.Running
 
 -- the peer's control stream, the first that was classified, has no fault
 abbrev pub ControlPasses : Log → List Classified → Type 0
-ControlPasses log cs = (c : ℕ × ℕ) → first_at control_start cs ≡ Some c → (control_walk_of (drop c.1 (contents log c.0)) (end_of (events_of log) c.0)).fault ≡ None
+ControlPasses log cs = (c : ℕ × ℕ) → first_at control_start cs ≡ Some c
+    → (control_walk_of (drop c.1 (contents log c.0)) (end_of (events_of log) c.0)).fault ≡ None
 
 -- what stands before the peer's control stream passes
 pub record PassesUpToControl (side : Side) (log : Log) (before after : StreamTable) : Type 0 where
@@ -53,23 +55,38 @@ pub record PassesUpToControl (side : Side) (log : Log) (before after : StreamTab
 -- Which of several streams the moment looks at first stands in `LooksInOrder`. And exactly where what comes before the peer's control stream
 -- passes, SETTINGS that the walk over it has read come, whatever ends the connection then (`SettingsComeRead`: at no other entry).
 pub record TellsFirst (side : Side) (log : Log) (before after : StreamTable) : Type 0 where
-  pub stream : (earlier : List Classified) (c : Classified) (code : ErrorCode) → after.classified ≡ earlier ++ c ∷ [] → c.verdict ≡ verdicts.Fault code → after.progress.ending ≡ Some (ByFault code)
-  pub second : (earlier : List Classified) (c : Classified) (offset : Verdict → Option ℕ) (first : ℕ × ℕ) → after.classified ≡ earlier ++ c ∷ [] → ComesOnce offset → is_some (offset c.verdict) ≡ true → first_at offset earlier ≡ Some first
+  pub stream : (earlier : List Classified) (c : Classified) (code : ErrorCode) → after.classified ≡ earlier ++ c ∷ []
+      → c.verdict ≡ verdicts.Fault code → after.progress.ending ≡ Some (ByFault code)
+  pub second : (earlier : List Classified) (c : Classified) (offset : Verdict → Option ℕ) (first : ℕ × ℕ)
+      → after.classified ≡ earlier ++ c ∷ [] → ComesOnce offset → is_some (offset c.verdict) ≡ true → first_at offset earlier ≡ Some first
       → after.progress.ending ≡ Some (ByFault h3.StreamCreation)
-  pub datagram : (piece : List ℕ) (code : ErrorCode) → StreamsPass after.classified → TakesDatagram log before after piece → datagram_of piece ≡ Err code → after.progress.ending ≡ Some (ByFault code)
-  pub session_fault : (s : ℕ × ℕ) (code : ErrorCode) → StreamsPass after.classified → DatagramPasses log before after → established_session (calls_of log) ≡ Some s → session_walk_of (drop s.1 (contents log s.0)) (end_of (events_of log) s.0) ≡ walks.Fault code
+  pub datagram : (piece : List ℕ) (code : ErrorCode) → StreamsPass after.classified → TakesDatagram log before after piece
+      → datagram_of piece ≡ Err code → after.progress.ending ≡ Some (ByFault code)
+  pub session_fault : (s : ℕ × ℕ) (code : ErrorCode) → StreamsPass after.classified → DatagramPasses log before after
+      → established_session (calls_of log) ≡ Some s
+      → session_walk_of (drop s.1 (contents log s.0)) (end_of (events_of log) s.0) ≡ walks.Fault code
       → after.progress.ending ≡ Some (ByFault code)
-  pub session_closed : (s : ℕ × ℕ) (code : ℕ) (reason : List ℕ) → StreamsPass after.classified → DatagramPasses log before after → established_session (calls_of log) ≡ Some s
-      → session_walk_of (drop s.1 (contents log s.0)) (end_of (events_of log) s.0) ≡ walks.Closed code reason → after.progress.ending ≡ Some (BySession code reason (is_over (session_walk_of (drop s.1 (contents log s.0)) ends.Running)))
-  pub stopped : StreamsPass after.classified → DatagramPasses log before after → SessionPasses log → is_some (stop_of (events_of log) (local_uni side)) ≡ true → after.progress.ending ≡ Some (ByFault h3.ClosedCriticalStream)
-  pub control : (c : ℕ × ℕ) (code : ErrorCode) → PassesUpToControl side log before after → first_at control_start after.classified ≡ Some c → (control_walk_of (drop c.1 (contents log c.0)) (end_of (events_of log) c.0)).fault ≡ Some code
+  pub session_closed : (s : ℕ × ℕ) (code : ℕ) (reason : List ℕ) → StreamsPass after.classified → DatagramPasses log before after
+      → established_session (calls_of log) ≡ Some s
+      → session_walk_of (drop s.1 (contents log s.0)) (end_of (events_of log) s.0) ≡ walks.Closed code reason
+      → after.progress.ending ≡ Some (BySession code reason (is_over (session_walk_of (drop s.1 (contents log s.0)) ends.Running)))
+  pub stopped : StreamsPass after.classified → DatagramPasses log before after → SessionPasses log
+      → is_some (stop_of (events_of log) (local_uni side)) ≡ true → after.progress.ending ≡ Some (ByFault h3.ClosedCriticalStream)
+  pub control : (c : ℕ × ℕ) (code : ErrorCode) → PassesUpToControl side log before after → first_at control_start after.classified ≡ Some c
+      → (control_walk_of (drop c.1 (contents log c.0)) (end_of (events_of log) c.0)).fault ≡ Some code
       → after.progress.ending ≡ Some (ByFault code)
-  pub settings : (c : ℕ × ℕ) → PassesUpToControl side log before after → first_at control_start after.classified ≡ Some c → is_some (control_walk_of (drop c.1 (contents log c.0)) (end_of (events_of log) c.0)).settings ≡ true
+  pub settings : (c : ℕ × ℕ) → PassesUpToControl side log before after → first_at control_start after.classified ≡ Some c
+      → is_some (control_walk_of (drop c.1 (contents log c.0)) (end_of (events_of log) c.0)).settings ≡ true
       → after.progress.settings ≡ true
-  pub came : before.progress.settings ≡ false → after.progress.settings ≡ true → PassesUpToControl side log before after
-  pub encoder : (c : ℕ × ℕ) → PassesUpToControl side log before after → ControlPasses log after.classified → first_at encoder_start after.classified ≡ Some c → is_running (end_of (events_of log) c.0) ≡ false → after.progress.ending ≡ Some (ByFault h3.ClosedCriticalStream)
-  pub decoder : (c : ℕ × ℕ) → PassesUpToControl side log before after → ControlPasses log after.classified → first_at decoder_start after.classified ≡ Some c → is_running (end_of (events_of log) c.0) ≡ false → after.progress.ending ≡ Some (ByFault h3.ClosedCriticalStream)
+  pub has_come : before.progress.settings ≡ false → after.progress.settings ≡ true → PassesUpToControl side log before after
+  pub encoder : (c : ℕ × ℕ) → PassesUpToControl side log before after → ControlPasses log after.classified
+      → first_at encoder_start after.classified ≡ Some c → is_running (end_of (events_of log) c.0) ≡ false
+      → after.progress.ending ≡ Some (ByFault h3.ClosedCriticalStream)
+  pub decoder : (c : ℕ × ℕ) → PassesUpToControl side log before after → ControlPasses log after.classified
+      → first_at decoder_start after.classified ≡ Some c → is_running (end_of (events_of log) c.0) ≡ false
+      → after.progress.ending ≡ Some (ByFault h3.ClosedCriticalStream)
 
 -- a moment that finds the connection open, which the driver hasn't ended, tells the first
 abbrev pub FirstIsTold : Side → Entry → Log → Type 0
-FirstIsTold side e log = is_moment e ≡ true → is_open (e ∷ log) ≡ true → (stream_table side log).progress.ending ≡ None → TellsFirst side (e ∷ log) (stream_table side log) (stream_table side (e ∷ log))
+FirstIsTold side e log = is_moment e ≡ true → is_open (e ∷ log) ≡ true → (stream_table side log).progress.ending ≡ None
+    → TellsFirst side (e ∷ log) (stream_table side log) (stream_table side (e ∷ log))

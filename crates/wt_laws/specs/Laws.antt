@@ -23,7 +23,7 @@ use Rattle.wt_wire.specs.declared.side.Side.{Side}
 use Rattle.wt_laws.specs.Causes.{CloseCause, DialCause, bytes_for, head_frame_of, opened_kind, reads_from}
 use Rattle.wt_laws.specs.Reachable.{Exchange, IsReachable, is_among}
 use Rattle.wt_laws.specs.ReplyCauses.{ReplyCause}
-use Rattle.wt_laws.specs.Told.{datagram_told, read_piece}
+use Rattle.wt_laws.specs.ReplyTells.{datagram_told, read_piece}
 use Rattle.wt_spec.specs.Answers.{answer_to, is_client, is_lawful, log_after, run_from}
 use Rattle.wt_spec.specs.Connect.{authority_of, path_of, request_head, reserved_name}
 use Rattle.wt_spec.specs.Connection.{is_for_session, is_opening, starts_opening, stream_header, well_formed}
@@ -69,20 +69,22 @@ pub record IsFirstLeft (side : Side) (log : Log) (kind session k : ℕ) : Type 0
 -- established session, and it is the first such stream in the order in which streams were classified.
 pub record AcceptedRightly (side : Side) (log : Log) (kind k : ℕ) : Type 0 where
   pub session : ℕ
-  pub at : ℕ  -- where the stream's body begins
+  pub offset : ℕ  -- where the stream's body begins
   pub begins : ℕ
   pub is_established : established_session (calls_of log) ≡ Some (session, begins)
   pub opened : is_among kind (peer_count side (events_of log) kind) k ≡ true
-  pub header : kind ≡ peer_uni side → uni_verdict_of (contents log k) (end_of (events_of log) k) ≡ verdicts.WebTransport session at
-  pub bi_header : kind ≡ peer_bi side → bi_verdict_of (contents log k) (end_of (events_of log) k) ≡ verdicts.WebTransport session at
-  pub classified : verdict_of k (stream_table side log).classified ≡ Some (verdicts.WebTransport session at)
+  pub header : kind ≡ peer_uni side → uni_verdict_of (contents log k) (end_of (events_of log) k) ≡ verdicts.WebTransport session offset
+  pub bi_header : kind ≡ peer_bi side → bi_verdict_of (contents log k) (end_of (events_of log) k) ≡ verdicts.WebTransport session offset
+  pub classified : verdict_of k (stream_table side log).classified ≡ Some (verdicts.WebTransport session offset)
   pub fresh : list_any (releases k) (calls_of log) ≡ false
   pub is_first : IsFirstLeft side log kind session k
 
 -- each reply that gives a stream gives it rightly
 pub record StreamsAcceptedRightly (side : Side) (log : Log) (turn : Turn) : Type 0 where
-  pub uni : (k : ℕ) → (answer_to side log turn).reply ≡ replies.Uni k → (middle : Log) × IsDuring side log turn middle × AcceptedRightly side middle (peer_uni side) k
-  pub bi : (k : ℕ) → (answer_to side log turn).reply ≡ replies.Bi k → (middle : Log) × IsDuring side log turn middle × AcceptedRightly side middle (peer_bi side) k
+  pub uni : (k : ℕ) → (answer_to side log turn).reply ≡ replies.Uni k
+      → (middle : Log) × IsDuring side log turn middle × AcceptedRightly side middle (peer_uni side) k
+  pub bi : (k : ℕ) → (answer_to side log turn).reply ≡ replies.Bi k
+      → (middle : Log) × IsDuring side log turn middle × AcceptedRightly side middle (peer_bi side) k
 
 -- ---- sessions
 
@@ -92,10 +94,10 @@ pub record WasDelivered (side : Side) (log : Log) (k : ℕ) : Type 0 where
   pub delivered : list_any (delivers k) (calls_of log) ≡ true
   pub settings : settings_came side log ≡ true
   pub headers : Fields
-  pub at : ℕ
+  pub offset : ℕ
   pub opened : is_among (peer_bi side) (peer_count side (events_of log) (peer_bi side)) k ≡ true
-  pub bytes : bi_verdict_of (contents log k) (end_of (events_of log) k) ≡ verdicts.Request headers at
-  pub verdict : verdict_of k (stream_table side log).classified ≡ Some (verdicts.Request headers at)
+  pub bytes : bi_verdict_of (contents log k) (end_of (events_of log) k) ≡ verdicts.Request headers offset
+  pub verdict : verdict_of k (stream_table side log).classified ≡ Some (verdicts.Request headers offset)
 
 -- How session s comes to be established, by these actions of a call: a server's request was delivered, and the rest of an
 -- acceptance with status 200 goes out, so that all of it is out; or a client's whole request, with no reserved name among its
@@ -103,10 +105,13 @@ pub record WasDelivered (side : Side) (log : Log) (k : ℕ) : Type 0 where
 -- session's part of the stream begins at this offset. (Out is a frame here once as many bytes are out as it has; that they are the
 -- frame: `SessionStreamOut`.)
 pub data EstablishedHow (side : Side) (log : Log) (own : List Action) (s at : ℕ) : Type 0 where
-  AfterRequest : (headers : Fields) (request : WasDelivered side log s) → is_client side ≡ false → at ≡ request.at → is_covered log s (head_left log s (response_head (codes "200") headers)) ≡ true
+  AfterRequest : (headers : Fields) (request : WasDelivered side log s) → is_client side ≡ false → at ≡ request.offset → is_covered log s (head_left log s (response_head (codes "200") headers)) ≡ true
       → own ≡ send_of s (head_left log s (response_head (codes "200") headers)) → head_left (with_actions own log) s (response_head (codes "200") headers) ≡ [] → EstablishedHow side log own s at
-  AfterResponse : (head : List ℕ) (fields : Fields) → is_client side ≡ true → s ≡ local_bi side → local_count (actions_of (with_actions own log)) s ≢ 0 → handshake_state (calls_of log) ≡ Connecting None head → head_left (with_actions own log) s head ≡ [] → settings_came side log ≡ true
-      → response_walk_of (contents log s) (end_of (events_of log) s) ≡ responses.Response fields at → has_success fields ≡ true → EstablishedHow side log own s at
+  AfterResponse : (head : List ℕ) (fields : Fields) → is_client side ≡ true → s ≡ local_bi side
+      → local_count (actions_of (with_actions own log)) s ≢ 0 → handshake_state (calls_of log) ≡ Connecting None head
+      → head_left (with_actions own log) s head ≡ [] → settings_came side log ≡ true
+      → response_walk_of (contents log s) (end_of (events_of log) s) ≡ responses.Response fields at → has_success fields ≡ true
+      → EstablishedHow side log own s at
 
 -- right before the session's record, and the call's own actions, the peer's SETTINGS had come, the connection was open, and
 -- no session was established
@@ -125,7 +130,8 @@ SessionsRightly side log = (s at : ℕ) → established_session (calls_of log) �
 
 -- a reply that tells of a session tells of the one that is established from then on
 abbrev pub SessionTold : Side → Log → Turn → Type 0
-SessionTold side log turn = (s : ℕ) → (answer_to side log turn).reply ≡ replies.Session s → (at : ℕ) × (established_session (calls_of (log_after side log turn)) ≡ Some (s, at))
+SessionTold side log turn = (s : ℕ) → (answer_to side log turn).reply ≡ replies.Session s
+    → (at : ℕ) × (established_session (calls_of (log_after side log turn)) ≡ Some (s, at))
 
 -- no call delivered the request before the turn, it is delivered from then on, and its bytes give these fields
 pub record RequestGiven (side : Side) (log : Log) (turn : Turn) (k : ℕ) (headers : Fields) : Type 0 where
@@ -135,11 +141,13 @@ pub record RequestGiven (side : Side) (log : Log) (turn : Turn) (k : ℕ) (heade
 
 -- a reply that gives a request gives it so
 abbrev pub RequestTold : Side → Log → Turn → Type 0
-RequestTold side log turn = (k : ℕ) (headers : Fields) → (answer_to side log turn).reply ≡ replies.Request k headers → RequestGiven side log turn k headers
+RequestTold side log turn = (k : ℕ) (headers : Fields) → (answer_to side log turn).reply ≡ replies.Request k headers
+    → RequestGiven side log turn k headers
 
 -- at most one session is ever established
 abbrev pub OneSession : Side → Log → Turn → Type 0
-OneSession side log turn = (s at : ℕ) → established_session (calls_of log) ≡ Some (s, at) → established_session (calls_of (log_after side log turn)) ≡ Some (s, at)
+OneSession side log turn = (s at : ℕ) → established_session (calls_of log) ≡ Some (s, at)
+    → established_session (calls_of (log_after side log turn)) ≡ Some (s, at)
 
 -- ---- reads
 
@@ -153,7 +161,7 @@ abbrev pub read_from : ℕ → List Exchange → List ℕ
 read_from k [] = []
 read_from k (x ∷ before) = if reads_from k x.turn then more_read (read_piece x.answer.reply) (read_from k before) else read_from k before
 
--- they are a prefix of what came for the stream behind its header
+-- they are a prefix of what came for the stream after its header
 abbrev pub ReadsInOrder : Side → List Exchange → Log → Type 0
 ReadsInOrder side before log =
     (k : ℕ) → (rest : List ℕ) × (read_from k before ++ rest ≡ drop (body_start (verdict_of k (stream_table side log).classified)) (contents log k))
@@ -193,7 +201,8 @@ received_by (x ∷ before) = more_received (datagram_told x.answer.reply) (recei
 abbrev pub DatagramsInOrder : Side → List Exchange → Log → Type 0
 DatagramsInOrder side before log =
     (s at : ℕ) → established_session (calls_of log) ≡ Some (s, at)
-    → (settled_datagrams (calls_of log) ≤ (stream_table side log).progress.datagrams) × (received_by before ≡ payloads_for s (take (settled_datagrams (calls_of log)) (datagrams_of (events_of log))))
+    → (settled_datagrams (calls_of log) ≤ (stream_table side log).progress.datagrams)
+    × (received_by before ≡ payloads_for s (take (settled_datagrams (calls_of log)) (datagrams_of (events_of log))))
 
 -- ---- the end
 
@@ -201,7 +210,8 @@ DatagramsInOrder side before log =
 -- did, for a fault or since the session ended.
 pub data EndedBy (side : Side) (log : Log) : Type 0 where
   ByLoss : list_any loses (events_of log) ≡ true → EndedBy side log
-  ClosedByCall : (start earlier : Log) (turn : Turn) (code : ℕ) (reason : List ℕ) → IsReachable side start → is_lawful side start turn ≡ true → IsDuring side start turn (Sent (actions.Close code reason) ∷ earlier)
+  ClosedByCall : (start earlier : Log) (turn : Turn) (code : ℕ) (reason : List ℕ) → IsReachable side start
+      → is_lawful side start turn ≡ true → IsDuring side start turn (Sent (actions.Close code reason) ∷ earlier)
       → CloseCause side turn earlier code reason → GoesOnFrom (Sent (actions.Close code reason) ∷ earlier) log → EndedBy side log
   ByDriver : (e : Ending) → (stream_table side log).progress.ending ≡ Some e → EndedBy side log
 
@@ -212,12 +222,15 @@ pub record OpenExactly (side : Side) (log : Log) : Type 0 where
   pub no_close : is_open log ≡ true → list_any closes (actions_of log) ≡ false
   pub no_fault : is_open log ≡ true → (stream_table side log).progress.ending ≡ None
 
--- A moment that finds a fault closes last, with its code; one at which the session ends, with H3_NO_ERROR, right behind a reset of
+-- A moment that finds a fault closes last, with its code; one at which the session ends, with H3_NO_ERROR, right after a reset of
 -- the session's stream where a capsule closed it; every other closes nothing.
 pub record FaultCloses (side : Side) (log : Log) : Type 0 where
-  pub fault : (code : ErrorCode) → (stream_table side log).progress.ending ≡ Some (ByFault code) → (before : List Action) × (pending_actions side log ≡ before ++ actions.Close (code_of code) [] ∷ [])
+  pub fault : (code : ErrorCode) → (stream_table side log).progress.ending ≡ Some (ByFault code)
+      → (before : List Action) × (pending_actions side log ≡ before ++ actions.Close (code_of code) [] ∷ [])
   pub session : (code : ℕ) (reason : List ℕ) (b : Bool) → (stream_table side log).progress.ending ≡ Some (BySession code reason b)
-      → (before : List Action) × (pending_actions side log ≡ before ++ reset_if b (session_id (established_session (calls_of log))) ++ actions.Close (code_of h3.NoError) [] ∷ [])
+      → (before : List Action)
+      × (pending_actions side log
+      ≡ before ++ reset_if b (session_id (established_session (calls_of log))) ++ actions.Close (code_of h3.NoError) [] ∷ [])
   pub none : (stream_table side log).progress.ending ≡ None → list_any closes (pending_actions side log) ≡ false
 
 -- after the end what it is told as never changes
@@ -236,17 +249,26 @@ NothingAfterEnd (_ ∷ log) = NothingAfterEnd log
 
 -- A piece that is cut in two leads to the same log, so every later answer is equal; and its parts' answers, joined, are its own.
 pub record CutsWell (side : Side) (log : Log) (id : ℕ) (first second : List ℕ) : Type 0 where
-  pub same_log : log_after side (log_after side log (turns.Bytes id first)) (turns.Bytes id second) ≡ log_after side log (turns.Bytes id (first ++ second))
-  pub later : (all : List Turn) → run_from side (log_after side (log_after side log (turns.Bytes id first)) (turns.Bytes id second)) all ≡ run_from side (log_after side log (turns.Bytes id (first ++ second))) all
-  pub actions : join_all (answer_to side log (turns.Bytes id first)).actions (answer_to side (log_after side log (turns.Bytes id first)) (turns.Bytes id second)).actions ≡ (answer_to side log (turns.Bytes id (first ++ second))).actions
+  pub same_log : log_after side (log_after side log (turns.Bytes id first)) (turns.Bytes id second)
+      ≡ log_after side log (turns.Bytes id (first ++ second))
+  pub later : (all : List Turn)
+      → run_from side (log_after side (log_after side log (turns.Bytes id first)) (turns.Bytes id second)) all
+      ≡ run_from side (log_after side log (turns.Bytes id (first ++ second))) all
+  pub actions : join_all (answer_to side log (turns.Bytes id first)).actions (answer_to side (log_after side log (turns.Bytes id first)) (turns.Bytes id second)).actions
+      ≡ (answer_to side log (turns.Bytes id (first ++ second))).actions
 
 -- ---- causes
 
 -- why the driver stops a stream as it is classified: its request is refused, or another stream's is queued
 pub data StoppedFor (side : Side) (log : Log) (classified : List Classified) (stop : Stopped) : Type 0 where
-  IsRefused : is_among (peer_bi side) (peer_count side (events_of log) (peer_bi side)) stop.id ≡ true → bi_verdict_of (contents log stop.id) (end_of (events_of log) stop.id) ≡ verdicts.Refused stop.code → StoppedFor side log classified stop
-  IsSurplus : (headers : Fields) (at : ℕ) (queued : Classified) (later : List Classified) → is_among (peer_bi side) (peer_count side (events_of log) (peer_bi side)) stop.id ≡ true → bi_verdict_of (contents log stop.id) (end_of (events_of log) stop.id) ≡ verdicts.Request headers at
-      → (dispatched_streams (call_view log) classified).requests ≡ queued ∷ later → (queued.id == stop.id) ≡ false → stop.code ≡ h3.RequestRejected → StoppedFor side log classified stop
+  IsRefused : is_among (peer_bi side) (peer_count side (events_of log) (peer_bi side)) stop.id ≡ true
+      → bi_verdict_of (contents log stop.id) (end_of (events_of log) stop.id) ≡ verdicts.Refused stop.code
+      → StoppedFor side log classified stop
+  IsSurplus : (headers : Fields) (at : ℕ) (queued : Classified) (later : List Classified)
+      → is_among (peer_bi side) (peer_count side (events_of log) (peer_bi side)) stop.id ≡ true
+      → bi_verdict_of (contents log stop.id) (end_of (events_of log) stop.id) ≡ verdicts.Request headers at
+      → (dispatched_streams (call_view log) classified).requests ≡ queued ∷ later → (queued.id == stop.id) ≡ false
+      → stop.code ≡ h3.RequestRejected → StoppedFor side log classified stop
 
 -- the log before its newest entry
 abbrev pub before_newest : Log → Log
@@ -256,12 +278,20 @@ before_newest (e ∷ log) = log
 -- the action that the driver sends at a moment: of its control stream, a stop of a stream that was classified at this moment and
 -- not before, or for the end
 pub data DriverCause (side : Side) (log : Log) : Action → Type 0 where
-  OpensControl : unis_allowed (events_of log) ≢ 0 → local_count (actions_of log) (local_uni side) ≡ 0 → DriverCause side log (actions.Opened (local_uni side))
-  SendsControl : (piece : List ℕ) → piece ≡ drop (length (sent_on (actions_of log) (local_uni side))) (take (credit (events_of log) (local_uni side)) local_control_bytes) → DriverCause side log (actions.Send (local_uni side) piece)
-  StopsStream : (stop : Stopped) (v : Verdict) → verdict_of stop.id (stream_table side (before_newest log)).classified ≡ None → verdict_of stop.id (stream_table side log).classified ≡ Some v → StoppedFor side log (stream_table side log).classified stop → DriverCause side log (actions.StopOut stop.id (code_of stop.code))
-  ResetsSession : (code : ℕ) (reason : List ℕ) → (stream_table side log).progress.ending ≡ Some (BySession code reason true) → DriverCause side log (actions.ResetOut (session_id (established_session (calls_of log))) (code_of h3.NoError))
-  ClosesFault : (code : ErrorCode) → (stream_table side log).progress.ending ≡ Some (ByFault code) → DriverCause side log (actions.Close (code_of code) [])
-  ClosesSession : (code : ℕ) (reason : List ℕ) (b : Bool) → (stream_table side log).progress.ending ≡ Some (BySession code reason b) → DriverCause side log (actions.Close (code_of h3.NoError) [])
+  OpensControl : unis_allowed (events_of log) ≢ 0 → local_count (actions_of log) (local_uni side) ≡ 0
+      → DriverCause side log (actions.Opened (local_uni side))
+  SendsControl : (piece : List ℕ)
+      → piece ≡ drop (length (sent_on (actions_of log) (local_uni side))) (take (credit (events_of log) (local_uni side)) local_control_bytes)
+      → DriverCause side log (actions.Send (local_uni side) piece)
+  StopsStream : (stop : Stopped) (v : Verdict) → verdict_of stop.id (stream_table side (before_newest log)).classified ≡ None
+      → verdict_of stop.id (stream_table side log).classified ≡ Some v → StoppedFor side log (stream_table side log).classified stop
+      → DriverCause side log (actions.StopOut stop.id (code_of stop.code))
+  ResetsSession : (code : ℕ) (reason : List ℕ) → (stream_table side log).progress.ending ≡ Some (BySession code reason true)
+      → DriverCause side log (actions.ResetOut (session_id (established_session (calls_of log))) (code_of h3.NoError))
+  ClosesFault : (code : ErrorCode) → (stream_table side log).progress.ending ≡ Some (ByFault code)
+      → DriverCause side log (actions.Close (code_of code) [])
+  ClosesSession : (code : ℕ) (reason : List ℕ) (b : Bool) → (stream_table side log).progress.ending ≡ Some (BySession code reason b)
+      → DriverCause side log (actions.Close (code_of h3.NoError) [])
 
 -- each of these actions has its cause
 abbrev pub DriverCauses : Side → Log → List Action → Type 0
@@ -275,11 +305,12 @@ ReplyHasCause side log turn = (middle : Log) × IsDuring side log turn middle ×
 -- ---- this end's SETTINGS
 
 -- Once a unidirectional stream is allowed, this end's control stream was opened, and its type and SETTINGS are out as far as
--- credit went while the connection was open, also at and behind the moment that ended it; what is out is at every time a prefix
+-- credit went while the connection was open, also at and after the moment that ended it; what is out is at every time a prefix
 -- of them.
 pub record SettingsOut (side : Side) (log : Log) : Type 0 where
   pub opened : nat_lt 0 (unis_allowed (events_of log)) ≡ true → local_count (actions_of log) (local_uni side) ≢ 0
-  pub out : nat_lt 0 (unis_allowed (events_of log)) ≡ true → sent_on (actions_of log) (local_uni side) ≡ take (credit (events_of log) (local_uni side)) local_control_bytes
+  pub out : nat_lt 0 (unis_allowed (events_of log)) ≡ true
+      → sent_on (actions_of log) (local_uni side) ≡ take (credit (events_of log) (local_uni side)) local_control_bytes
   pub prefix : (n : ℕ) × (sent_on (actions_of log) (local_uni side) ≡ take n local_control_bytes)
 
 -- ---- the session's own stream
@@ -296,11 +327,15 @@ is_session_stream side calls k = if is_client side then k == local_bi side else 
 -- the response of a rejection is finished. The stream is never given, so nothing else goes out on it. Nothing goes out on a
 -- stream of the peer's that wasn't given and whose request wasn't delivered.
 pub record SessionStreamOut (side : Side) (before : List Exchange) (log : Log) : Type 0 where
-  pub prefix : (k : ℕ) → is_session_stream side (calls_of log) k ≡ true → (n : ℕ) × (sent_on (actions_of log) k ≡ take n (unwrap_or (session_frame before) []))
-  pub whole : (s at : ℕ) → established_session (calls_of log) ≡ Some (s, at) → (is_session_stream side (calls_of log) s ≡ true) × (session_frame before ≡ Some (sent_on (actions_of log) s))
-  pub rejected : (k : ℕ) → is_session_stream side (calls_of log) k ≡ true → is_finished (actions_of log) k ≡ true → session_frame before ≡ Some (sent_on (actions_of log) k)
+  pub prefix : (k : ℕ) → is_session_stream side (calls_of log) k ≡ true
+      → (n : ℕ) × (sent_on (actions_of log) k ≡ take n (unwrap_or (session_frame before) []))
+  pub whole : (s at : ℕ) → established_session (calls_of log) ≡ Some (s, at)
+      → (is_session_stream side (calls_of log) s ≡ true) × (session_frame before ≡ Some (sent_on (actions_of log) s))
+  pub rejected : (k : ℕ) → is_session_stream side (calls_of log) k ≡ true → is_finished (actions_of log) k ≡ true
+      → session_frame before ≡ Some (sent_on (actions_of log) k)
   pub never_given : (k : ℕ) → is_session_stream side (calls_of log) k ≡ true → is_accepted log k ≡ false
-  pub untouched : (k : ℕ) → is_of_this_end side k ≡ false → is_accepted log k ≡ false → list_any (delivers k) (calls_of log) ≡ false → sent_on (actions_of log) k ≡ []
+  pub untouched : (k : ℕ) → is_of_this_end side k ≡ false → is_accepted log k ≡ false → list_any (delivers k) (calls_of log) ≡ false
+      → sent_on (actions_of log) k ≡ []
 
 -- ---- sending
 
@@ -323,7 +358,8 @@ is_stream_of (Some s) k = s.0 == k
 
 -- the head of the stream is out: it was given, or it is the established session's, or the response of a rejection is finished on it
 abbrev pub is_head_out : Side → Log → ℕ → Bool
-is_head_out side log k = is_accepted log k || (is_stream_of (established_session (calls_of log)) k || (is_session_stream side (calls_of log) k && is_finished (actions_of log) k))
+is_head_out side log k = is_accepted log k
+    || (is_stream_of (established_session (calls_of log)) k || (is_session_stream side (calls_of log) k && is_finished (actions_of log) k))
 
 -- From where its head is out, exactly what writes accept goes out on a stream.
 abbrev pub SendsInOrder : Side → Log → Turn → Type 0
@@ -353,12 +389,13 @@ head_of side k session = if is_of_this_end side k then stream_header k session e
 -- What is out on a stream that was given is its head, followed by all bytes that writes accepted.
 abbrev pub SendsAll : Side → List Exchange → Log → Type 0
 SendsAll side before log =
-    (k s at : ℕ) → k ≢ local_uni side → is_accepted log k ≡ true → established_session (calls_of log) ≡ Some (s, at) → sent_on (actions_of log) k ≡ head_of side k s ++ written_on k before
+    (k s at : ℕ) → k ≢ local_uni side → is_accepted log k ≡ true → established_session (calls_of log) ≡ Some (s, at)
+    → sent_on (actions_of log) k ≡ head_of side k s ++ written_on k before
 
 -- ---- what a call sends goes out, once
 
--- Behind the log the call sends this action and nothing else, and leaves this record; what the driver sends at the record stands
--- behind it.
+-- After the log the call sends this action and nothing else, and leaves this record; what the driver sends at the record stands
+-- after it.
 abbrev pub GoesOut : Side → Log → Turn → Action → CallRecord → Type 0
 GoesOut side log turn a r = log_after side log turn ≡ log_call side log (a ∷ []) r
 
@@ -367,12 +404,19 @@ GoesOut side log turn a r = log_after side log turn ≡ log_call side log (a ∷
 -- proceed dials it.
 pub record TakenGoesOut (side : Side) (log : Log) : Type 0 where
   pub datagram : (payload : List ℕ) → (answer_to side log (turns.Call (calls.SendDatagram payload))).reply ≡ replies.Done
-      → (s : ℕ) × (at : ℕ) × (established_session (calls_of log) ≡ Some (s, at)) × GoesOut side log (turns.Call (calls.SendDatagram payload)) (actions.DatagramOut (datagram_bytes (s / 4) payload)) Polled
-  pub close : (code : ℕ) (reason : List ℕ) → is_open log ≡ true → (answer_to side log (turns.Call (calls.Close code reason))).reply ≡ replies.Done → GoesOut side log (turns.Call (calls.Close code reason)) (actions.Close code reason) Polled
-  pub endpoint_close : (code : ℕ) (reason : List ℕ) → is_open log ≡ true → GoesOut side log (turns.Call (calls.EndpointClose code reason)) (actions.Close code reason) Polled
-  pub reset : (k code : ℕ) → is_open log ≡ true → (answer_to side log (turns.Call (calls.ResetSend k code))).reply ≡ replies.Done → GoesOut side log (turns.Call (calls.ResetSend k code)) (actions.ResetOut k code) Polled
-  pub stop : (k code : ℕ) → is_open log ≡ true → (answer_to side log (turns.Call (calls.StopRecv k code))).reply ≡ replies.Done → GoesOut side log (turns.Call (calls.StopRecv k code)) (actions.StopOut k code) (StreamGivenUp k)
-  pub finish : (k : ℕ) → has_sending_half side log k ≡ true → is_open log ≡ true → is_finished (actions_of log) k ≡ false → is_reset log k ≡ false → stop_of (events_of log) k ≡ None
+      → (s : ℕ) × (at : ℕ) × (established_session (calls_of log) ≡ Some (s, at))
+      × GoesOut side log (turns.Call (calls.SendDatagram payload)) (actions.DatagramOut (datagram_bytes (s / 4) payload)) Polled
+  pub close : (code : ℕ) (reason : List ℕ) → is_open log ≡ true
+      → (answer_to side log (turns.Call (calls.Close code reason))).reply ≡ replies.Done
+      → GoesOut side log (turns.Call (calls.Close code reason)) (actions.Close code reason) Polled
+  pub endpoint_close : (code : ℕ) (reason : List ℕ) → is_open log ≡ true
+      → GoesOut side log (turns.Call (calls.EndpointClose code reason)) (actions.Close code reason) Polled
+  pub reset : (k code : ℕ) → is_open log ≡ true → (answer_to side log (turns.Call (calls.ResetSend k code))).reply ≡ replies.Done
+      → GoesOut side log (turns.Call (calls.ResetSend k code)) (actions.ResetOut k code) Polled
+  pub stop : (k code : ℕ) → is_open log ≡ true → (answer_to side log (turns.Call (calls.StopRecv k code))).reply ≡ replies.Done
+      → GoesOut side log (turns.Call (calls.StopRecv k code)) (actions.StopOut k code) (StreamGivenUp k)
+  pub finish : (k : ℕ) → has_sending_half side log k ≡ true → is_open log ≡ true → is_finished (actions_of log) k ≡ false
+      → is_reset log k ≡ false → stop_of (events_of log) k ≡ None
       → GoesOut side log (turns.Call (calls.Finish k)) (actions.Finish k) Polled
   pub opening : (turn : Turn) (kind k : ℕ) → opened_kind side turn ≡ Some kind → (answer_to side log turn).reply ≡ replies.Opening k
       → (s : ℕ) × (at : ℕ) × (established_session (calls_of log) ≡ Some (s, at)) × GoesOut side log turn (actions.Opened k) (OpeningStarted k s)
@@ -384,7 +428,11 @@ pub record TakenGoesOut (side : Side) (log : Log) : Type 0 where
 -- Nothing goes out on such a stream before it is opened. Until it is given, a prefix of its header went out on it, also where its
 -- opening failed and it never is; from then on, its header and what follows.
 pub record HeadersOut (side : Side) (log : Log) : Type 0 where
-  pub unopened : (k : ℕ) → is_of_this_end side k ≡ true → k ≢ local_uni side → local_count (actions_of log) (k % 4) ≤ k / 4 → sent_on (actions_of log) k ≡ []
-  pub ungiven : (k s at : ℕ) → list_any (starts_opening k) (calls_of log) ≡ true → is_accepted log k ≡ false → established_session (calls_of log) ≡ Some (s, at) → (n : ℕ) × (sent_on (actions_of log) k ≡ take n (stream_header k s))
-  pub begun : (k s at : ℕ) → is_opening log k ≡ true → established_session (calls_of log) ≡ Some (s, at) → (n : ℕ) × (sent_on (actions_of log) k ≡ take n (stream_header k s))
-  pub whole : (k s at : ℕ) → is_of_this_end side k ≡ true → is_accepted log k ≡ true → established_session (calls_of log) ≡ Some (s, at) → (rest : List ℕ) × (sent_on (actions_of log) k ≡ stream_header k s ++ rest)
+  pub unopened : (k : ℕ) → is_of_this_end side k ≡ true → k ≢ local_uni side → local_count (actions_of log) (k % 4) ≤ k / 4
+      → sent_on (actions_of log) k ≡ []
+  pub ungiven : (k s at : ℕ) → list_any (starts_opening k) (calls_of log) ≡ true → is_accepted log k ≡ false
+      → established_session (calls_of log) ≡ Some (s, at) → (n : ℕ) × (sent_on (actions_of log) k ≡ take n (stream_header k s))
+  pub begun : (k s at : ℕ) → is_opening log k ≡ true → established_session (calls_of log) ≡ Some (s, at)
+      → (n : ℕ) × (sent_on (actions_of log) k ≡ take n (stream_header k s))
+  pub whole : (k s at : ℕ) → is_of_this_end side k ≡ true → is_accepted log k ≡ true → established_session (calls_of log) ≡ Some (s, at)
+      → (rest : List ℕ) × (sent_on (actions_of log) k ≡ stream_header k s ++ rest)

@@ -37,16 +37,24 @@ is_without_session replies.Rejected = true
 is_without_session (replies.ConnectFailed e) = true
 is_without_session _ = false
 
--- What a call did stands in the log behind it, where later answers look for it: a stream that it began to open, or whose opening
+-- What a call did stands in the log after it, where later answers look for it: a stream that it began to open, or whose opening
 -- failed; a half that it gave up or reset; a priority that it set; and where its handshake is.
 pub record LeavesRecord (side : Side) (log : Log) (turn : Turn) : Type 0 where
-  pub opening : (k : ℕ) → (answer_to side log turn).reply ≡ replies.Opening k → list_any (starts_opening k) (calls_of (log_after side log turn)) ≡ true
-  pub failed : (k : ℕ) (e : StreamOpeningError) → turn ≡ turns.Call (calls.PollOpening k) → (answer_to side log turn).reply ≡ replies.OpeningFailed e → is_opening (log_after side log turn) k ≡ false
-  pub given_up : (k code : ℕ) → turn ≡ turns.Call (calls.StopRecv k code) → (answer_to side log turn).reply ≡ replies.Done → has_receiving_half side (log_after side log turn) k ≡ false
-  pub reset : (k code : ℕ) → turn ≡ turns.Call (calls.ResetSend k code) → (answer_to side log turn).reply ≡ replies.Done → is_reset (log_after side log turn) k ≡ true
-  pub priority : (k : ℕ) (p : ℤ) → turn ≡ turns.Call (calls.SetPriority k p) → has_sending_half side log k ≡ true → is_done log k ≡ false → priority_of (calls_of (log_after side log turn)) k ≡ p
-  pub responding : (call : Call) (accepts : Bool) (head : List ℕ) → turn ≡ turns.Call call → response_by (handshake_state (calls_of log)) call ≡ Some (accepts, head) → (answer_to side log turn).reply ≡ replies.Pending
+  pub opening : (k : ℕ) → (answer_to side log turn).reply ≡ replies.Opening k
+      → list_any (starts_opening k) (calls_of (log_after side log turn)) ≡ true
+  pub failed : (k : ℕ) (e : StreamOpeningError) → turn ≡ turns.Call (calls.PollOpening k)
+      → (answer_to side log turn).reply ≡ replies.OpeningFailed e → is_opening (log_after side log turn) k ≡ false
+  pub given_up : (k code : ℕ) → turn ≡ turns.Call (calls.StopRecv k code) → (answer_to side log turn).reply ≡ replies.Done
+      → has_receiving_half side (log_after side log turn) k ≡ false
+  pub reset : (k code : ℕ) → turn ≡ turns.Call (calls.ResetSend k code) → (answer_to side log turn).reply ≡ replies.Done
+      → is_reset (log_after side log turn) k ≡ true
+  pub priority : (k : ℕ) (p : ℤ) → turn ≡ turns.Call (calls.SetPriority k p) → has_sending_half side log k ≡ true → is_done log k ≡ false
+      → priority_of (calls_of (log_after side log turn)) k ≡ p
+  pub responding : (call : Call) (accepts : Bool) (head : List ℕ) → turn ≡ turns.Call call
+      → response_by (handshake_state (calls_of log)) call ≡ Some (accepts, head) → (answer_to side log turn).reply ≡ replies.Pending
       → handshake_state (calls_of (log_after side log turn)) ≡ Responding accepts head
   pub connecting : (to : ConnectTo turn) → (answer_to side log turn).reply ≡ replies.Pending
-      → handshake_state (calls_of (log_after side log turn)) ≡ Connecting (reserved_name to.headers) (request_head (authority_of to.url) (path_of to.url) to.headers)
-  pub over : is_handshake_call turn ≡ true → is_without_session (answer_to side log turn).reply ≡ true → handshake_state (calls_of (log_after side log turn)) ≡ Over
+      → handshake_state (calls_of (log_after side log turn))
+      ≡ Connecting (reserved_name to.headers) (request_head (authority_of to.url) (path_of to.url) to.headers)
+  pub ends_handshake : is_handshake_call turn ≡ true → is_without_session (answer_to side log turn).reply ≡ true
+      → handshake_state (calls_of (log_after side log turn)) ≡ Over

@@ -19,7 +19,7 @@ use Rattle.wt_wire.specs.declared.lookup.Lookup.{Lookup}
 use Rattle.wt_wire.specs.declared.side.Side.{Side}
 use Rattle.wt_laws.specs.Causes.{FoundDatagram, FoundStream, accepted_kind, is_accept}
 use Rattle.wt_laws.specs.Laws.{IsDuring, is_left_for}
-use Rattle.wt_laws.specs.Told.{given_stream}
+use Rattle.wt_laws.specs.ReplyTells.{given_stream}
 use Rattle.wt_spec.specs.Answers.{answer_to}
 use Rattle.wt_spec.specs.Connect.{address_of, outcome_error, port_of}
 use Rattle.wt_spec.specs.Connection.{is_opening, next_datagram, next_due, pass_stream, stream_header}
@@ -52,12 +52,13 @@ lacks_stream side log = local_count (actions_of log) (local_bi side) == 0 && not
 
 -- nothing of the response is known yet
 abbrev pub is_waiting : ResponseWalk → Bool
-is_waiting responses.Waiting = true
+is_waiting responses.Incomplete = true
 is_waiting _ = false
 
 -- the request is out, or goes out now, and nothing of its response is known
 abbrev pub lacks_response : Side → Log → List ℕ → Bool
-lacks_response side log rest = not (is_refused log (local_bi side) rest) && is_waiting (response_walk_of (contents log (local_bi side)) (end_of (events_of log) (local_bi side)))
+lacks_response side log rest = not (is_refused log (local_bi side) rest)
+    && is_waiting (response_walk_of (contents log (local_bi side)) (end_of (events_of log) (local_bi side)))
 
 -- the request waits for a stream, for credit, or for its response
 abbrev pub request_waits : Side → Log → List ℕ → Bool
@@ -66,7 +67,8 @@ request_waits side log rest = lacks_stream side log || (lacks_credit log (local_
 -- a connect waits for its connection, for the peer's SETTINGS, or as its request does, which no reserved name hinders
 abbrev pub connect_waits : Side → Log → Option (List ℕ) → List ℕ → Bool
 connect_waits side log reserved head =
-    not (is_connected (events_of log)) || (not (settings_came side log) || (not (is_some reserved) && request_waits side log (head_left log (local_bi side) head)))
+    not (is_connected (events_of log))
+    || (not (settings_came side log) || (not (is_some reserved) && request_waits side log (head_left log (local_bi side) head)))
 
 -- a response is out, and the peer stopped the stream or has all of it
 abbrev pub is_response_over : Log → ℕ → Bool
@@ -112,8 +114,8 @@ abbrev pub write_waits : Log → ℕ → List ℕ → Bool
 write_waits log k bytes = not (is_some (write_error log k)) && (not (is_empty bytes) && is_empty (bytes_within_credit log k bytes))
 
 -- the sending half goes on: the peer didn't stop it, and it isn't done
-abbrev pub goes_on : Log → ℕ → Bool
-goes_on log k = not (is_some (stop_of (events_of log) k)) && not (is_done log k)
+abbrev pub still_going : Log → ℕ → Bool
+still_going log k = not (is_some (stop_of (events_of log) k)) && not (is_done log k)
 
 -- Nothing is left for the call, at this log.
 abbrev pub has_nothing_left : Side → Turn → Log → Bool
@@ -129,11 +131,12 @@ has_nothing_left side (turns.Call calls.AcceptBi) log = has_no_stream side log (
 has_nothing_left side (turns.Call calls.ReceiveDatagram) log = of_session (λ s. not (is_some (next_datagram side log))) (established_session (calls_of log))
 has_nothing_left side (turns.Call calls.OpenUni) log = has_no_credit side log (local_uni side)
 has_nothing_left side (turns.Call calls.OpenBi) log = has_no_credit side log (local_bi side)
-has_nothing_left side (turns.Call (calls.PollOpening id)) log = of_session (λ s. is_opening log id && lacks_credit log id (head_left log id (stream_header id s))) (established_session (calls_of log))
+has_nothing_left side (turns.Call (calls.PollOpening id)) log = of_session (λ s. is_opening log id
+    && lacks_credit log id (head_left log id (stream_header id s))) (established_session (calls_of log))
 has_nothing_left side (turns.Call calls.Closed) log = of_session (λ s. true) (established_session (calls_of log))
 has_nothing_left side (turns.Call (calls.Write id bytes)) log = has_sending_half side log id && write_waits log id bytes
-has_nothing_left side (turns.Call (calls.Finish id)) log = has_sending_half side log id && goes_on log id
-has_nothing_left side (turns.Call (calls.Stopped id)) log = has_sending_half side log id && goes_on log id
+has_nothing_left side (turns.Call (calls.Finish id)) log = has_sending_half side log id && still_going log id
+has_nothing_left side (turns.Call (calls.Stopped id)) log = has_sending_half side log id && still_going log id
 has_nothing_left side (turns.Call (calls.Read id size)) log =
     has_receiving_half side log id && (not (size == 0) && (is_empty (unread_body side log id) && is_running (end_of (events_of log) id)))
 has_nothing_left side (turns.Call (calls.ReadExact id size)) log =
@@ -150,8 +153,10 @@ is_pending _ = false
 -- by passing streams and datagrams of other sessions a call comes from one log to another
 pub data PassesTo (side : Side) (turn : Turn) (middle : Log) : Log → Type 0 where
   PassesNone : PassesTo side turn middle middle
-  PassesStream : {log : Log} (k : ℕ) → FoundStream side turn log k false → PassesTo side turn middle (pass_stream side log k) → PassesTo side turn middle log
-  PassesDatagram : {log : Log} → FoundDatagram side turn log false → PassesTo side turn middle (log_call side log [] DatagramPassed) → PassesTo side turn middle log
+  PassesStream : {log : Log} (k : ℕ) → FoundStream side turn log k false → PassesTo side turn middle (pass_stream side log k)
+      → PassesTo side turn middle log
+  PassesDatagram : {log : Log} → FoundDatagram side turn log false → PassesTo side turn middle (log_call side log [] DatagramPassed)
+      → PassesTo side turn middle log
 
 -- the reply of an accept where it decides: the stream that is due, or that there is none
 abbrev pub stream_reply : Side → Log → (ℕ → Reply) → Option Classified → Reply
@@ -175,7 +180,7 @@ passing_reply side (turns.Call calls.AcceptBi) log = Some (session_reply (λ s. 
 passing_reply side (turns.Call calls.ReceiveDatagram) log = Some (session_reply (λ s. datagram_reply side log (next_datagram side log)) (established_session (calls_of log)))
 passing_reply side _ log = None
 
--- Behind what it passes, at the log in the turn at which it decides, a call is answered Pending exactly where nothing is left for it
+-- After what it passes, at the log in the turn at which it decides, a call is answered Pending exactly where nothing is left for it
 -- and the connection is open. Only accepts and receives pass anything; where they decide they give what is next. Where an accept
 -- gives no stream, no classified one of its kind and of the session is left: an accept gave each, or passed it.
 pub record PendingExactly (side : Side) (log : Log) (turn : Turn) : Type 0 where
@@ -186,5 +191,6 @@ pub record PendingExactly (side : Side) (log : Log) (turn : Turn) : Type 0 where
   pub no_datagram : FoundDatagram side turn decided false → ⊥
   pub exactly : is_pending (answer_to side log turn).reply ≡ (is_open decided && has_nothing_left side turn decided)
   pub gives : (r : Reply) → passing_reply side turn decided ≡ Some r → (answer_to side log turn).reply ≡ r
-  pub none_left : (session at : ℕ) → is_accept turn ≡ true → given_stream (answer_to side log turn).reply ≡ None → established_session (calls_of decided) ≡ Some (session, at)
+  pub none_left : (session at : ℕ) → is_accept turn ≡ true → given_stream (answer_to side log turn).reply ≡ None
+      → established_session (calls_of decided) ≡ Some (session, at)
       → list_any (is_left_for decided (accepted_kind side turn) session) (stream_table side decided).classified ≡ false

@@ -2,7 +2,7 @@ pub mod Causes
 pub mod ReplyCauses
 pub mod RecordCauses
 pub mod Reachable
-pub mod Told
+pub mod ReplyTells
 pub mod Left
 pub mod Datagrams
 pub mod Runs

@@ -21,7 +21,7 @@ pub record Exchange : Type 0 where
   pub turn : Turn
   pub answer : Answer
 
--- the turns with their answers, the newest first, behind those before
+-- the turns with their answers, the newest first, after those before
 abbrev pub exchanges_from : Side → Log → List Exchange → List Turn → List Exchange
 exchanges_from side log before [] = before
 exchanges_from side log before (turn ∷ later) = exchanges_from side (log_after side log turn) (record { turn = turn; answer = answer_to side log turn } ∷ before) later

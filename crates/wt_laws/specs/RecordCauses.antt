@@ -26,7 +26,7 @@ use Rattle.wt_turn.specs.declared.turn.Turn.TheVariants as turns
 
 -- the call asks for a request, and this is the stream of the first that is queued
 pub record DeliverCause (side : Side) (turn : Turn) (log : Log) (k : ℕ) : Type 0 where
-  pub asks : turn ≡ turns.Call calls.Incoming
+  pub asking : turn ≡ turns.Call calls.Incoming
   pub by_server : is_client side ≡ false
   pub under_way : handshake_state (calls_of log) ≡ AwaitingRequest
   pub queued : Classified
@@ -51,7 +51,9 @@ pub record ConnectCause (side : Side) (turn : Turn) (log : Log) (reserved : Opti
 pub data OverCause (side : Side) (turn : Turn) (log : Log) : Type 0 where
   NoMoreRequests : turn ≡ turns.Call calls.Incoming → queued_requests side log ≡ [] → is_open log ≡ false → OverCause side turn log
   AcceptanceEnded : (head : List ℕ) → ResponseFrom turn (calls_of log) true head → is_open log ≡ false → OverCause side turn log
-  AcceptanceStopped : (head : List ℕ) → ResponseFrom turn (calls_of log) true head → is_refused log (requested_stream (calls_of log)) (head_left log (requested_stream (calls_of log)) head) ≡ true → OverCause side turn log
+  AcceptanceStopped : (head : List ℕ) → ResponseFrom turn (calls_of log) true head
+      → is_refused log (requested_stream (calls_of log)) (head_left log (requested_stream (calls_of log)) head) ≡ true
+      → OverCause side turn log
   RejectionEnded : RejectedCause side turn log → OverCause side turn log
   ConnectEnded : (e : ConnectingError) → ConnectFailedCause side turn log e → OverCause side turn log
 
@@ -69,8 +71,8 @@ pub record OverBy (side : Side) (turn : Turn) (log : Log) : Type 0 where
 -- which was allowed
 pub record OpeningCause (side : Side) (turn : Turn) (log : Log) (k session : ℕ) : Type 0 where
   pub opens : opened_kind side turn ≡ Some (k % 4)
-  pub at : ℕ
-  pub is_established : established_session (calls_of log) ≡ Some (session, at)
+  pub offset : ℕ
+  pub is_established : established_session (calls_of log) ≡ Some (session, offset)
   pub earlier : Log
   pub sent : log ≡ Sent (actions.Opened k) ∷ earlier
   pub allowed : may_open side earlier (k % 4) ≡ true
@@ -79,7 +81,9 @@ pub record OpeningCause (side : Side) (turn : Turn) (log : Log) (k session : ℕ
 -- why an opening fails, which the call polls: the connection ended, or the peer stopped the stream before its header was out
 pub data OpeningOver (side : Side) (turn : Turn) (log : Log) (k : ℕ) : Type 0 where
   AtEnd : polls_opening k turn ≡ true → is_opening log k ≡ true → is_open log ≡ false → OpeningOver side turn log k
-  HeaderStopped : (session at : ℕ) → polls_opening k turn ≡ true → is_opening log k ≡ true → established_session (calls_of log) ≡ Some (session, at) → is_refused log k (head_left log k (stream_header k session)) ≡ true → OpeningOver side turn log k
+  HeaderStopped : (session at : ℕ) → polls_opening k turn ≡ true → is_opening log k ≡ true
+      → established_session (calls_of log) ≡ Some (session, at) → is_refused log k (head_left log k (stream_header k session)) ≡ true
+      → OpeningOver side turn log k
 
 -- why so many bytes of a stream count as read: the call reads it, asks for no fewer, and they came and weren't read before
 pub record ReadCause (side : Side) (turn : Turn) (log : Log) (k count : ℕ) : Type 0 where
@@ -97,7 +101,8 @@ RecordCause side turn log (StreamPassed k) = FoundStream side turn log k false
 RecordCause side turn log DatagramReceived = FoundDatagram side turn log true
 RecordCause side turn log DatagramPassed = FoundDatagram side turn log false
 RecordCause side turn log (RequestDelivered k) = DeliverCause side turn log k
-RecordCause side turn log (ResponseStarted accepts head) = ResponseFrom turn (calls_of log) accepts head × (id : ℕ) × (handshake_state (calls_of log) ≡ Requested id)
+RecordCause side turn log (ResponseStarted accepts head) = ResponseFrom turn (calls_of log) accepts head × (id : ℕ)
+    × (handshake_state (calls_of log) ≡ Requested id)
 RecordCause side turn log (ConnectStarted reserved head) = ConnectCause side turn log reserved head
 RecordCause side turn log (SessionEstablished id at) = EstablishedBy side turn log id at
 RecordCause side turn log HandshakeOver = OverBy side turn log
@@ -105,8 +110,10 @@ RecordCause side turn log (OpeningStarted k session) = OpeningCause side turn lo
 RecordCause side turn log (OpeningFailed k) = OpeningOver side turn log k
 RecordCause side turn log (BytesRead k count) = ReadCause side turn log k count
 RecordCause side turn log (StreamGivenUp k) = (code : ℕ) × (turn ≡ turns.Call (calls.StopRecv k code)) × (has_receiving_half side log k ≡ true)
-RecordCause side turn log (ResetUnsent k code) = (turn ≡ turns.Call (calls.ResetSend k code)) × (has_sending_half side log k ≡ true) × (is_done log k ≡ false) × (is_open log ≡ false)
-RecordCause side turn log (PrioritySet k priority) = (turn ≡ turns.Call (calls.SetPriority k priority)) × (has_sending_half side log k ≡ true) × (is_done log k ≡ false)
+RecordCause side turn log (ResetUnsent k code) = (turn ≡ turns.Call (calls.ResetSend k code)) × (has_sending_half side log k ≡ true)
+    × (is_done log k ≡ false) × (is_open log ≡ false)
+RecordCause side turn log (PrioritySet k priority) = (turn ≡ turns.Call (calls.SetPriority k priority))
+    × (has_sending_half side log k ≡ true) × (is_done log k ≡ false)
 RecordCause side turn log Polled = is_call turn ≡ true
 
 -- an opening opens the next stream of its kind

@@ -88,32 +88,48 @@ waits_for_end _ = None
 
 -- whose head the call sends: a response's, the request's of the connect that is under way, or an opened stream's
 pub data HeadFor (side : Side) (turn : Turn) (log : Log) (k : ℕ) (head : List ℕ) : Type 0 where
-  OfTheResponse : (accepts : Bool) → ResponseFrom turn (calls_of log) accepts head → k ≡ requested_stream (calls_of log) → HeadFor side turn log k head
-  OfTheRequest : (reserved : Option (List ℕ)) → turn ≡ turns.Call calls.Handshake → handshake_state (calls_of log) ≡ Connecting reserved head → k ≡ local_bi side → HeadFor side turn log k head
-  OfTheStream : (session at : ℕ) → polls_opening k turn ≡ true → is_opening log k ≡ true → established_session (calls_of log) ≡ Some (session, at) → head ≡ stream_header k session → HeadFor side turn log k head
+  OfTheResponse : (accepts : Bool) → ResponseFrom turn (calls_of log) accepts head → k ≡ requested_stream (calls_of log)
+      → HeadFor side turn log k head
+  OfTheRequest : (reserved : Option (List ℕ)) → turn ≡ turns.Call calls.Handshake
+      → handshake_state (calls_of log) ≡ Connecting reserved head → k ≡ local_bi side → HeadFor side turn log k head
+  OfTheStream : (session at : ℕ) → polls_opening k turn ≡ true → is_opening log k ≡ true
+      → established_session (calls_of log) ≡ Some (session, at) → head ≡ stream_header k session → HeadFor side turn log k head
 
 -- what the call can still give isn't there
 pub data PendingCause (side : Side) (turn : Turn) (log : Log) : Type 0 where
-  Dialling : (text : List ℕ) (headers : Fields) (lookup : Lookup) (outcome : ConnectOutcome) → turn ≡ turns.Call (calls.Connect (text, headers) lookup outcome) → PendingCause side turn log
-  NoConnection : (reserved : Option (List ℕ)) (head : List ℕ) → turn ≡ turns.Call calls.Handshake → handshake_state (calls_of log) ≡ Connecting reserved head → is_connected (events_of log) ≡ false → PendingCause side turn log
-  NoSettings : (reserved : Option (List ℕ)) (head : List ℕ) → turn ≡ turns.Call calls.Handshake → handshake_state (calls_of log) ≡ Connecting reserved head → settings_came side log ≡ false → PendingCause side turn log
+  Dialling : (text : List ℕ) (headers : Fields) (lookup : Lookup) (outcome : ConnectOutcome)
+      → turn ≡ turns.Call (calls.Connect (text, headers) lookup outcome) → PendingCause side turn log
+  NoConnection : (reserved : Option (List ℕ)) (head : List ℕ) → turn ≡ turns.Call calls.Handshake
+      → handshake_state (calls_of log) ≡ Connecting reserved head → is_connected (events_of log) ≡ false → PendingCause side turn log
+  NoSettings : (reserved : Option (List ℕ)) (head : List ℕ) → turn ≡ turns.Call calls.Handshake
+      → handshake_state (calls_of log) ≡ Connecting reserved head → settings_came side log ≡ false → PendingCause side turn log
   NoRequest : turn ≡ turns.Call calls.Incoming → queued_requests side log ≡ [] → PendingCause side turn log
   NoStreamToOpen : (kind : ℕ) → opened_kind side turn ≡ Some kind → may_open side log kind ≡ false → PendingCause side turn log
-  NoSessionStream : (reserved : Option (List ℕ)) (head : List ℕ) → turn ≡ turns.Call calls.Handshake → handshake_state (calls_of log) ≡ Connecting reserved head → local_count (actions_of log) (local_bi side) ≡ 0
+  NoSessionStream : (reserved : Option (List ℕ)) (head : List ℕ) → turn ≡ turns.Call calls.Handshake
+      → handshake_state (calls_of log) ≡ Connecting reserved head → local_count (actions_of log) (local_bi side) ≡ 0
       → may_open side log (local_bi side) ≡ false → PendingCause side turn log
-  HeadUnsent : (k : ℕ) (head : List ℕ) → HeadFor side turn log k head → is_covered log k (head_left log k head) ≡ false → stop_of (events_of log) k ≡ None → PendingCause side turn log
-  NoWriteCredit : (k : ℕ) (bytes : List ℕ) → turn ≡ turns.Call (calls.Write k bytes) → write_error log k ≡ None → is_empty bytes ≡ false → bytes_within_credit log k bytes ≡ [] → PendingCause side turn log
-  NoResponse : (reserved : Option (List ℕ)) (head : List ℕ) → turn ≡ turns.Call calls.Handshake → handshake_state (calls_of log) ≡ Connecting reserved head
-      → response_walk_of (contents log (local_bi side)) (end_of (events_of log) (local_bi side)) ≡ responses.Waiting → PendingCause side turn log
-  Finishing : (head : List ℕ) → ResponseFrom turn (calls_of log) false head → is_covered log (requested_stream (calls_of log)) (head_left log (requested_stream (calls_of log)) head) ≡ true
+  HeadUnsent : (k : ℕ) (head : List ℕ) → HeadFor side turn log k head → is_covered log k (head_left log k head) ≡ false
+      → stop_of (events_of log) k ≡ None → PendingCause side turn log
+  NoWriteCredit : (k : ℕ) (bytes : List ℕ) → turn ≡ turns.Call (calls.Write k bytes) → write_error log k ≡ None → is_empty bytes ≡ false
+      → bytes_within_credit log k bytes ≡ [] → PendingCause side turn log
+  NoResponse : (reserved : Option (List ℕ)) (head : List ℕ) → turn ≡ turns.Call calls.Handshake
+      → handshake_state (calls_of log) ≡ Connecting reserved head
+      → response_walk_of (contents log (local_bi side)) (end_of (events_of log) (local_bi side)) ≡ responses.Incomplete → PendingCause side turn log
+  Finishing : (head : List ℕ) → ResponseFrom turn (calls_of log) false head
+      → is_covered log (requested_stream (calls_of log)) (head_left log (requested_stream (calls_of log)) head) ≡ true
       → is_finished (actions_of log) (requested_stream (calls_of log)) ≡ false → PendingCause side turn log
-  Unacknowledged : (head : List ℕ) → ResponseFrom turn (calls_of log) false head → is_finished (actions_of log) (requested_stream (calls_of log)) ≡ true → stop_of (events_of log) (requested_stream (calls_of log)) ≡ None
+  Unacknowledged : (head : List ℕ) → ResponseFrom turn (calls_of log) false head
+      → is_finished (actions_of log) (requested_stream (calls_of log)) ≡ true
+      → stop_of (events_of log) (requested_stream (calls_of log)) ≡ None
       → is_acknowledged (events_of log) (requested_stream (calls_of log)) ≡ false → PendingCause side turn log
-  NoStreamLeft : (session at : ℕ) → is_accept turn ≡ true → established_session (calls_of log) ≡ Some (session, at) → next_due side log (accepted_kind side turn) session ≡ None → PendingCause side turn log
+  NoStreamLeft : (session at : ℕ) → is_accept turn ≡ true → established_session (calls_of log) ≡ Some (session, at)
+      → next_due side log (accepted_kind side turn) session ≡ None → PendingCause side turn log
   NoDatagramLeft : is_receive turn ≡ true → next_datagram side log ≡ None → PendingCause side turn log
   NotEnded : (k : ℕ) → waits_for_end turn ≡ Some k → stop_of (events_of log) k ≡ None → is_done log k ≡ false → PendingCause side turn log
-  NothingUnread : (k size : ℕ) → turn ≡ turns.Call (calls.Read k size) → (size == 0) ≡ false → unread_body side log k ≡ [] → end_of (events_of log) k ≡ ends.Running → PendingCause side turn log
-  TooFewUnread : (k size : ℕ) → turn ≡ turns.Call (calls.ReadExact k size) → nat_lt (length (unread_body side log k)) size ≡ true → end_of (events_of log) k ≡ ends.Running → PendingCause side turn log
+  NothingUnread : (k size : ℕ) → turn ≡ turns.Call (calls.Read k size) → (size == 0) ≡ false → unread_body side log k ≡ []
+      → end_of (events_of log) k ≡ ends.Running → PendingCause side turn log
+  TooFewUnread : (k size : ℕ) → turn ≡ turns.Call (calls.ReadExact k size) → nat_lt (length (unread_body side log k)) size ≡ true
+      → end_of (events_of log) k ≡ ends.Running → PendingCause side turn log
   NotClosed : turn ≡ turns.Call calls.Closed → PendingCause side turn log
 
 -- the turn asks for the session request
@@ -124,30 +140,48 @@ is_incoming _ = false
 -- the connection ended, told as the driver or as the transport does, by the call; or the peer stopped the response before it
 -- was out
 pub data FailedCause (side : Side) (turn : Turn) (log : Log) (e : ConnectionError) : Type 0 where
-  AsDriver : (is_accept turn || is_receive turn || is_incoming turn) ≡ true → is_open log ≡ false → e ≡ driver_error side log → FailedCause side turn log e
+  AsDriver : (is_accept turn || is_receive turn || is_incoming turn) ≡ true → is_open log ≡ false → e ≡ driver_error side log
+      → FailedCause side turn log e
   AtOpening : (kind : ℕ) → opened_kind side turn ≡ Some kind → is_open log ≡ false → e ≡ transport_error log → FailedCause side turn log e
-  AtResponse : (head : List ℕ) → ResponseFrom turn (calls_of log) true head → is_open log ≡ false → e ≡ transport_error log → FailedCause side turn log e
-  ByStop : (head : List ℕ) → ResponseFrom turn (calls_of log) true head → is_refused log (requested_stream (calls_of log)) (head_left log (requested_stream (calls_of log)) head) ≡ true
+  AtResponse : (head : List ℕ) → ResponseFrom turn (calls_of log) true head → is_open log ≡ false → e ≡ transport_error log
+      → FailedCause side turn log e
+  ByStop : (head : List ℕ) → ResponseFrom turn (calls_of log) true head
+      → is_refused log (requested_stream (calls_of log)) (head_left log (requested_stream (calls_of log)) head) ≡ true
       → e ≡ errors.LocalH3Error h3.ClosedCriticalStream → FailedCause side turn log e
 
 -- a step of the connect failed: of the call that begins it, or of one that goes on with it
 pub data ConnectFailedCause (side : Side) (turn : Turn) (log : Log) (e : ConnectingError) : Type 0 where
-  NoUrl : (text : List ℕ) (headers : Fields) (lookup : Lookup) (outcome : ConnectOutcome) (fault : ParseError) → turn ≡ turns.Call (calls.Connect (text, headers) lookup outcome)
+  NoUrl : (text : List ℕ) (headers : Fields) (lookup : Lookup) (outcome : ConnectOutcome) (fault : ParseError)
+      → turn ≡ turns.Call (calls.Connect (text, headers) lookup outcome)
       → parse_url None text ≡ Err fault → e ≡ connects.InvalidUrl refusals.Parse → ConnectFailedCause side turn log e
-  NotHttps : (text : List ℕ) (headers : Fields) (lookup : Lookup) (outcome : ConnectOutcome) (url : Parts) → turn ≡ turns.Call (calls.Connect (text, headers) lookup outcome)
+  NotHttps : (text : List ℕ) (headers : Fields) (lookup : Lookup) (outcome : ConnectOutcome) (url : Parts)
+      → turn ≡ turns.Call (calls.Connect (text, headers) lookup outcome)
       → parse_url None text ≡ Ok url → bytes_eq url.scheme (codes "https") ≡ false → e ≡ connects.InvalidUrl refusals.Scheme → ConnectFailedCause side turn log e
   NoAddress : (to : ConnectTo turn) → address_of (host_or_empty to.url) (port_of to.url) to.lookup ≡ Err e → ConnectFailedCause side turn log e
-  NotProceeding : (to : ConnectTo turn) (address : Addr) → address_of (host_or_empty to.url) (port_of to.url) to.lookup ≡ Ok address → outcome_error to.outcome ≡ Some e → ConnectFailedCause side turn log e
-  BeforeConnection : (reserved : Option (List ℕ)) (head : List ℕ) → turn ≡ turns.Call calls.Handshake → handshake_state (calls_of log) ≡ Connecting reserved head → is_connected (events_of log) ≡ false → is_open log ≡ false → e ≡ loss_to_connect log → ConnectFailedCause side turn log e
-  BeforeSettings : (reserved : Option (List ℕ)) (head : List ℕ) → turn ≡ turns.Call calls.Handshake → handshake_state (calls_of log) ≡ Connecting reserved head → settings_came side log ≡ false → is_open log ≡ false
+  NotProceeding : (to : ConnectTo turn) (address : Addr) → address_of (host_or_empty to.url) (port_of to.url) to.lookup ≡ Ok address
+      → outcome_error to.outcome ≡ Some e → ConnectFailedCause side turn log e
+  BeforeConnection : (reserved : Option (List ℕ)) (head : List ℕ) → turn ≡ turns.Call calls.Handshake
+      → handshake_state (calls_of log) ≡ Connecting reserved head → is_connected (events_of log) ≡ false → is_open log ≡ false
+      → e ≡ loss_to_connect log → ConnectFailedCause side turn log e
+  BeforeSettings : (reserved : Option (List ℕ)) (head : List ℕ) → turn ≡ turns.Call calls.Handshake
+      → handshake_state (calls_of log) ≡ Connecting reserved head → settings_came side log ≡ false → is_open log ≡ false
       → e ≡ connects.ConnectionError (driver_error side log) → ConnectFailedCause side turn log e
-  BeforeStream : (reserved : Option (List ℕ)) (head : List ℕ) → turn ≡ turns.Call calls.Handshake → handshake_state (calls_of log) ≡ Connecting reserved head → local_count (actions_of log) (local_bi side) ≡ 0 → is_open log ≡ false → e ≡ loss_to_connect log → ConnectFailedCause side turn log e
-  BeforeRequest : (reserved : Option (List ℕ)) (head : List ℕ) → turn ≡ turns.Call calls.Handshake → handshake_state (calls_of log) ≡ Connecting reserved head → is_empty (head_left log (local_bi side) head) ≡ false → is_open log ≡ false → e ≡ loss_to_connect log → ConnectFailedCause side turn log e
-  BeforeResponse : ResponseIs side turn log responses.Waiting → is_open log ≡ false → e ≡ loss_to_connect log → ConnectFailedCause side turn log e
-  AfterSuccess : (fields : Fields) (at : ℕ) → ResponseIs side turn log (responses.Response fields at) → has_success fields ≡ true → is_open log ≡ false
+  BeforeStream : (reserved : Option (List ℕ)) (head : List ℕ) → turn ≡ turns.Call calls.Handshake
+      → handshake_state (calls_of log) ≡ Connecting reserved head → local_count (actions_of log) (local_bi side) ≡ 0 → is_open log ≡ false
+      → e ≡ loss_to_connect log → ConnectFailedCause side turn log e
+  BeforeRequest : (reserved : Option (List ℕ)) (head : List ℕ) → turn ≡ turns.Call calls.Handshake
+      → handshake_state (calls_of log) ≡ Connecting reserved head → is_empty (head_left log (local_bi side) head) ≡ false
+      → is_open log ≡ false → e ≡ loss_to_connect log → ConnectFailedCause side turn log e
+  BeforeResponse : ResponseIs side turn log responses.Incomplete → is_open log ≡ false → e ≡ loss_to_connect log → ConnectFailedCause side turn log e
+  AfterSuccess : (fields : Fields) (at : ℕ) → ResponseIs side turn log (responses.Response fields at) → has_success fields ≡ true
+      → is_open log ≡ false
       → e ≡ connects.ConnectionError (driver_error side log) → ConnectFailedCause side turn log e
-  ByReserved : (name head : List ℕ) → turn ≡ turns.Call calls.Handshake → handshake_state (calls_of log) ≡ Connecting (Some name) head → settings_came side log ≡ true → e ≡ connects.ReservedHeader name → ConnectFailedCause side turn log e
-  ByRefusal : (reserved : Option (List ℕ)) (head : List ℕ) → turn ≡ turns.Call calls.Handshake → handshake_state (calls_of log) ≡ Connecting reserved head → is_open log ≡ true → is_refused log (local_bi side) (head_left log (local_bi side) head) ≡ true → e ≡ connects.SessionRejected → ConnectFailedCause side turn log e
+  ByReserved : (name head : List ℕ) → turn ≡ turns.Call calls.Handshake → handshake_state (calls_of log) ≡ Connecting (Some name) head
+      → settings_came side log ≡ true → e ≡ connects.ReservedHeader name → ConnectFailedCause side turn log e
+  ByRefusal : (reserved : Option (List ℕ)) (head : List ℕ) → turn ≡ turns.Call calls.Handshake
+      → handshake_state (calls_of log) ≡ Connecting reserved head → is_open log ≡ true
+      → is_refused log (local_bi side) (head_left log (local_bi side) head) ≡ true → e ≡ connects.SessionRejected
+      → ConnectFailedCause side turn log e
   ByStatus : (fields : Fields) (at : ℕ) → ResponseIs side turn log (responses.Response fields at) → has_success fields ≡ false
       → e ≡ connects.SessionRejected → ConnectFailedCause side turn log e
   ByResponseFault : (code : ErrorCode) → ResponseIs side turn log (responses.Fault code)
@@ -164,8 +198,8 @@ pub record OpenedCause (side : Side) (turn : Turn) (log : Log) (k : ℕ) : Type 
   pub opening : is_opening log k ≡ true
   pub still_open : is_open log ≡ true
   pub session : ℕ
-  pub at : ℕ
-  pub is_established : established_session (calls_of log) ≡ Some (session, at)
+  pub offset : ℕ
+  pub is_established : established_session (calls_of log) ≡ Some (session, offset)
   pub covers : is_covered log k (head_left log k (stream_header k session)) ≡ true
 
 -- so many bytes of those handed in for a half that the application has went out, as far as credit went
@@ -191,8 +225,10 @@ is_closed_error _ = false
 
 -- a write fails for the first thing that hinders it, a finish as the half ended, but never as closed
 pub data WriteFailedCause (side : Side) (turn : Turn) (log : Log) (e : StreamWriteError) : Type 0 where
-  AtWrite : (k : ℕ) (bytes : List ℕ) → bytes_for k turn ≡ Some bytes → has_sending_half side log k ≡ true → write_error log k ≡ Some e → WriteFailedCause side turn log e
-  AtFinish : (k : ℕ) → turn ≡ turns.Call (calls.Finish k) → has_sending_half side log k ≡ true → StoppedCause log k e → is_closed_error e ≡ false → WriteFailedCause side turn log e
+  AtWrite : (k : ℕ) (bytes : List ℕ) → bytes_for k turn ≡ Some bytes → has_sending_half side log k ≡ true → write_error log k ≡ Some e
+      → WriteFailedCause side turn log e
+  AtFinish : (k : ℕ) → turn ≡ turns.Call (calls.Finish k) → has_sending_half side log k ≡ true → StoppedCause log k e
+      → is_closed_error e ≡ false → WriteFailedCause side turn log e
 
 -- the call needs a half of this stream that isn't done
 abbrev pub needs_half : ℕ → Turn → Bool
@@ -209,31 +245,41 @@ ReadErrorCause side log k reads.QuicProto = ⊥
 -- why there aren't as many bytes as were asked for
 abbrev pub ExactErrorCause : Side → Log → ℕ → StreamReadExactError → List ℕ → Type 0
 ExactErrorCause side log k (exacts.Read e) piece = ReadErrorCause side log k e × (piece ≡ [])
-ExactErrorCause side log k (exacts.FinishedEarly count) piece = (end_of (events_of log) k ≡ ends.Fin) × (piece ≡ unread_body side log k) × (count ≡ length piece)
+ExactErrorCause side log k (exacts.FinishedEarly count) piece = (end_of (events_of log) k ≡ ends.Fin) × (piece ≡ unread_body side log k)
+    × (count ≡ length piece)
 
 -- by what the transport told last of datagrams; it isn't connected also where it told nothing of them yet
 abbrev pub DatagramErrorCause : Log → List ℕ → SendDatagramError → Type 0
 DatagramErrorCause log bytes datagrams.NotConnected = (is_open log ≡ false) ⊎ (datagram_fact (events_of log) ≡ None)
 DatagramErrorCause log bytes datagrams.Disabled = datagram_fact (events_of log) ≡ Some facts.Disabled
 DatagramErrorCause log bytes datagrams.UnsupportedByPeer = datagram_fact (events_of log) ≡ Some facts.Unsupported
-DatagramErrorCause log bytes datagrams.TooLarge = (limit : ℕ) × (datagram_fact (events_of log) ≡ Some (facts.Limit limit)) × (nat_lt limit (length bytes) ≡ true)
+DatagramErrorCause log bytes datagrams.TooLarge = (limit : ℕ) × (datagram_fact (events_of log) ≡ Some (facts.Limit limit))
+    × (nat_lt limit (length bytes) ≡ true)
 
 -- a rejection is over: the connection ended, the peer stopped the response before it was out, or wants no more of it, or has it
 pub data RejectedCause (side : Side) (turn : Turn) (log : Log) : Type 0 where
   ConnectionEnded : (head : List ℕ) → ResponseFrom turn (calls_of log) false head → is_open log ≡ false → RejectedCause side turn log
-  RejectionRefused : (head : List ℕ) → ResponseFrom turn (calls_of log) false head → is_refused log (requested_stream (calls_of log)) (head_left log (requested_stream (calls_of log)) head) ≡ true → RejectedCause side turn log
-  RejectionOver : (head : List ℕ) → ResponseFrom turn (calls_of log) false head → is_finished (actions_of log) (requested_stream (calls_of log)) ≡ true
-      → (is_some (stop_of (events_of log) (requested_stream (calls_of log))) || is_acknowledged (events_of log) (requested_stream (calls_of log))) ≡ true → RejectedCause side turn log
+  RejectionRefused : (head : List ℕ) → ResponseFrom turn (calls_of log) false head
+      → is_refused log (requested_stream (calls_of log)) (head_left log (requested_stream (calls_of log)) head) ≡ true
+      → RejectedCause side turn log
+  RejectionOver : (head : List ℕ) → ResponseFrom turn (calls_of log) false head
+      → is_finished (actions_of log) (requested_stream (calls_of log)) ≡ true
+      → (is_some (stop_of (events_of log) (requested_stream (calls_of log))) || is_acknowledged (events_of log) (requested_stream (calls_of log)))
+      ≡ true
+      → RejectedCause side turn log
 
 -- what the turn asks for is done: an event is taken; a datagram goes out; a close, on an established session or of the
 -- endpoint; a priority is set, unless the half is done; a half that isn't done is reset; a receiving half is given up
 pub data DoneCause (side : Side) (turn : Turn) (log : Log) : Type 0 where
   AtEvent : is_call turn ≡ false → DoneCause side turn log
-  AtDatagram : (bytes : List ℕ) (limit : ℕ) → is_open log ≡ true → DatagramOf turn log bytes → datagram_fact (events_of log) ≡ Some (facts.Limit limit) → nat_lt limit (length bytes) ≡ false → DoneCause side turn log
-  AtClose : (code : ℕ) (reason : List ℕ) → turn ≡ turns.Call (calls.Close code reason) → is_some (established_session (calls_of log)) ≡ true → DoneCause side turn log
+  AtDatagram : (bytes : List ℕ) (limit : ℕ) → is_open log ≡ true → DatagramOf turn log bytes
+      → datagram_fact (events_of log) ≡ Some (facts.Limit limit) → nat_lt limit (length bytes) ≡ false → DoneCause side turn log
+  AtClose : (code : ℕ) (reason : List ℕ) → turn ≡ turns.Call (calls.Close code reason) → is_some (established_session (calls_of log)) ≡ true
+      → DoneCause side turn log
   AtEndpointClose : (code : ℕ) (reason : List ℕ) → turn ≡ turns.Call (calls.EndpointClose code reason) → DoneCause side turn log
   AtPriority : (k : ℕ) (p : ℤ) → turn ≡ turns.Call (calls.SetPriority k p) → has_sending_half side log k ≡ true → DoneCause side turn log
-  AtReset : (k code : ℕ) → turn ≡ turns.Call (calls.ResetSend k code) → has_sending_half side log k ≡ true → is_done log k ≡ false → DoneCause side turn log
+  AtReset : (k code : ℕ) → turn ≡ turns.Call (calls.ResetSend k code) → has_sending_half side log k ≡ true → is_done log k ≡ false
+      → DoneCause side turn log
   AtStop : (k code : ℕ) → turn ≡ turns.Call (calls.StopRecv k code) → has_receiving_half side log k ≡ true → DoneCause side turn log
 
 -- why a turn has this reply
@@ -242,33 +288,53 @@ ReplyCause side turn log replies.Done = DoneCause side turn log
 ReplyCause side turn log replies.Pending = (is_open log ≡ true) × PendingCause side turn log
 ReplyCause side turn log replies.NoSession = (asks_for_session turn ≡ true) × (established_session (calls_of log) ≡ None)
 ReplyCause side turn log replies.NoStream = half_of side log turn ≡ Some false
-ReplyCause side turn log (replies.Request id headers) = (turn ≡ turns.Call calls.Incoming) × (queued : Classified) × (later : List Classified) × (queued_requests side log ≡ queued ∷ later) × (queued.id ≡ id) × (headers ≡ request_fields_of queued.verdict)
+ReplyCause side turn log (replies.Request id headers) = (turn ≡ turns.Call calls.Incoming) × (queued : Classified)
+    × (later : List Classified) × (queued_requests side log ≡ queued ∷ later) × (queued.id ≡ id)
+    × (headers ≡ request_fields_of queued.verdict)
 ReplyCause side turn log (replies.Session id) = (own : List Action) × (at : ℕ) × EstablishedBy side turn (with_actions own log) id at
 ReplyCause side turn log replies.Rejected = RejectedCause side turn log
 ReplyCause side turn log (replies.Uni k) = GivenStream side turn log (peer_uni side) k
 ReplyCause side turn log (replies.Bi k) = GivenStream side turn log (peer_bi side) k
-ReplyCause side turn log (replies.Opening k) = (is_open log ≡ true) × (kind : ℕ) × (opened_kind side turn ≡ Some kind) × (may_open side log kind ≡ true) × (k ≡ next_id side log kind)
+ReplyCause side turn log (replies.Opening k) = (is_open log ≡ true) × (kind : ℕ) × (opened_kind side turn ≡ Some kind)
+    × (may_open side log kind ≡ true) × (k ≡ next_id side log kind)
 ReplyCause side turn log (replies.SendReady k) = OpenedCause side turn log k × (is_bidirectional k ≡ false)
 ReplyCause side turn log (replies.BiReady k) = OpenedCause side turn log k × (is_bidirectional k ≡ true)
 ReplyCause side turn log (replies.Id s) = (turn ≡ turns.Call calls.SessionId) × (at : ℕ) × (established_session (calls_of log) ≡ Some (s, at))
 ReplyCause side turn log (replies.Datagram piece) = (found : FoundDatagram side turn log true) × (piece ≡ found.datagram.1)
-ReplyCause side turn log (replies.Size size) = (turn ≡ turns.Call calls.MaxDatagramSize) × (s : ℕ) × (at : ℕ) × (established_session (calls_of log) ≡ Some (s, at)) × (size ≡ payload_limit s (datagram_fact (events_of log)))
-ReplyCause side turn log (replies.Written count) = (x : WrittenCause side turn log count) × (turn ≡ turns.Call (calls.Write x.stream x.bytes)) × (count ≡ 0 → x.bytes ≡ [])
-ReplyCause side turn log replies.AllWritten = (count : ℕ) × (x : WrittenCause side turn log count) × (turn ≡ turns.Call (calls.WriteAll x.stream x.bytes)) × (count ≡ length x.bytes)
-ReplyCause side turn log (replies.Count count) = (x : WrittenCause side turn log count) × (turn ≡ turns.Call (calls.WriteAll x.stream x.bytes)) × (nat_lt count (length x.bytes) ≡ true)
-ReplyCause side turn log replies.Finished = (k : ℕ) × (turn ≡ turns.Call (calls.Finish k)) × (has_sending_half side log k ≡ true) × (stop_of (events_of log) k ≡ None) × (is_done log k ≡ true)
-ReplyCause side turn log (replies.Priority p) = (k : ℕ) × (turn ≡ turns.Call (calls.Priority k)) × (has_sending_half side log k ≡ true) × (is_done log k ≡ false) × (p ≡ priority_of (calls_of log) k)
+ReplyCause side turn log (replies.Size size) = (turn ≡ turns.Call calls.MaxDatagramSize) × (s : ℕ) × (at : ℕ)
+    × (established_session (calls_of log) ≡ Some (s, at)) × (size ≡ payload_limit s (datagram_fact (events_of log)))
+ReplyCause side turn log (replies.Written count) = (x : WrittenCause side turn log count)
+    × (turn ≡ turns.Call (calls.Write x.stream x.bytes)) × (count ≡ 0
+    → x.bytes ≡ [])
+ReplyCause side turn log replies.AllWritten = (count : ℕ) × (x : WrittenCause side turn log count)
+    × (turn ≡ turns.Call (calls.WriteAll x.stream x.bytes)) × (count ≡ length x.bytes)
+ReplyCause side turn log (replies.Count count) = (x : WrittenCause side turn log count)
+    × (turn ≡ turns.Call (calls.WriteAll x.stream x.bytes)) × (nat_lt count (length x.bytes) ≡ true)
+ReplyCause side turn log replies.Finished = (k : ℕ) × (turn ≡ turns.Call (calls.Finish k)) × (has_sending_half side log k ≡ true)
+    × (stop_of (events_of log) k ≡ None) × (is_done log k ≡ true)
+ReplyCause side turn log (replies.Priority p) = (k : ℕ) × (turn ≡ turns.Call (calls.Priority k)) × (has_sending_half side log k ≡ true)
+    × (is_done log k ≡ false) × (p ≡ priority_of (calls_of log) k)
 ReplyCause side turn log replies.ClosedStream = (k : ℕ) × (needs_half k turn ≡ true) × (has_sending_half side log k ≡ true) × (is_done log k ≡ true)
-ReplyCause side turn log (replies.Read None) = (k : ℕ) × (size : ℕ) × (turn ≡ turns.Call (calls.Read k size)) × (has_receiving_half side log k ≡ true) × ((size == 0) ≡ false) × (unread_body side log k ≡ []) × (end_of (events_of log) k ≡ ends.Fin)
-ReplyCause side turn log (replies.Read (Some piece)) = (k : ℕ) × (size : ℕ) × (turn ≡ turns.Call (calls.Read k size)) × (has_receiving_half side log k ≡ true) × (piece ≡ take size (unread_body side log k)) × (size == 0 || not (is_empty (unread_body side log k))) ≡ true
-ReplyCause side turn log (replies.Exact piece) = (k : ℕ) × (size : ℕ) × (turn ≡ turns.Call (calls.ReadExact k size)) × (has_receiving_half side log k ≡ true) × (piece ≡ take size (unread_body side log k)) × (size ≤ length (unread_body side log k))
+ReplyCause side turn log (replies.Read None) = (k : ℕ) × (size : ℕ) × (turn ≡ turns.Call (calls.Read k size))
+    × (has_receiving_half side log k ≡ true) × ((size == 0) ≡ false) × (unread_body side log k ≡ []) × (end_of (events_of log) k ≡ ends.Fin)
+ReplyCause side turn log (replies.Read (Some piece)) = (k : ℕ) × (size : ℕ) × (turn ≡ turns.Call (calls.Read k size))
+    × (has_receiving_half side log k ≡ true) × (piece ≡ take size (unread_body side log k))
+    × (size == 0 || not (is_empty (unread_body side log k))) ≡ true
+ReplyCause side turn log (replies.Exact piece) = (k : ℕ) × (size : ℕ) × (turn ≡ turns.Call (calls.ReadExact k size))
+    × (has_receiving_half side log k ≡ true) × (piece ≡ take size (unread_body side log k)) × (size ≤ length (unread_body side log k))
 ReplyCause side turn log (replies.Failed e) = FailedCause side turn log e
 ReplyCause side turn log (replies.Closed e) = (turn ≡ turns.Call calls.Closed) × (is_open log ≡ false) × (e ≡ transport_error log)
 ReplyCause side turn log (replies.ConnectFailed e) = ConnectFailedCause side turn log e
-ReplyCause side turn log (replies.OpeningFailed openings.NotConnected) = (is_open log ≡ false) × (k : ℕ) × (polls_opening k turn ≡ true) × (is_opening log k ≡ true)
-ReplyCause side turn log (replies.OpeningFailed openings.Refused) = (k : ℕ) × (session : ℕ) × (at : ℕ) × (polls_opening k turn ≡ true) × (is_opening log k ≡ true) × (established_session (calls_of log) ≡ Some (session, at)) × (is_refused log k (head_left log k (stream_header k session)) ≡ true)
+ReplyCause side turn log (replies.OpeningFailed openings.NotConnected) = (is_open log ≡ false) × (k : ℕ) × (polls_opening k turn ≡ true)
+    × (is_opening log k ≡ true)
+ReplyCause side turn log (replies.OpeningFailed openings.Refused) = (k : ℕ) × (session : ℕ) × (at : ℕ) × (polls_opening k turn ≡ true)
+    × (is_opening log k ≡ true) × (established_session (calls_of log) ≡ Some (session, at))
+    × (is_refused log k (head_left log k (stream_header k session)) ≡ true)
 ReplyCause side turn log (replies.WriteFailed e) = WriteFailedCause side turn log e
-ReplyCause side turn log (replies.StoppedBy e) = (k : ℕ) × (turn ≡ turns.Call (calls.Stopped k)) × (has_sending_half side log k ≡ true) × StoppedCause log k e
-ReplyCause side turn log (replies.ReadFailed e) = (k : ℕ) × (size : ℕ) × (turn ≡ turns.Call (calls.Read k size)) × (has_receiving_half side log k ≡ true) × ((size == 0) ≡ false) × (unread_body side log k ≡ []) × ReadErrorCause side log k e
-ReplyCause side turn log (replies.ExactFailed e piece) = (k : ℕ) × (size : ℕ) × (turn ≡ turns.Call (calls.ReadExact k size)) × (has_receiving_half side log k ≡ true) × (nat_lt (length (unread_body side log k)) size ≡ true) × ExactErrorCause side log k e piece
+ReplyCause side turn log (replies.StoppedBy e) = (k : ℕ) × (turn ≡ turns.Call (calls.Stopped k)) × (has_sending_half side log k ≡ true)
+    × StoppedCause log k e
+ReplyCause side turn log (replies.ReadFailed e) = (k : ℕ) × (size : ℕ) × (turn ≡ turns.Call (calls.Read k size))
+    × (has_receiving_half side log k ≡ true) × ((size == 0) ≡ false) × (unread_body side log k ≡ []) × ReadErrorCause side log k e
+ReplyCause side turn log (replies.ExactFailed e piece) = (k : ℕ) × (size : ℕ) × (turn ≡ turns.Call (calls.ReadExact k size))
+    × (has_receiving_half side log k ≡ true) × (nat_lt (length (unread_body side log k)) size ≡ true) × ExactErrorCause side log k e piece
 ReplyCause side turn log (replies.DatagramFailed e) = (bytes : List ℕ) × DatagramOf turn log bytes × DatagramErrorCause log bytes e

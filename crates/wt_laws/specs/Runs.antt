@@ -25,7 +25,8 @@ pub record RunsLongest (side : Side) (all : List Turn) : Type 0 where
   pub answers : (run side all).answers ≡ answers_to side front
   pub one_each : length (run side all).answers ≡ length front
   pub finished : (run side all).stop ≡ Finished → rest ≡ []
-  pub stopped : (run side all).stop ≡ AtUnlawful → (turn : Turn) × (later : List Turn) × (rest ≡ turn ∷ later) × (is_lawful side (log_from side [] front) turn ≡ false)
+  pub stopped : (run side all).stop ≡ AtUnlawful
+      → (turn : Turn) × (later : List Turn) × (rest ≡ turn ∷ later) × (is_lawful side (log_from side [] front) turn ≡ false)
 
 -- turns that are all lawful are run to their end
 abbrev pub RunsLawful : Side → List Turn → Type 0
@@ -35,7 +36,8 @@ RunsLawful side all = AllLawful side [] all → (run side all).stop ≡ Finished
 -- accept gave or passed, requests that were delivered, that SETTINGS came, and what datagrams came and were received.
 pub record StaysSo (side : Side) (earlier later : Log) : Type 0 where
   pub dequeued : (k : ℕ) → has k (stream_table side earlier).dequeued ≡ true → has k (stream_table side later).dequeued ≡ true
-  pub verdict : (k : ℕ) (v : Verdict) → verdict_of k (stream_table side earlier).classified ≡ Some v → verdict_of k (stream_table side later).classified ≡ Some v
+  pub verdict : (k : ℕ) (v : Verdict) → verdict_of k (stream_table side earlier).classified ≡ Some v
+      → verdict_of k (stream_table side later).classified ≡ Some v
   pub order : (more : List Classified) × ((stream_table side later).classified ≡ (stream_table side earlier).classified ++ more)
   pub released : (k : ℕ) → list_any (releases k) (calls_of earlier) ≡ true → list_any (releases k) (calls_of later) ≡ true
   pub delivered : (k : ℕ) → list_any (delivers k) (calls_of earlier) ≡ true → list_any (delivers k) (calls_of later) ≡ true
@@ -59,7 +61,8 @@ pub record DoneLate (side : Side) (log : Log) (turn : Turn) : Type 0 where
 
 -- An event after the end changes no later answer: the same lawful turns are answered alike with and without it.
 abbrev pub LateChangesNothing : Side → Log → Event → List Turn → Type 0
-LateChangesNothing side log e all = is_open log ≡ false → AllLawful side (ReportedLate e ∷ log) all → answers_from side (ReportedLate e ∷ log) all ≡ answers_from side log all
+LateChangesNothing side log e all = is_open log ≡ false → AllLawful side (ReportedLate e ∷ log) all
+    → answers_from side (ReportedLate e ∷ log) all ≡ answers_from side log all
 
 -- the streams of this kind in the list were opened after stream k (RFC 9000, section 2.1)
 abbrev pub AllLater : ℕ → ℕ → List Classified → Type 0

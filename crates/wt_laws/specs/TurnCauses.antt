@@ -11,35 +11,36 @@ use Rattle.wt_turn.specs.Turns.{event_of}
 use Rattle.wt_laws.specs.Laws.{DriverCause, GoesOnFrom, IsDuring}
 use Rattle.wt_laws.specs.Reachable.{IsReachable}
 use Rattle.wt_laws.specs.RecordCauses.{RecordCause}
-use Rattle.wt_laws.specs.Told.{Logged, Passed}
+use Rattle.wt_laws.specs.ReplyTells.{Logged, HasPassed}
 use Rattle.wt_spec.specs.Answers.{answer_to, is_lawful, log_after}
 use Rattle.wt_spec.specs.Driver.{is_moment}
 use Rattle.wt_turn.specs.declared.turn.Turn.TheVariants as turns
 
 -- the log is that of a moment, with actions that went out since
-pub data SinceMoment (moment : Log) : Log → Type 0 where
-  AtOnce : SinceMoment moment moment
-  AfterAction : {log : Log} (a : Action) → SinceMoment moment log → SinceMoment moment (Sent a ∷ log)
+pub data SinceMoment (since : Log) : Log → Type 0 where
+  AtOnce : SinceMoment since since
+  AfterAction : {log : Log} (a : Action) → SinceMoment since log → SinceMoment since (Sent a ∷ log)
 
 -- why an action goes out in a turn, after this log: it is the call's own, or the driver's at the newest moment, which is one of
 -- the turn's
 pub data SentIn (side : Side) (turn : Turn) (start log : Log) (a : Action) : Type 0 where
   ByCall : ActionCause side turn log a → SentIn side turn start log a
-  ByDriver : (e : Entry) (earlier : Log) → GoesOnFrom start earlier → is_moment e ≡ true → is_open (e ∷ earlier) ≡ true → SinceMoment (e ∷ earlier) log → DriverCause side (e ∷ earlier) a → SentIn side turn start log a
+  ByDriver : (e : Entry) (earlier : Log) → GoesOnFrom start earlier → is_moment e ≡ true → is_open (e ∷ earlier) ≡ true
+      → SinceMoment (e ∷ earlier) log → DriverCause side (e ∷ earlier) a → SentIn side turn start log a
 
 -- the turn is the event of the transport that tells exactly this, and tells it first of all, while the connection is open or after its end
 abbrev pub IsTold : Turn → Log → Log → Bool → Event → Type 0
 IsTold turn start log was_open e = (event_of turn ≡ Some e) × (log ≡ start) × (is_open log ≡ was_open)
 
 -- The turn is the event of the transport that brings this byte for the stream, on an open connection: it is the next of the piece,
--- behind those that came in the turn before it (RFC 9000, section 2.2).
+-- after those that came in the turn before it (RFC 9000, section 2.2).
 pub record IsNextByte (turn : Turn) (start log : Log) (id b : ℕ) : Type 0 where
   pub piece : List ℕ
-  pub told : turn ≡ turns.Bytes id piece
+  pub reported : turn ≡ turns.Bytes id piece
   pub earlier : List ℕ
   pub later : List ℕ
   pub order : piece ≡ earlier ++ b ∷ later
-  pub came : contents log id ≡ contents start id ++ earlier
+  pub has_come : contents log id ≡ contents start id ++ earlier
   pub was_open : is_open log ≡ true
 
 -- why an entry comes in a turn, after this log: the transport tells it, or a call sends or records it, or the driver sends it
@@ -77,5 +78,5 @@ ActionsWentOut side log = (a : Action) (earlier : Log) → GoesOnFrom (Sent a �
 pub record ReplyIsRecorded (side : Side) (log : Log) (turn : Turn) : Type 0 where
   pub decided : Log
   pub during : IsDuring side log turn decided
-  pub passed : Passed (calls_of decided) (calls_of log)
+  pub passed : HasPassed (calls_of decided) (calls_of log)
   pub logged : Logged turn (calls_of decided) (calls_of (log_after side log turn)) (answer_to side log turn).reply

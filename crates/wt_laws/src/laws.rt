@@ -33,7 +33,7 @@ pub fn lawful_turns_are_reachable()
 pub fn sessions_are_established_rightly()
     ensures rightly { (side : Side) (log : Log) → IsReachable side log → SessionsRightly side log }
     ensures one { (side : Side) (log : Log) (turn : Turn) → IsReachable side log → is_lawful side log turn ≡ true → OneSession side log turn }
-    ensures told { (side : Side) (log : Log) (turn : Turn) → is_lawful side log turn ≡ true → SessionTold side log turn }
+    ensures reported { (side : Side) (log : Log) (turn : Turn) → is_lawful side log turn ≡ true → SessionTold side log turn }
     ensures request { (side : Side) (log : Log) (turn : Turn) → IsReachable side log → is_lawful side log turn ≡ true → RequestTold side log turn }
 {}
 
@@ -42,10 +42,11 @@ pub fn sessions_are_established_rightly()
 #[tactic(auto, using(crate::proofs::Theorems::accepted_theorem, crate::proofs::Theorems::order_theorem))]
 pub fn streams_are_accepted_rightly()
     ensures order { (side : Side) (log : Log) → InOrderOfOpening (peer_bi side) (stream_table side log).classified }
-    ensures accepted { (side : Side) (log : Log) (turn : Turn) → IsReachable side log → is_lawful side log turn ≡ true → StreamsAcceptedRightly side log turn }
+    ensures accepted { (side : Side) (log : Log) (turn : Turn) → IsReachable side log → is_lawful side log turn ≡ true
+        → StreamsAcceptedRightly side log turn }
 {}
 
-/// What reads of a stream give, joined, is a prefix of what came behind its header; before a stream
+/// What reads of a stream give, joined, is a prefix of what came after its header; before a stream
 /// that this end opened no header stands.
 #[tactic(auto, using(crate::proofs::Theorems::reads_theorem, crate::proofs::Theorems::own_reads_theorem))]
 pub fn reads_give_what_came()
@@ -79,7 +80,7 @@ pub fn answers_have_causes()
 /// Where a piece of bytes is cut changes no later answer, and its own is that of its parts.
 #[tactic(auto, using(crate::proofs::Theorems::cutting_theorem))]
 pub fn pieces_may_be_cut()
-    ensures cut { (side : Side) (log : Log) (id : ℕ) (first second : List ℕ) → CutsWell side log id first second }
+    ensures cuts_well { (side : Side) (log : Log) (id : ℕ) (first second : List ℕ) → CutsWell side log id first second }
 {}
 
 /// This end's SETTINGS are out as far as credit went while the connection was open, also at the moment
@@ -100,7 +101,8 @@ pub fn headers_go_out()
 #[tactic(auto, using(crate::proofs::Theorems::within_credit_theorem, crate::proofs::Theorems::heads_theorem))]
 pub fn heads_go_out_as_credit_allows()
     ensures within { (side : Side) (log : Log) → IsReachable side log → WithinCredit side log }
-    ensures heads { (side : Side) (log : Log) (call : Call) → IsReachable side log → is_lawful side log (turns.Call call) ≡ true → HeadsGoOut side log call }
+    ensures heads { (side : Side) (log : Log) (call : Call) → IsReachable side log → is_lawful side log (turns.Call call) ≡ true
+        → HeadsGoOut side log call }
 {}
 
 /// On a stream that was given exactly what writes accept goes out, and nothing after its end.
@@ -123,7 +125,8 @@ pub fn what_is_taken_goes_out()
 #[tactic(auto, using(crate::proofs::Theorems::pending_theorem, crate::proofs::Theorems::ended_theorem))]
 pub fn calls_wait_exactly_with_nothing_left()
     ensures pending { (side : Side) (log : Log) (turn : Turn) → is_lawful side log turn ≡ true → PendingExactly side log turn }
-    ensures ended { (side : Side) (log : Log) (turn : Turn) → is_lawful side log turn ≡ true → is_open log ≡ false → is_pending (answer_to side log turn).reply ≡ false }
+    ensures ended { (side : Side) (log : Log) (turn : Turn) → is_lawful side log turn ≡ true → is_open log ≡ false
+        → is_pending (answer_to side log turn).reply ≡ false }
 {}
 
 /// What goes out on the session's own stream is the frame of its request or response, as far as it
@@ -169,7 +172,9 @@ pub fn calls_answer_exactly()
 pub fn handshakes_answer_exactly()
     ensures request { (side : Side) (log : Log) → RequestsAnswer side log }
     ensures response { (side : Side) (log : Log) (call : Call) → ResponsesAnswer side log call }
-    ensures connect { (side : Side) (log : Log) (text : List ℕ) (headers : Fields) (lookup : Lookup) (outcome : ConnectOutcome) → ConnectsAnswer side log text headers lookup outcome }
-    ensures dialled { (side : Side) (log : Log) (reserved : Option (List ℕ)) (head : List ℕ) → handshake_state (calls_of log) ≡ Connecting reserved head → ConnectGoesOn side log reserved head }
+    ensures connect { (side : Side) (log : Log) (text : List ℕ) (headers : Fields) (lookup : Lookup) (outcome : ConnectOutcome)
+        → ConnectsAnswer side log text headers lookup outcome }
+    ensures dialled { (side : Side) (log : Log) (reserved : Option (List ℕ)) (head : List ℕ)
+        → handshake_state (calls_of log) ≡ Connecting reserved head → ConnectGoesOn side log reserved head }
     ensures sent { (side : Side) (log : Log) (head : List ℕ) → MaySend side log head → RequestGoesOn side log head }
 {}

@@ -27,7 +27,7 @@ pub fn turns_have_causes()
     ensures recorded { (side : Side) (log : Log) (turn : Turn) → is_lawful side log turn ≡ true → ReplyIsRecorded side log turn }
 {}
 
-/// What the transport tells in a turn is in the log behind it: an event, and of a piece every byte up
+/// What the transport tells in a turn is in the log after it: an event, and of a piece every byte up
 /// to the one at which the connection ends.
 #[tactic(auto, using(crate::proofs::Telling::telling_theorem))]
 pub fn what_is_told_arrives()
@@ -61,9 +61,9 @@ pub fn streams_are_given_once()
 
 /// What the driver's state says of the peer is in what came from it: a classified stream has its
 /// verdict over all bytes, SETTINGS came where the first control stream has them, and a connection
-/// that the driver ends has a fault in the very stream or datagram that the moment takes, or behind
+/// that the driver ends has a fault in the very stream or datagram that the moment takes, or after
 /// those that were taken, or its session ended; where it ends none, no classified stream has a
-/// fault, those that come once came once, and there is no fault behind them. Of several faults of
+/// fault, those that come once came once, and there is no fault after them. Of several faults of
 /// one moment the first in the driver's order is told.
 #[tactic(auto)]
 pub fn the_drivers_state_is_read()
@@ -77,12 +77,12 @@ pub fn the_drivers_state_is_read()
     ensures first { (side : Side) (e : Entry) (log : Log) → FirstIsTold side e log }
 {}
 
-/// What the driver sends at a moment goes out right behind it, and the close with which it ends a
+/// What the driver sends at a moment goes out right after it, and the close with which it ends a
 /// connection is the last action of that turn's answer.
 #[tactic(auto)]
 pub fn endings_go_out()
     ensures answer { (side : Side) (log : Log) (turn : Turn) → is_lawful side log turn ≡ true → EndingGoesOut side log turn }
-    ensures moment { (side : Side) (log : Log) → IsReachable side log → PendingGoesOut side log }
+    ensures pending { (side : Side) (log : Log) → IsReachable side log → PendingGoesOut side log }
 {}
 
 /// A datagram that a receive gives is the first of the session's that no earlier call received.

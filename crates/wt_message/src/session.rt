@@ -125,7 +125,7 @@ impl SessionRequest {
     /// webtransport, and any `:authority` and `:path`.
     #[tactic(auto, unfolding(crate::specs::Requests::request_of))]
     pub fn try_from(headers: Headers) -> Result<SessionRequest, HeadersParseError>
-        ensures judged { result ≡ request_of headers }
+        ensures outcome { result ≡ request_of headers }
         ensures fields { IfOk result (λ r. r ≡ headers) }
         ensures other_method { result ≡ Err errors.MethodNotConnect → is_value (codes "CONNECT") (value_of (codes ":method") headers) ≡ false }
     {
@@ -278,7 +278,7 @@ impl SessionResponse {
     /// The fields as a response, which needs a `:status` of three decimal digits from 100 to 599.
     #[tactic(auto, unfolding(crate::specs::Responses::response_of))]
     pub fn try_from(headers: Headers) -> Result<SessionResponse, BadStatus>
-        ensures judged { result ≡ response_of headers }
+        ensures outcome { result ≡ response_of headers }
         ensures fields { IfOk result (λ r. r ≡ headers) }
         ensures no_status { is_err result ≡ is_none (status_of headers) }
     {

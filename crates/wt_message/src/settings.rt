@@ -173,7 +173,7 @@ impl Settings {
             )
     }
 
-    fn put(&mut self, id: SettingId, value: VarInt)
+    fn set(&mut self, id: SettingId, value: VarInt)
         ensures { self.new ≡ with_setting id (Some value) self.old }
     {
         let value = Some(value);
@@ -203,7 +203,7 @@ impl Settings {
         if self.get(known).is_some() {
             return Err(ErrorCode::Settings);
         }
-        self.put(known, value);
+        self.set(known, value);
         Ok(self)
     }
 
@@ -303,7 +303,7 @@ impl SettingsBuilder {
     fn with(mut self, id: SettingId, value: VarInt) -> SettingsBuilder
         ensures { result ≡ with_setting id (Some value) self }
     {
-        self.settings.put(id, value);
+        self.settings.set(id, value);
         self
     }
 

@@ -21,7 +21,7 @@ use Rattle.wt_turn.specs.declared.action.Action.{Action}
 use Rattle.wt_wire.specs.HeaderList.{Fields}
 use Rattle.wt_wire.specs.declared.side.Side.{Side}
 use Rattle.wt_plan.specs.DriverAnswers.{answers_now, error_now}
-use Rattle.wt_plan.specs.Tells.{AnswersLog, KeepsRequestEnd, driver_facts}
+use Rattle.wt_plan.specs.PlansAgree.{AnswersLog, KeepsRequestEnd, driver_facts}
 use Rattle.wt_session_spec.specs.SessionState.{is_answering}
 use Rattle.wt_proto.specs.declared.verdict.Verdict.TheVariants as verdicts
 
@@ -83,4 +83,4 @@ pub request_end_kept : (side : Side) (more log : Log) (end : ℕ) → IsReachabl
 request_end_kept side more log end r k b q a =
     let h = (heads-hold side log r).given.handshakes in
     let w = h.delivered (requested_stream (calls_of log)) (h.has_one (answering-has (handshake_state (calls_of log)) b)) in
-    k b ∙ ap request_end w.verdict ∙ delivered_end side more log (requested_stream (calls_of log)) w.headers w.at w.verdict q a
+    k b ∙ ap request_end w.verdict ∙ delivered_end side more log (requested_stream (calls_of log)) w.headers w.offset w.verdict q a

@@ -21,7 +21,7 @@ use Rattle.wt_turn.specs.declared.action.Action.{Action}
 use Rattle.wt_wire.specs.declared.side.Side.{Side}
 use Rattle.wt_wire.specs.declared.side.Side.TheVariants.{Client, Server}
 use Rattle.wt_plan.specs.FactsNow.{DriverAnswers, facts_now, sending_now}
-use Rattle.wt_plan.specs.Tells.{AnswersLog, LogTells}
+use Rattle.wt_plan.specs.PlansAgree.{AnswersLog, LogTells}
 use Rattle.wt_turn.specs.declared.action.Action.TheVariants as actions
 
 -- ---- streams are counted by four kinds
@@ -124,11 +124,11 @@ module _ (side : Side) (t : TransportState) (log : Log) (position : ℕ → Read
 
   pub facts-same : (d : DriverAnswers) → AnswersLog side log d → LogTells side log
       → facts_now t d ≡ record (facts_of side log) { request_end = d.request_end; response = d.response; unread = unread_now t }
-  facts-same d a tells = λ j. record {
+  facts-same d a says = λ j. record {
     side = side-is j;
     is_first = a.is_first j;
     is_open = open-is j;
-    is_connected = (ap is_some datagrams-are ∙ tells.connected) j;
+    is_connected = (ap is_some datagrams-are ∙ says.connected) j;
     transport_error = error-is j;
     driver_error = a.driver_error j;
     datagram_fact = datagrams-are j;

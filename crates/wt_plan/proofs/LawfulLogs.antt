@@ -19,7 +19,7 @@ use Rattle.wt_turn.specs.Log.{Connected, DatagramLimit, Event, Log, actions_of, 
 use Rattle.wt_turn.specs.declared.datagram_fact.DatagramFact.{DatagramFact}
 use Rattle.wt_turn.specs.declared.turn.Turn.{Turn}
 use Rattle.wt_wire.specs.declared.side.Side.{Side}
-use Rattle.wt_plan.specs.Tells.{LogTells}
+use Rattle.wt_plan.specs.PlansAgree.{LogTells}
 use Rattle.wt_turn.specs.declared.turn.Turn.TheVariants as turns
 
 -- ---- datagrams are told of from the connection on
@@ -30,7 +30,7 @@ record DatagramsTold (log : Log) : Type 0 where
 
 -- a limit of datagrams comes on a connection
 limit-connected : (side : Side) (turn : Turn) (log : Log) (fact : DatagramFact) → Brings side turn log (DatagramLimit fact) → is_connected (all_events_of log) ≡ true
-limit-connected side turn log fact b = at turn b.told b.lawful
+limit-connected side turn log fact b = at turn b.reported b.lawful
   where
     at : (t : Turn) → event_of t ≡ Some (DatagramLimit fact) → fits side log t ≡ true → is_connected (all_events_of log) ≡ true
     at (turns.DatagramLimit f) e l = (and_parts (is_connected (all_events_of log)) (not (is_some (loss_of (all_events_of log)))) l).0
@@ -65,7 +65,7 @@ given-exists side log r k a = at ((facts-hold side log r).accepted k a)
     at : (is_local side k ≡ true) ⊎ IsSessions side log k → exists side log k ≡ true
     at (inl l) =
         let h = heads-hold side log r in
-        let c : k / 4 < local_count (actions_of log) (k % 4) = h.counted k (h.local_accepted k l a) in
+        let c : k / 4 < local_count (actions_of log) (k % 4) = h.count_is k (h.local_accepted k l a) in
         lt-ltb (k / 4) (peer_count side (all_events_of log) (k % 4) + local_count (actions_of log) (k % 4)) (omega arith)
     at (inr s) = peers-exist side log k (is_among (peer_uni side) (peer_count side (events_of log) (peer_uni side)) k) refl (are-peers side log k _ s.verdict)
 

@@ -32,7 +32,7 @@ use Rattle.wt_wire.specs.declared.side.Side.{Side}
 use Rattle.wt_plan.proofs.FactsSame.{facts-same}
 use Rattle.wt_plan.specs.FactsNow.{DriverAnswers, facts_now}
 use Rattle.wt_table.specs.Table.{KeepsCalls, TableValue}
-use Rattle.wt_plan.specs.Tells.{TellsFacts, session_of_table}
+use Rattle.wt_plan.specs.PlansAgree.{TellsFacts, session_of_table}
 use Rattle.wt_session_spec.specs.SessionState.{is_answering}
 use Rattle.wt_turn.specs.declared.action.Action.TheVariants as actions
 use Rattle.wt_turn.specs.declared.call.Call.TheVariants as calls
@@ -78,7 +78,7 @@ module _ (f : CallFacts) (end : ℕ) (walk : ResponseWalk) (bytes : ℕ → List
   read-walk : (id : ℕ) (own : List Action) (w : ResponseWalk) → response_read other id own w ≡ response_read f id own w
   read-walk id own (responses.Fault code) = refl
   read-walk id own responses.Ended = refl
-  read-walk id own responses.Waiting = refl
+  read-walk id own responses.Incomplete = refl
   read-walk id own (responses.Response fields at) = refl
 
   module _ (same : walk ≡ f.response) where

@@ -11,7 +11,7 @@ use Rattle.wt_turn.specs.declared.action.Action.{Action}
 use Rattle.wt_wire.specs.declared.side.Side.{Side}
 use Rattle.wt_plan.proofs.LawfulLogs.{log_tells}
 use Rattle.wt_plan.specs.FactsNow.{DriverAnswers}
-use Rattle.wt_plan.specs.Tells.{AnswersLog, TellsFacts}
+use Rattle.wt_plan.specs.PlansAgree.{AnswersLog, TellsFacts}
 use Rattle.wt_plan.specs.Inboxes.{StagesReadAsCalled}
 
 read-at : (x : InboxState) (k : ℕ) (bytes : List ℕ) (position : ReadPosition) (stage : Stage) (n : ℕ) → IsAt x k bytes position stage → inboxes.body_offset stage ≡ Some n → position ≡ AtOffset n

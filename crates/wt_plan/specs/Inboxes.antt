@@ -8,7 +8,7 @@ use Rattle.wt_spec.specs.StreamTable.{verdict_of}
 use Rattle.wt_turn.specs.Log.{Log, calls_of}
 use Rattle.wt_wire.specs.declared.side.Side.{Side}
 
--- each stream whose receiving half the application has is read as far as its calls read it, behind the header
+-- each stream whose receiving half the application has is read as far as its calls read it, after the header
 abbrev pub StagesReadAsCalled : Side → Log → (ℕ → Stage) → Type 0
 StagesReadAsCalled side log stage =
     (k : ℕ) → has_receiving_half side log k ≡ true

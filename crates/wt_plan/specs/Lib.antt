@@ -1,6 +1,6 @@
 pub mod Planned
 pub mod FactsNow
 pub mod Heads
-pub mod Tells
+pub mod PlansAgree
 pub mod DriverAnswers
 pub mod Inboxes

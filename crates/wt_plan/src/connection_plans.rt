@@ -35,7 +35,8 @@ fn opening(
     next: Option<StreamId>,
     session: SessionId,
 ) -> Result<Plan, OutOfMemory>
-    ensures { (d : DriverAnswers) (kind : ℕ) → next ≡ opened_id_now t.now kind → IfOk result (λ p. defined_plan p ≡ opening_plan (facts_now t.now d) kind session) }
+    ensures { (d : DriverAnswers) (kind : ℕ) → next ≡ opened_id_now t.now kind
+        → IfOk result (λ p. defined_plan p ≡ opening_plan (facts_now t.now d) kind session) }
 {
     if !t.is_open() {
         let error = transport_error(alloc, t)?;
@@ -127,7 +128,8 @@ pub fn poll_opening(
     id: StreamId,
     session: SessionId,
 ) -> Result<Plan, OutOfMemory>
-    ensures { (d : DriverAnswers) → IfOk result (λ p. defined_plan p ≡ header_left (facts_now t.now d) id (left_of (facts_now t.now d) id (stream_header id session))) }
+    ensures { (d : DriverAnswers)
+        → IfOk result (λ p. defined_plan p ≡ header_left (facts_now t.now d) id (left_of (facts_now t.now d) id (stream_header id session))) }
 {
     let head = stream_header(alloc, id, session)?;
     header_left(alloc, t, id, left_of(t, id, head.as_slice()))
@@ -174,7 +176,7 @@ pub fn datagram(
     Ok(Plan::only_reply(alloc, Reply::DatagramFailed(error)))
 }
 
-/// What the limit leaves for a payload behind the quarter id.
+/// What the limit leaves for a payload after the quarter id.
 pub fn payload_limit(t: &Transport, session: SessionId) -> Option<u64>
     ensures { result ≡ payload_limit session t.now.datagram_fact }
 {

@@ -1,7 +1,7 @@
 //! Which halves of which streams the application has, by a session's table.
 ghost use Rattle.std.specs.Prelude.{◌≡◌};
 ghost use Rattle.wt_table.specs.Table.{KeepsCalls};
-ghost use Rattle.wt_plan.specs.Tells.{session_of_table};
+ghost use Rattle.wt_plan.specs.PlansAgree.{session_of_table};
 ghost use Rattle.wt_seam_spec.specs.Streams.{local_uni, peer_uni};
 ghost use Rattle.wt_session_spec.specs.SessionState.{has_receiving_now, has_sending_now, is_opening_now};
 ghost use Rattle.wt_spec.specs.Connection.{is_opening};

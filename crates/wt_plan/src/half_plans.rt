@@ -83,7 +83,8 @@ fn write_actions(
     bytes: &[u8],
 ) -> Result<Vec<Action>, OutOfMemory>
     requires { IsTrue (can_send_now t.now id) }
-    ensures { IfOk result (λ own. own.items ≡ send_of id (bytes_out (write_refusal t.now.is_open (sending_half_now t.now id)) (sending_half_now t.now id).left bytes.now)) }
+    ensures { IfOk result (λ own. own.items
+        ≡ send_of id (bytes_out (write_refusal t.now.is_open (sending_half_now t.now id)) (sending_half_now t.now id).left bytes.now)) }
 {
     let own = Vec::new(alloc);
     match write_refusal(t, id) {

@@ -35,7 +35,8 @@ use wt_wire::varint::VarInt;
 
 /// The queued request is delivered.
 pub fn delivered(alloc: Global, id: SessionId, headers: HeaderList) -> Plan
-    ensures { (f : CallFacts) (c : Classified) (later : List Classified) → c.id ≡ id → request_fields_of c.verdict ≡ headers → defined_plan result ≡ delivery f (c ∷ later) }
+    ensures { (f : CallFacts) (c : Classified) (later : List Classified) → c.id ≡ id → request_fields_of c.verdict ≡ headers
+        → defined_plan result ≡ delivery f (c ∷ later) }
 {
     Plan::only_record(
         alloc,
@@ -62,11 +63,12 @@ fn acceptance(
     t: &Transport,
     progress: HeadProgress,
     id: SessionId,
-    end: usize,
+    offset: usize,
     own: Vec<Action>,
     waiting: Record,
 ) -> Result<Plan, OutOfMemory>
-    ensures { (d : DriverAnswers) → d.request_end ≡ end → IfOk result (λ p. defined_plan p ≡ acceptance (progress_as progress) (facts_now t.now d) id own.items (record_of waiting)) }
+    ensures { (d : DriverAnswers) → d.request_end ≡ offset
+        → IfOk result (λ p. defined_plan p ≡ acceptance (progress_as progress) (facts_now t.now d) id own.items (record_of waiting)) }
 {
     match progress {
         HeadProgress::Ended => {
@@ -86,7 +88,7 @@ fn acceptance(
             call: waiting,
             reply: Reply::Pending,
         }),
-        HeadProgress::AllOut => Ok(Plan::Establish { own, id, at: end }),
+        HeadProgress::AllOut => Ok(Plan::Establish { own, id, offset }),
     }
 }
 
@@ -99,7 +101,8 @@ fn finished_rejection(
     id: StreamId,
     waiting: Record,
 ) -> Result<Plan, OutOfMemory>
-    ensures { (d : DriverAnswers) → IfOk result (λ p. defined_plan p ≡ finished_rejection (facts_now t.now d) (sending_now t.now id) (record_of waiting)) }
+    ensures { (d : DriverAnswers)
+        → IfOk result (λ p. defined_plan p ≡ finished_rejection (facts_now t.now d) (sending_now t.now id) (record_of waiting)) }
 {
     if t.stop_code(id).is_some() || t.is_acknowledged(id) {
         let own = with_close(alloc, Vec::new(alloc), t.is_open(), VarInt::from_u32(0))?;
@@ -138,7 +141,8 @@ fn rejection(
     own: Vec<Action>,
     waiting: Record,
 ) -> Result<Plan, OutOfMemory>
-    ensures { (d : DriverAnswers) → IfOk result (λ p. defined_plan p ≡ rejection (progress_as progress) (facts_now t.now d) id own.items (record_of waiting)) }
+    ensures { (d : DriverAnswers)
+        → IfOk result (λ p. defined_plan p ≡ rejection (progress_as progress) (facts_now t.now d) id own.items (record_of waiting)) }
 {
     match progress {
         HeadProgress::Ended => Ok(Plan::fail_with(Vec::new(alloc), Reply::Rejected)),
@@ -166,7 +170,8 @@ fn response_left(
     left: &[u8],
     waiting: Record,
 ) -> Result<Plan, OutOfMemory>
-    ensures { (d : DriverAnswers) → d.request_end ≡ end → IfOk result (λ p. defined_plan p ≡ response_left accepts (facts_now t.now d) id left.now (record_of waiting)) }
+    ensures { (d : DriverAnswers) → d.request_end ≡ end
+        → IfOk result (λ p. defined_plan p ≡ response_left accepts (facts_now t.now d) id left.now (record_of waiting)) }
 {
     let stream = id.session_stream();
     let progress = head_progress(t, stream, left);
@@ -188,7 +193,8 @@ pub fn response(
     head: &[u8],
     waiting: Record,
 ) -> Result<Plan, OutOfMemory>
-    ensures { (d : DriverAnswers) (s : SessionState) → s.requested ≡ id → d.request_end ≡ end → IfOk result (λ p. defined_plan p ≡ response_plan (facts_now t.now d) s accepts head.now (record_of waiting)) }
+    ensures { (d : DriverAnswers) (s : SessionState) → s.requested ≡ id → d.request_end ≡ end
+        → IfOk result (λ p. defined_plan p ≡ response_plan (facts_now t.now d) s accepts head.now (record_of waiting)) }
 {
     let left = left_of(t, id.session_stream(), head);
     response_left(alloc, t, accepts, id, end, left, waiting)
@@ -228,13 +234,13 @@ fn established(
     t: &Transport,
     id: SessionId,
     own: Vec<Action>,
-    at: usize,
+    offset: usize,
     error: ConnectionError,
 ) -> Plan
-    ensures { (d : DriverAnswers) → d.driver_error ≡ error → defined_plan result ≡ established_or_failed (facts_now t.now d) own.items id at }
+    ensures { (d : DriverAnswers) → d.driver_error ≡ error → defined_plan result ≡ established_or_failed (facts_now t.now d) own.items id offset }
 {
     if t.is_open() {
-        Plan::Establish { own, id, at }
+        Plan::Establish { own, id, offset }
     } else {
         failed_connect(own, ConnectingError::ConnectionError(error))
     }
@@ -261,17 +267,17 @@ fn response_read(
             let error = lost_connect(alloc, t)?;
             abandoned(alloc, t, own, error)
         }
-        ResponseWalk::Waiting => {
+        ResponseWalk::Incomplete => {
             if t.is_open() {
                 return Ok(Plan::send_and_reply(own, Reply::Pending));
             }
             Ok(failed_connect(own, lost_connect(alloc, t)?))
         }
-        ResponseWalk::Response(response, at) => {
+        ResponseWalk::Response(response, offset) => {
             if !response.code().is_successful() {
                 return abandoned(alloc, t, own, ConnectingError::SessionRejected);
             }
-            Ok(established(t, id, own, at, error))
+            Ok(established(t, id, own, offset, error))
         }
     }
 }
@@ -300,7 +306,9 @@ fn request_sent(
     walk: ResponseWalk,
     error: ConnectionError,
 ) -> Result<Plan, OutOfMemory>
-    ensures { (d : DriverAnswers) → d.driver_error ≡ error → d.response ≡ walk → IfOk result (λ p. defined_plan p ≡ request_sent (progress_as progress) (facts_now t.now d) id own.items (head_actions (progress_as progress) id (sending_now t.now id) left.now)) }
+    ensures { (d : DriverAnswers) → d.driver_error ≡ error → d.response ≡ walk
+        → IfOk result (λ p. defined_plan p
+        ≡ request_sent (progress_as progress) (facts_now t.now d) id own.items (head_actions (progress_as progress) id (sending_now t.now id) left.now)) }
 {
     let stream = id.session_stream();
     match progress {
@@ -337,7 +345,8 @@ fn request_left(
     walk: ResponseWalk,
     error: ConnectionError,
 ) -> Result<Plan, OutOfMemory>
-    ensures { (d : DriverAnswers) → d.driver_error ≡ error → d.response ≡ walk → IfOk result (λ p. defined_plan p ≡ request_left (facts_now t.now d) id own.items left.now) }
+    ensures { (d : DriverAnswers) → d.driver_error ≡ error → d.response ≡ walk
+        → IfOk result (λ p. defined_plan p ≡ request_left (facts_now t.now d) id own.items left.now) }
 {
     if is_empty(left) {
         return response_read(alloc, t, id, own, walk, error);
@@ -365,7 +374,8 @@ pub fn request(
     error: ConnectionError,
 ) -> Result<Plan, OutOfMemory>
     requires { id ≡ local_bi t.now.side }
-    ensures { (d : DriverAnswers) → d.driver_error ≡ error → d.response ≡ walk → IfOk result (λ p. defined_plan p ≡ request_plan (facts_now t.now d) (local_bi t.now.side) head.now) }
+    ensures { (d : DriverAnswers) → d.driver_error ≡ error → d.response ≡ walk
+        → IfOk result (λ p. defined_plan p ≡ request_plan (facts_now t.now d) (local_bi t.now.side) head.now) }
 {
     let left = left_of(t, id.session_stream(), head);
     if t.has_local_bi() {

@@ -10,4 +10,4 @@ pub mod handshake_plans;
 pub mod heads;
 pub mod plan;
 pub mod read_plans;
-pub mod tells;
+pub mod same_plans;

@@ -29,7 +29,7 @@ pub enum Plan {
     Establish {
         own: Vec<Action>,
         id: SessionId,
-        at: usize,
+        offset: usize,
     },
     /// The next unidirectional stream of the session is given.
     AcceptUni(SessionId),

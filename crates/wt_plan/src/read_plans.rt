@@ -72,7 +72,8 @@ pub fn read(alloc: Global, t: &Transport, id: StreamId, size: u64) -> Result<Pla
 /// With too few bytes: they are taken only where no more can come.
 #[tactic(auto, using(std::proofs::lemmas::List::take_all))]
 fn too_few_bytes(alloc: Global, t: &Transport, id: StreamId) -> Result<Plan, OutOfMemory>
-    ensures { (size : ℕ) → IfOk result (λ p. defined_plan p ≡ exact_plan id size (unread_now t.now id) (too_few t.now.is_open (end_now t.now id) (length (unread_now t.now id)))) }
+    ensures { (size : ℕ) → IfOk result (λ p. defined_plan p
+        ≡ exact_plan id size (unread_now t.now id) (too_few t.now.is_open (end_now t.now id) (length (unread_now t.now id)))) }
 {
     let error = match t.end(id) {
         StreamEnd::Running if t.is_open() => return Ok(Plan::only_reply(alloc, Reply::Pending)),

@@ -43,7 +43,7 @@ pub fn print_answer(alloc: Global, answer: &Answer) -> Result<Text, OutOfMemory>
     Ok(Text::from_string(line))
 }
 
-/// Adds the line of an answer, without its line feed. The error is a want of memory, and what was
+/// Adds the line of an answer, without its line feed. The error is that memory ran out, and what was
 /// added then is open.
 pub fn push_answer(alloc: Global, out: &mut String, answer: &Answer) -> Result<(), OutOfMemory>
     ensures { OnOk result (string_bytes out.new ≡ string_bytes out.old ++ answer_text answer.now) }
@@ -64,8 +64,8 @@ fn push_field(alloc: Global, out: &mut String, name: &str, value: &str) -> Resul
 fn push_fields(alloc: Global, out: &mut String, headers: &HeaderList) -> Result<(), OutOfMemory>
     ensures { OnOk result (string_bytes out.new ≡ string_bytes out.old ++ flat_map field_text headers.now) }
 {
-    for place in 0..headers.len() {
-        let (name, value) = headers.at(place);
+    for index in 0..headers.len() {
+        let (name, value) = headers.at(index);
         push_field(alloc, out, name, value)?;
     }
     Ok(())

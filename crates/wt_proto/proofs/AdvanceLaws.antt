@@ -6,48 +6,48 @@ use Rattle.std.proofs.Math.ListN.{drop_of_length-le}
 use Rattle.std.proofs.lemmas.Bool.{cases_lt}
 use Rattle.wt_proto.specs.declared.walk.Step.{Step}
 use Rattle.wt_proto.specs.declared.walk.Step.TheVariants.{Cut, Goes, Stops}
-use Rattle.wt_proto.specs.Progress.{Progress, progress_over, progress_after, reached_in, IsProper, Advances, progress_past, at_item}
+use Rattle.wt_proto.specs.WalkProgress.{WalkProgress, progress_over, progress_after, reached_in, IsProper, Advances, progress_past, at_item}
 use Rattle.wt_proto.specs.Steady.{size_of_step, IsSteady}
 use Rattle.wt_proto.proofs.ProgressLaws.{progress-inside, progress-cut, progress-goes, progress-stops, fed-fed, fed-nothing, inside-open, item-open, kept-open}
 
 drop-take-none : (n : ℕ) (xs : List ℕ) → drop n (take n xs) ≡ []
 drop-take-none n xs = drop_of_length-le (take n xs) (omega (arith, length-take n xs))
 
-advance-same : {S O : Type 0} (decide : S → List ℕ → Step S O) (old new other : Progress S O) (piece : List ℕ) (n m : ℕ) → new ≡ other → n ≡ m → Advances decide old new piece n → Advances decide old other piece m
+advance-same : {S O : Type 0} (decide : S → List ℕ → Step S O) (old new other : WalkProgress S O) (piece : List ℕ) (n m : ℕ) → new ≡ other → n ≡ m → Advances decide old new piece n → Advances decide old other piece m
 advance-same decide old new other piece n m e f a = record {
   within = omega (arith, a.within);
   taken = sym e ∙ (a.taken ∙ ap (λ (k : ℕ). progress_after decide old (take k piece)) f);
   running = λ k lt. a.running k (omega arith);
 }
 
-from-same : {S O : Type 0} (decide : S → List ℕ → Step S O) (old other new : Progress S O) (piece : List ℕ) (n : ℕ) → old ≡ other → Advances decide old new piece n → Advances decide other new piece n
+from-same : {S O : Type 0} (decide : S → List ℕ → Step S O) (old other new : WalkProgress S O) (piece : List ℕ) (n : ℕ) → old ≡ other → Advances decide old new piece n → Advances decide other new piece n
 from-same {S = S} {O = O} decide old other new piece n e a = record {
   within = a.within;
-  taken = a.taken ∙ ap (λ (p : Progress S O). progress_after decide p (take n piece)) e;
-  running = λ k lt. ap (λ (p : Progress S O). (reached_in (progress_after decide p (take k piece))).stop) (sym e) ∙ a.running k lt;
+  taken = a.taken ∙ ap (λ (p : WalkProgress S O). progress_after decide p (take n piece)) e;
+  running = λ k lt. ap (λ (p : WalkProgress S O). (reached_in (progress_after decide p (take k piece))).stop) (sym e) ∙ a.running k lt;
 }
 
 module _ {S O : Type 0} (decide : S → List ℕ → Step S O) (steady : IsSteady decide) where
-  pub advance-none : (p : Progress S O) (piece : List ℕ) → IsProper decide p → Advances decide p p piece 0
+  pub advance-none : (p : WalkProgress S O) (piece : List ℕ) → IsProper decide p → Advances decide p p piece 0
   advance-none p piece proper = record { within = omega arith; taken = sym (fed-nothing decide steady p proper); running = λ k lt. absurd (omega arith) }
 
-  further : (old mid : Progress S O) (piece : List ℕ) (m : ℕ) → Advances decide old mid piece m → (k : ℕ) → progress_after decide mid (take k (drop m piece)) ≡ progress_after decide old (take (m + k) piece)
+  further : (old mid : WalkProgress S O) (piece : List ℕ) (m : ℕ) → Advances decide old mid piece m → (k : ℕ) → progress_after decide mid (take k (drop m piece)) ≡ progress_after decide old (take (m + k) piece)
   further old mid piece m first k =
-      ap (λ (p : Progress S O). progress_after decide p (take k (drop m piece))) first.taken
+      ap (λ (p : WalkProgress S O). progress_after decide p (take k (drop m piece))) first.taken
       ∙ (fed-fed decide steady old (take m piece) (take k (drop m piece)) ∙ ap (λ (xs : List ℕ). progress_after decide old xs) (sym (take-add m k piece)))
 
-  still-open : (old mid new : Progress S O) (piece : List ℕ) (m n : ℕ) → Advances decide old mid piece m → Advances decide mid new (drop m piece) n →
+  still-open : (old mid new : WalkProgress S O) (piece : List ℕ) (m n : ℕ) → Advances decide old mid piece m → Advances decide mid new (drop m piece) n →
       (k : ℕ) → k < m + n → (reached_in (progress_after decide old (take k piece))).stop ≡ None
   still-open old mid new piece m n first then k lt =
       elim (cases_lt k m) [
         | inl before ↦ first.running k before
-        | inr behind ↦
+        | inr next_offset ↦
             let same : m + (k - m) ≡ k = omega arith in
             let lt' : k - m < n = omega arith in
-            ap (λ (p : Progress S O). (reached_in p).stop) (sym (further old mid piece m first (k - m) ∙ ap (λ (j : ℕ). progress_after decide old (take j piece)) same)) ∙ then.running (k - m) lt'
+            ap (λ (p : WalkProgress S O). (reached_in p).stop) (sym (further old mid piece m first (k - m) ∙ ap (λ (j : ℕ). progress_after decide old (take j piece)) same)) ∙ then.running (k - m) lt'
       ]
 
-  pub advance-then : (old mid new : Progress S O) (piece : List ℕ) (m n : ℕ) → Advances decide old mid piece m → Advances decide mid new (drop m piece) n → Advances decide old new piece (m + n)
+  pub advance-then : (old mid new : WalkProgress S O) (piece : List ℕ) (m n : ℕ) → Advances decide old mid piece m → Advances decide mid new (drop m piece) n → Advances decide old new piece (m + n)
   advance-then old mid new piece m n first then = record {
     within = omega (arith, first.within, then.within, length-drop m piece);
     taken = then.taken ∙ further old mid piece m first n;
@@ -71,7 +71,7 @@ module _ {S O : Type 0} (decide : S → List ℕ → Step S O) (steady : IsStead
   cut-front s xs ys e (Stops o n) f = let more = steady.more s xs ys n (ap (λ d. size_of_step d) f) in absurd cc
 
   cut-open : (s : S) (xs : List ℕ) → decide s xs ≡ Cut → (reached_in (progress_over decide s None 0 xs)).stop ≡ None
-  cut-open s xs e = ap (λ (p : Progress S O). (reached_in p).stop) (progress-cut decide s xs e) ∙ kept-open decide steady s xs
+  cut-open s xs e = ap (λ (p : WalkProgress S O). (reached_in p).stop) (progress-cut decide s xs e) ∙ kept-open decide steady s xs
 
   -- bytes that decide nothing yet
   pub advance-keep : (s : S) (kept piece : List ℕ) (n : ℕ) → decide s (kept ++ take n piece) ≡ Cut → n ≤ length piece →
@@ -113,12 +113,12 @@ module _ {S O : Type 0} (decide : S → List ℕ → Step S O) (steady : IsStead
     item-long more m e f le =
         elim (cases_lt m (length (kept ++ more))) [
           | inl lt ↦ elim (cases_lt (length kept) m) [
-            | inl behind ↦
+            | inl next_offset ↦
                 let shorter : take m (kept ++ more) ≡ kept ++ take (m - length kept) more = let same : m ≡ length kept + (m - length kept) = omega arith in ap (λ (j : ℕ). take j (kept ++ more)) same ∙ take-append-add kept more (m - length kept) in
                 let whole : decide s (take m (kept ++ more) ++ drop m (kept ++ more)) ≡ decide s (kept ++ more) = ap (λ (ys : List ℕ). decide s ys) (take-append-drop m (kept ++ more)) in
                 let same = steady.front s (take m (kept ++ more)) (drop m (kept ++ more)) m (ap (λ (x : Step S O). size_of_step x) whole ∙ f) (omega (arith, length-take m (kept ++ more))) in
-                let cut : decide s (kept ++ take (m - length kept) more) ≡ Cut = still (take (m - length kept) more) (omega (arith, ap length (sym shorter), length-take m (kept ++ more))) in
-                let back : decide s (take m (kept ++ more)) ≡ Cut = ap (λ (ys : List ℕ). decide s ys) shorter ∙ cut in
+                let is_cut : decide s (kept ++ take (m - length kept) more) ≡ Cut = still (take (m - length kept) more) (omega (arith, ap length (sym shorter), length-take m (kept ++ more))) in
+                let back : decide s (take m (kept ++ more)) ≡ Cut = ap (λ (ys : List ℕ). decide s ys) shorter ∙ is_cut in
                 absurd cc
             | inr short ↦ let same = steady.front s kept more m f short in absurd cc
           ]
@@ -142,11 +142,11 @@ module _ {S O : Type 0} (decide : S → List ℕ → Step S O) (steady : IsStead
           (omega (arith, length-append kept (take k piece), length-append kept (take n piece), length-take k piece, length-take n piece)));
     }
 
--- bytes behind those that are kept, up to those that were wanted
+-- bytes after those that are kept, up to those that were wanted
 module _ {S O : Type 0} (decide : S → List ℕ → Step S O) (steady : IsSteady decide) (s : S) (stop : Option O) (skip : ℕ) (kept : List ℕ)
     (proper : IsProper decide (record { state = s; stop = stop; skip = skip; kept = kept })) (some : 0 < length kept)
     (wanted : ℕ) (still : (ys : List ℕ) → length (kept ++ ys) < wanted → decide s (kept ++ ys) ≡ Cut) where
-  bare : ◌≡◌ {A = Progress S O} (record { state = s; stop = stop; skip = skip; kept = kept }) (record { state = s; stop = None; skip = 0; kept = kept })
+  bare : ◌≡◌ {A = WalkProgress S O} (record { state = s; stop = stop; skip = skip; kept = kept }) (record { state = s; stop = None; skip = 0; kept = kept })
   bare = rw ((proper.idle some).0, (proper.idle some).1) refl
 
   pub kept-long : (items more : List ℕ) (m : ℕ) → items ≡ kept ++ more → length items ≤ wanted → size_of_step (decide s items) ≡ Some m → length items ≤ m
@@ -154,7 +154,7 @@ module _ {S O : Type 0} (decide : S → List ℕ → Step S O) (steady : IsStead
       let long = item-long decide steady s kept wanted still more m proper.waits (ap (λ (xs : List ℕ). size_of_step (decide s xs)) (sym e) ∙ f) (omega (arith, ap length e)) in
       omega (arith, long, ap length e)
 
-  pub kept-advances : (new : Progress S O) (items piece : List ℕ) (n : ℕ) → items ≡ kept ++ take n piece → n ≤ length piece → length items ≤ wanted →
+  pub kept-advances : (new : WalkProgress S O) (items piece : List ℕ) (n : ℕ) → items ≡ kept ++ take n piece → n ≤ length piece → length items ≤ wanted →
       new ≡ progress_past s (decide s items) (length items) items → Advances decide (record { state = s; stop = stop; skip = skip; kept = kept }) new piece n
   kept-advances new items piece n e within le f =
       let more = advance-kept decide steady s kept wanted still piece n (decide s (kept ++ take n piece)) proper.waits refl within (omega (arith, ap length e)) in
@@ -191,7 +191,7 @@ rest-kept rest size_of_step xs kept items le none e =
     ap (λ (n : ℕ). drop rest (take n xs)) same ∙ (drop-take rest (size_of_step - rest) xs ∙ sym (e ∙ ap (λ (ys : List ℕ). ys ++ take (size_of_step - rest) (drop rest xs)) none))
 
 -- what code went over, seen from where the walk stood
-pub advances-bare : {S O : Type 0} (decide : S → List ℕ → Step S O) (old other new next : Progress S O) (piece : List ℕ) (n : ℕ) → old ≡ other → next ≡ new → Advances decide other next piece n → Advances decide old new piece n
+pub advances-bare : {S O : Type 0} (decide : S → List ℕ → Step S O) (old other new next : WalkProgress S O) (piece : List ℕ) (n : ℕ) → old ≡ other → next ≡ new → Advances decide other next piece n → Advances decide old new piece n
 advances-bare decide old other new next piece n e f a = from-same decide other old new piece n (sym e) (advance-same decide other next new piece n n f refl a)
 
 -- a loop over bytes stands in front of an item, in a state

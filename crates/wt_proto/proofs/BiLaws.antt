@@ -14,11 +14,11 @@ use Rattle.wt_proto.proofs.FrameLaws.{IsEffect, frames-steady, varint-on}
 use Rattle.wt_proto.proofs.WalkLaws.{outcome-stays}
 
 pub bi-effect : IsEffect bi_effect
-bi-effect = record { takes = takes }
+bi-effect = record { size_is = size_is }
   where
-    takes : (at n : ℕ) (f : frames.Frame) → size_of_step (bi_effect at n f) ≡ Some n
-    takes at n (frames.Skipped kind) = refl
-    takes at n _ = refl
+    size_is : (at n : ℕ) (f : frames.Frame) → size_of_step (bi_effect at n f) ≡ Some n
+    size_is at n (frames.Skipped kind) = refl
+    size_is at n _ = refl
 
 pub bi-steady : IsSteady bi_decides
 unfolding bi_decides

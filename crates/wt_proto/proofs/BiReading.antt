@@ -51,8 +51,8 @@ headers-final at (Err fault) = refl
 effect-final : (at : ℕ) (f : Option (frames.Frame × ℕ)) (w : Verdict) (m : ℕ) → step_of_item (bi_effect at) f ≡ Stops w m → is_final w ≡ true
 effect-final at None w m e = absurd cc
 effect-final at (Some (frames.Skipped kind, n)) w m e = absurd cc
-effect-final at (Some (frames.Signal id, n)) w m e = let judged = session-final id (at + n) in cc
-effect-final at (Some (frames.Headers payload, n)) w m e = let judged = headers-final (at + n) (headers_of payload) in cc
+effect-final at (Some (frames.Signal id, n)) w m e = let of_item = session-final id (at + n) in cc
+effect-final at (Some (frames.Headers payload, n)) w m e = let of_item = headers-final (at + n) (headers_of payload) in cc
 effect-final at _ w m e = cc
 
 bi-final : (at : ℕ) (bytes : List ℕ) (w : Verdict) (n : ℕ) → bi_decides at bytes ≡ Stops w n → is_final w ≡ true

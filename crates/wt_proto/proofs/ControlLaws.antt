@@ -26,14 +26,14 @@ chosen-taken true x y n e f = e
 chosen-taken false x y n e f = f
 
 pub control-effect : IsEffect control_effect
-control-effect = record { takes = takes }
+control-effect = record { size_is = size_is }
   where
-    takes : (s : Option Settings) (n : ℕ) (f : frames.Frame) → size_of_step (control_effect s n f) ≡ Some n
-    takes None n (frames.Settings payload) = settings-taken n (settings_of payload)
-    takes (Some s) n (frames.Settings payload) = refl
-    takes None n (frames.Skipped kind) = chosen-taken (frames.is_exercise kind) (control_fault None MissingSettings n) (Goes None n) n refl refl
-    takes (Some s) n (frames.Skipped kind) = refl
-    takes s n _ = refl
+    size_is : (s : Option Settings) (n : ℕ) (f : frames.Frame) → size_of_step (control_effect s n f) ≡ Some n
+    size_is None n (frames.Settings payload) = settings-taken n (settings_of payload)
+    size_is (Some s) n (frames.Settings payload) = refl
+    size_is None n (frames.Skipped kind) = chosen-taken (frames.is_exercise kind) (control_fault None MissingSettings n) (Goes None n) n refl refl
+    size_is (Some s) n (frames.Skipped kind) = refl
+    size_is s n _ = refl
 
 pub control-steady : IsSteady control_decides
 unfolding control_decides
@@ -84,14 +84,14 @@ led-came s b xs ys again (Goes t n) e f =
 led-came s b xs ys again (Stops o n) e f =
     rw (control-steady.more None (b ∷ xs) ys n (ap (λ d. size_of_step d) e) ∙ e) (again None (Some o) (n - 1) f)
 
-came : (s : Settings) (xs ys : List ℕ) (state : Option Settings) (stop : Option ControlWalk) (n : ℕ) →
+has_come : (s : Settings) (xs ys : List ℕ) (state : Option Settings) (stop : Option ControlWalk) (n : ℕ) →
     (walk control_decides state stop n xs).state ≡ Some s → (walk control_decides state stop n (xs ++ ys)).state ≡ Some s
-came s xs ys (Some t) stop n e = kept t (xs ++ ys) stop n ∙ (sym (kept t xs stop n) ∙ e)
-came s [] ys None stop (suc n) e = absurd cc
-came s (b ∷ xs) ys None stop (suc n) e = came s xs ys None stop n e
-came s [] ys None stop zero e = absurd cc
-came s (b ∷ xs) ys None (Some o) zero e = absurd cc
-came s (b ∷ xs) ys None None zero e = led-came s b xs ys (came s xs ys) (control_decides None (b ∷ xs)) refl e
+has_come s xs ys (Some t) stop n e = kept t (xs ++ ys) stop n ∙ (sym (kept t xs stop n) ∙ e)
+has_come s [] ys None stop (suc n) e = absurd cc
+has_come s (b ∷ xs) ys None stop (suc n) e = has_come s xs ys None stop n e
+has_come s [] ys None stop zero e = absurd cc
+has_come s (b ∷ xs) ys None (Some o) zero e = absurd cc
+has_come s (b ∷ xs) ys None None zero e = led-came s b xs ys (has_come s xs ys) (control_decides None (b ∷ xs)) refl e
 
 -- what stops the walk keeps the settings that came
 abbrev agrees : Option Settings → Option ControlWalk → Type 0
@@ -147,4 +147,4 @@ settings-are bytes end =
     settings-by end (whole_walk control_decides None bytes).state (whole_walk control_decides None bytes).between (whole_walk control_decides None bytes).stop (walk-agrees bytes None None 0 tt)
 
 pub settings_stay : (bytes more : List ℕ) (end later : StreamEnd) (s : Settings) → (control_walk_of bytes end).settings ≡ Some s → (control_walk_of (bytes ++ more) later).settings ≡ Some s
-settings_stay bytes more end later s e = settings-are (bytes ++ more) later ∙ came s bytes more None None 0 (sym (settings-are bytes end) ∙ e)
+settings_stay bytes more end later s e = settings-are (bytes ++ more) later ∙ has_come s bytes more None None 0 (sym (settings-are bytes end) ∙ e)

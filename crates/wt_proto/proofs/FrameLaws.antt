@@ -63,7 +63,7 @@ id-size : (at : ℕ) (i : Option (ℕ × ℕ)) (p : Frame × ℕ) → signal_wit
 id-size at None p e = absurd cc
 id-size at (Some i) p e = grind arith
 
--- what an id behind a signal has to be like
+-- what an id after a signal has to be like
 pub record ReadsOn (id_at : List ℕ → Option (ℕ × ℕ)) : Type 0 where
   pub more : (xs ys : List ℕ) (p : ℕ × ℕ) → id_at xs ≡ Some p → id_at (xs ++ ys) ≡ Some p
   pub front : (xs ys : List ℕ) (p : ℕ × ℕ) → id_at (xs ++ ys) ≡ Some p → p.1 ≤ length xs → id_at xs ≡ Some p
@@ -126,7 +126,7 @@ module _ (id_at : List ℕ → Option (ℕ × ℕ)) (on : ReadsOn id_at) where
 
 -- what an item does takes that item's bytes
 pub record IsEffect {A S O : Type 0} (effect : S → ℕ → A → Step S O) : Type 0 where
-  pub takes : (s : S) (n : ℕ) (item : A) → size_of_step (effect s n item) ≡ Some n
+  pub size_is : (s : S) (n : ℕ) (item : A) → size_of_step (effect s n item) ≡ Some n
 
 module _ {A S O : Type 0} (read : List ℕ → Option (A × ℕ)) (reader : IsReader read) (effect : S → ℕ → A → Step S O) (whole : IsEffect effect) where
   same-more : (s : S) (xs ys : List ℕ) (n : ℕ) (f : Option (A × ℕ)) → read xs ≡ f → size_of_step (step_of_item (effect s) f) ≡ Some n →
@@ -138,14 +138,14 @@ module _ {A S O : Type 0} (read : List ℕ → Option (A × ℕ)) (reader : IsRe
       step_of_item (effect s) (read xs) ≡ step_of_item (effect s) f
   same-front s xs ys n None is e le = absurd cc
   same-front s xs ys n (Some f) is e le =
-      let size : f.1 ≡ n = grind (arith, whole.takes s f.1 f.0) in
+      let size : f.1 ≡ n = grind (arith, whole.size_is s f.1 f.0) in
       let within : f.1 ≤ length xs = omega arith in
       rw (reader.front xs ys f is within) refl
 
   some-taken : (s : S) (xs : List ℕ) (n : ℕ) (f : Option (A × ℕ)) → read xs ≡ f → size_of_step (step_of_item (effect s) f) ≡ Some n → 1 ≤ n
   some-taken s xs n None is e = absurd cc
   some-taken s xs n (Some f) is e =
-      let size : f.1 ≡ n = grind (arith, whole.takes s f.1 f.0) in
+      let size : f.1 ≡ n = grind (arith, whole.size_is s f.1 f.0) in
       omega (arith, reader.some xs f is)
 
   nothing-decided : (s : S) → step_of_item (effect s) (read []) ≡ Cut
@@ -167,4 +167,4 @@ frames-steady id_at on effect whole = items-steady (frame_at id_at) (frame-reade
 -- where nothing is read nothing is decided, and the other way round
 pub decided-cut : {A S O : Type 0} (effect : S → ℕ → A → Step S O) → IsEffect effect → (s : S) (item : Option (A × ℕ)) → step_of_item (effect s) item ≡ Cut → item ≡ None
 decided-cut effect whole s None e = refl
-decided-cut effect whole s (Some item) e = let some : size_of_step (step_of_item (effect s) (Some item)) ≡ Some item.1 = whole.takes s item.1 item.0 in absurd (let none = ap (λ d. size_of_step d) e in cc)
+decided-cut effect whole s (Some item) e = let some : size_of_step (step_of_item (effect s) (Some item)) ≡ Some item.1 = whole.size_is s item.1 item.0 in absurd (let none = ap (λ d. size_of_step d) e in cc)

@@ -3,7 +3,7 @@ use Rattle.std.proofs.Common.{◌≡◌, ℕ, zero, suc, ◌-◌, ◌<◌, ◌�
 use Rattle.std.proofs.lemmas.List.{append-nil, length-take, take-append-drop}
 use Rattle.wt_proto.specs.declared.walk.Step.{Step}
 use Rattle.wt_proto.specs.declared.walk.Step.TheVariants.{Cut, Goes, Stops}
-use Rattle.wt_proto.specs.Progress.{Progress, progress_over, progress_after, reached_in, reached_at, IsProper}
+use Rattle.wt_proto.specs.WalkProgress.{WalkProgress, progress_over, progress_after, reached_in, reached_at, IsProper}
 use Rattle.wt_proto.specs.Steady.{size_of_step, IsSteady}
 use Rattle.wt_proto.specs.Walk.{step_on, walk}
 
@@ -24,9 +24,9 @@ module _ {S O : Type 0} (decide : S → List ℕ → Step S O) where
   walk-progress (b ∷ xs) s (Some o) zero = refl
   walk-progress (b ∷ xs) s None zero = led-reached s b xs (walk-progress xs) (decide s (b ∷ xs))
 
-  over : (s : S) (o : O) (ys : List ℕ) → progress_over decide s (Some o) 0 ys ≡ record { state = s; stop = Some o; skip = 0; kept = [] }
-  over s o [] = refl
-  over s o (y ∷ ys) = refl
+  over-stopped : (s : S) (o : O) (ys : List ℕ) → progress_over decide s (Some o) 0 ys ≡ record { state = s; stop = Some o; skip = 0; kept = [] }
+  over-stopped s o [] = refl
+  over-stopped s o (y ∷ ys) = refl
 
   -- bytes inside an item
   pub progress-inside : (xs : List ℕ) (s : S) (stop : Option O) (n : ℕ) → length xs ≤ n → progress_over decide s stop n xs ≡ record { state = s; stop = stop; skip = n - length xs; kept = [] }
@@ -37,7 +37,7 @@ module _ {S O : Type 0} (decide : S → List ℕ → Step S O) where
       let same : n - length xs ≡ suc n - suc (length xs) = omega arith in
       progress-inside xs s stop n (omega arith) ∙ ap (λ (m : ℕ). record { state = s; stop = stop; skip = m; kept = [] }) same
 
-  -- bytes up to the end of an item, and behind it
+  -- bytes up to the end of an item, and after it
   pub progress-behind : (xs : List ℕ) (s : S) (stop : Option O) (n : ℕ) → n ≤ length xs → progress_over decide s stop n xs ≡ progress_over decide s stop 0 (drop n xs)
   progress-behind xs s stop zero le = refl
   progress-behind [] s stop (suc n) le = absurd (omega arith)
@@ -67,7 +67,7 @@ module _ {S O : Type 0} (decide : S → List ℕ → Step S O) (steady : IsStead
   progress-stopped s o n [] e le = let none = steady.nothing s in absurd cc
   progress-stopped s o n (x ∷ xs) e le =
       let some : 1 ≤ n = steady.some s (x ∷ xs) n (ap (λ d. size_of_step d) e) in
-      rw e (progress-behind decide xs s (Some o) (n - 1) (omega arith) ∙ over decide s o (drop (n - 1) xs))
+      rw e (progress-behind decide xs s (Some o) (n - 1) (omega arith) ∙ over-stopped decide s o (drop (n - 1) xs))
 
   led-fed : (s : S) (b : ℕ) (xs ys : List ℕ) →
       ((t : S) (stop : Option O) (n : ℕ) → progress_after decide (progress_over decide t stop n xs) ys ≡ progress_over decide t stop n (xs ++ ys)) →
@@ -83,10 +83,10 @@ module _ {S O : Type 0} (decide : S → List ℕ → Step S O) (steady : IsStead
   fed-append [] ys s stop (suc n) = refl
   fed-append (b ∷ xs) ys s stop (suc n) = fed-append xs ys s stop n
   fed-append [] ys s stop zero = refl
-  fed-append (b ∷ xs) ys s (Some o) zero = over decide s o ys
+  fed-append (b ∷ xs) ys s (Some o) zero = over-stopped decide s o ys
   fed-append (b ∷ xs) ys s None zero = led-fed s b xs ys (fed-append xs ys) (decide s (b ∷ xs)) refl
 
-  pub fed-fed : (p : Progress S O) (xs ys : List ℕ) → progress_after decide (progress_after decide p xs) ys ≡ progress_after decide p (xs ++ ys)
+  pub fed-fed : (p : WalkProgress S O) (xs ys : List ℕ) → progress_after decide (progress_after decide p xs) ys ≡ progress_after decide p (xs ++ ys)
   fed-fed p xs ys = fed-append (p.kept ++ xs) ys p.state p.stop p.skip ∙ ap (λ (zs : List ℕ). progress_over decide p.state p.stop p.skip zs) (append_assoc p.kept xs ys)
 
   nothing-at : (s : S) (stop : Option O) (skip : ℕ) (kept : List ℕ) → decide s kept ≡ Cut → (0 < length kept → (skip ≡ 0) × (stop ≡ None)) →
@@ -97,7 +97,7 @@ module _ {S O : Type 0} (decide : S → List ℕ → Step S O) (steady : IsStead
   nothing-at s (Some o) zero (b ∷ kept) e idle = let none = (idle (omega arith)).1 in absurd cc
   nothing-at s stop (suc skip) (b ∷ kept) e idle = absurd (omega (arith, (idle (omega arith)).0))
 
-  pub fed-nothing : (p : Progress S O) → IsProper decide p → progress_after decide p [] ≡ p
+  pub fed-nothing : (p : WalkProgress S O) → IsProper decide p → progress_after decide p [] ≡ p
   fed-nothing p proper = nothing-at p.state p.stop p.skip p.kept proper.waits proper.idle
 
   -- in front of an item's last byte the walk didn't stop with it
@@ -113,7 +113,7 @@ module _ {S O : Type 0} (decide : S → List ℕ → Step S O) (steady : IsStead
   inside-open xs s stop n lt = rw (progress-inside decide xs s stop n (omega arith)) (skip-open s stop (n - length xs) [] (omega arith))
 
   open-at : (s : S) (xs : List ℕ) (d : Step S O) → decide s xs ≡ d → ((n : ℕ) → size_of_step d ≡ Some n → length xs < n) → (reached_in (progress_over decide s None 0 xs)).stop ≡ None
-  open-at s xs Cut e far = ap (λ (p : Progress S O). (reached_in p).stop) (progress-cut decide s xs e) ∙ kept-open s xs
+  open-at s xs Cut e far = ap (λ (p : WalkProgress S O). (reached_in p).stop) (progress-cut decide s xs e) ∙ kept-open s xs
   open-at s xs (Goes t n) e far = let lt : length xs < n = far n refl in rw (progress-goes s t n xs e (omega arith)) (skip-open t None (n - length xs) [] (omega arith))
   open-at s xs (Stops o n) e far = let lt : length xs < n = far n refl in rw (progress-stops s o n xs e (omega arith)) (skip-open s (Some o) (n - length xs) [] (omega arith))
 

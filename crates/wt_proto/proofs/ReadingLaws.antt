@@ -9,9 +9,9 @@ use Rattle.wt_wire.specs.declared.side.StreamEnd.{StreamEnd}
 use Rattle.wt_wire.specs.declared.side.StreamEnd.TheVariants.{Running}
 use Rattle.wt_proto.specs.declared.walk.Step.{Step}
 use Rattle.wt_proto.specs.declared.walk.Step.TheVariants.{Cut, Goes, Stops}
-use Rattle.wt_proto.specs.declared.cursor.Passed.{Passed}
+use Rattle.wt_proto.specs.declared.cursor.PassedItems.{PassedItems}
 use Rattle.wt_proto.specs.Cursor.{passed_outcome, progress_passed}
-use Rattle.wt_proto.specs.Progress.{Progress, Reading, HasRead, Advances, AdvancesSome, progress_over, progress_after, fed_reading, reached_in, reached_at, at_item, IsProper}
+use Rattle.wt_proto.specs.WalkProgress.{WalkProgress, Reading, HasRead, Advances, AdvancesSome, progress_over, progress_after, fed_reading, reached_in, reached_at, at_item, IsProper}
 use Rattle.wt_proto.specs.Reading.{ReadsAlike, outcome_in}
 use Rattle.wt_proto.specs.Steady.{IsSteady}
 use Rattle.wt_proto.specs.Walk.{Reached, step_on, outcome_at, whole_walk}
@@ -32,7 +32,7 @@ module _ {S O : Type 0} (decide : S → List ℕ → Step S O) (P : O → Type 0
   progress-stop (b ∷ xs) s (Some o) zero h = h
   progress-stop (b ∷ xs) s None zero h = led-stop s b xs (progress-stop xs) (decide s (b ∷ xs)) refl
 
-  pub advance-stop : (old new : Progress S O) (piece : List ℕ) (n : ℕ) → Advances decide old new piece n → IfSome old.stop P → IfSome new.stop P
+  pub advance-stop : (old new : WalkProgress S O) (piece : List ℕ) (n : ℕ) → Advances decide old new piece n → IfSome old.stop P → IfSome new.stop P
   advance-stop old new piece n a h = rw a.taken (progress-stop (old.kept ++ take n piece) old.state old.stop old.skip h)
 
 -- a reader that has read bytes and is fed more has read both
@@ -40,7 +40,7 @@ pub fed-read : {S O : Type 0} (decide : S → List ℕ → Step S O) (start : S)
     HasRead decide start (fed_reading decide r more) (bytes ++ more) end
 fed-read {S = S} {O = O} decide start steady r bytes more end has =
     ap (λ (x : Reading S O). fed_reading decide x more) has
-    ∙ ap (λ (p : Progress S O). record { progress = p; end = end }) (fed-append decide steady bytes more start None 0)
+    ∙ ap (λ (p : WalkProgress S O). record { progress = p; end = end }) (fed-append decide steady bytes more start None 0)
 
 module _ {S O : Type 0} (decide : S → List ℕ → Step S O) (start : S) (unfinished : StreamEnd → S → Bool → O) (outcome_of : List ℕ → StreamEnd → O)
     (reaches : (bytes : List ℕ) (end : StreamEnd) → outcome_of bytes end ≡ outcome_at unfinished end (whole_walk decide start bytes)) where
@@ -83,7 +83,7 @@ between-at s stop (suc skip) kept = rw suc-false refl
 between-at s stop zero [] = refl
 between-at s stop zero (b ∷ kept) = sym (suc-false (length kept))
 
-pub between-is : {S O : Type 0} (p : Progress S O) → (reached_in p).between ≡ (p.skip == 0 && length p.kept == 0)
+pub between-is : {S O : Type 0} (p : WalkProgress S O) → (reached_in p).between ≡ (p.skip == 0 && length p.kept == 0)
 between-is p = between-at p.state p.stop p.skip p.kept
 
 -- a reader that stopped has a final outcome
@@ -98,12 +98,12 @@ module _ {S O : Type 0} (decide : S → List ℕ → Step S O) (unfinished : Str
   pub stopped-final : {X : Type 0} (r : Reading S O) → IsProper decide r.progress → IfSome r.progress.stop (λ o. final o ≡ true) → (X → (is_some r.progress.stop && r.progress.skip == 0) ≡ true) → X → final (outcome_in unfinished r) ≡ true
   stopped-final r proper all over x = stopped-at r.progress.state r.progress.stop r.progress.skip r.progress.kept r.end proper.idle all (over x)
 
--- answers around a want of memory
+-- answers where memory may run out
 pub if_ok_with : {A E : Type 0} {P Q R : A → Type 0} (r : Result A E) → IfOk r P → IfOk r Q → ((x : A) → P x → Q x → R x) → IfOk r R
 if_ok_with (Ok x) p q f = f x p q
 if_ok_with (Err e) p q f = tt
 
-pub advanced : {S O E : Type 0} (decide : S → List ℕ → Step S O) (old new : Progress S O) (piece : List ℕ) (r : Result ℕ E) →
+pub advanced : {S O E : Type 0} (decide : S → List ℕ → Step S O) (old new : WalkProgress S O) (piece : List ℕ) (r : Result ℕ E) →
     IfOk r (λ n. Advances decide old new piece n) → OnErr r (AdvancesSome decide old new piece) → AdvancesSome decide old new piece
 advanced decide old new piece (Ok n) a b = (n, a)
 advanced decide old new piece (Err e) a b = b
@@ -123,12 +123,12 @@ fed-over decide s (Some o) zero (b ∷ kept) more idle none some = let bare = (i
 fed-over decide s (Some o) zero [] more idle none some = stopped-over decide s o more
 
 -- what is final while the stream runs was stopped: more bytes change nothing
-module _ {S O : Type 0} (decide : S → List ℕ → Step S O) (final : O → Bool) (unfinished : StreamEnd → S → Bool → O) (goes_on : (s : S) (b : Bool) → final (unfinished Running s b) ≡ false) where
+module _ {S O : Type 0} (decide : S → List ℕ → Step S O) (final : O → Bool) (unfinished : StreamEnd → S → Bool → O) (still_going : (s : S) (b : Bool) → final (unfinished Running s b) ≡ false) where
   stays-at : (s : S) (stop : Option O) (skip : ℕ) (kept more : List ℕ) → final (outcome_at unfinished Running (reached_at s stop skip kept)) ≡ true
       → progress_after decide (record { state = s; stop = stop; skip = skip; kept = kept }) more ≡ record { state = s; stop = stop; skip = skip; kept = kept }
-  stays-at s stop (suc skip) kept more e = let no_ = goes_on s false in absurd cc
-  stays-at s stop zero (b ∷ kept) more e = let no_ = goes_on s false in absurd cc
-  stays-at s None zero [] more e = let no_ = goes_on s true in absurd cc
+  stays-at s stop (suc skip) kept more e = let no_ = still_going s false in absurd cc
+  stays-at s stop zero (b ∷ kept) more e = let no_ = still_going s false in absurd cc
+  stays-at s None zero [] more e = let no_ = still_going s true in absurd cc
   stays-at s (Some o) zero [] more e = stopped-over decide s o more
 
   pub stays : (r : Reading S O) (more : List ℕ) → r.end ≡ Running → final (outcome_in unfinished r) ≡ true → progress_after decide r.progress more ≡ r.progress
@@ -148,7 +148,7 @@ module _ {S O : Type 0} (unfinished : StreamEnd → S → Bool → O) (end : Str
   passed-by (Some o) zero rest taken [] idle le len = refl
   passed-by (Some o) zero rest taken (b ∷ kept) idle le len = let none = (idle (omega arith)).1 in absurd cc
 
-pub passed-outcome : {S O : Type 0} (decide : S → List ℕ → Step S O) (steady : IsSteady decide) (unfinished : StreamEnd → S → Bool → O) (end : StreamEnd) (start s : S) (p : Passed O) (bytes : List ℕ) →
+pub passed-outcome : {S O : Type 0} (decide : S → List ℕ → Step S O) (steady : IsSteady decide) (unfinished : StreamEnd → S → Bool → O) (end : StreamEnd) (start s : S) (p : PassedItems O) (bytes : List ℕ) →
     Advances decide (at_item start) (progress_passed s p bytes) bytes p.taken → IsProper decide (progress_passed s p bytes) → p.rest ≤ p.taken → (p.taken < length bytes → (p.skip ≡ 0) × IsSome p.stop) →
     passed_outcome unfinished end s p ≡ outcome_at unfinished end (whole_walk decide start bytes)
 passed-outcome {S = S} {O = O} decide steady unfinished end start s p bytes a proper le all =
@@ -160,17 +160,17 @@ passed-outcome {S = S} {O = O} decide steady unfinished end start s p bytes a pr
     let is : progress_over decide start None 0 bytes ≡ progress_passed s p bytes =
     ap (λ (xs : List ℕ). progress_over decide start None 0 xs) (sym (take-append-drop p.taken bytes))
     ∙ (sym (fed-append decide steady (take p.taken bytes) (drop p.taken bytes) start None 0)
-    ∙ (ap (λ (x : Progress S O). progress_after decide x (drop p.taken bytes)) (sym a.taken) ∙ stays)) in
+    ∙ (ap (λ (x : WalkProgress S O). progress_after decide x (drop p.taken bytes)) (sym a.taken) ∙ stays)) in
     passed-by unfinished end s p.stop p.skip p.rest p.taken (drop p.rest (take p.taken bytes)) proper.idle le (omega (arith, a.within, length-drop p.rest (take p.taken bytes), length-take p.taken bytes))
-    ∙ (ap (λ (x : Progress S O). outcome_at unfinished end (reached_in x)) (sym is) ∙ ap (λ (r : Reached S O). outcome_at unfinished end r) (sym (walk-progress decide bytes start None 0)))
+    ∙ (ap (λ (x : WalkProgress S O). outcome_at unfinished end (reached_in x)) (sym is) ∙ ap (λ (r : Reached S O). outcome_at unfinished end r) (sym (walk-progress decide bytes start None 0)))
 
--- pieces one behind the other
+-- pieces one after the other
 module _ {S O : Type 0} (start : S) (decide : S → List ℕ → Step S O) (steady : IsSteady decide) where
   fold-read : (pieces : List (List ℕ)) (r : Reading S O) (bytes : List ℕ) (end : StreamEnd) → HasRead decide start r bytes end → HasRead decide start (fold (fed_reading decide) r pieces) (bytes ++ concat pieces) end
   fold-read [] r bytes end has = has ∙ ap (λ (xs : List ℕ). record { progress = progress_over decide start None 0 xs; end = end }) (sym (append-nil bytes))
   fold-read (piece ∷ pieces) r bytes end has =
       let more : HasRead decide start (fed_reading decide r piece) (bytes ++ piece) end =
-      ap (λ (x : Reading S O). fed_reading decide x piece) has ∙ ap (λ (p : Progress S O). record { progress = p; end = end }) (fed-append decide steady bytes piece start None 0) in
+      ap (λ (x : Reading S O). fed_reading decide x piece) has ∙ ap (λ (p : WalkProgress S O). record { progress = p; end = end }) (fed-append decide steady bytes piece start None 0) in
       fold-read pieces (fed_reading decide r piece) (bytes ++ piece) end more
       ∙ ap (λ (xs : List ℕ). record { progress = progress_over decide start None 0 xs; end = end }) (append_assoc bytes piece (concat pieces))
 

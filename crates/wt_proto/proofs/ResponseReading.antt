@@ -39,7 +39,7 @@ headers-final at (Err fault) = refl
 effect-final : (at : ℕ) (f : Option (frames.Frame × ℕ)) (w : ResponseWalk) (m : ℕ) → step_of_item (response_effect at) f ≡ Stops w m → is_response_final w ≡ true
 effect-final at None w m e = absurd cc
 effect-final at (Some (frames.Skipped kind, n)) w m e = absurd cc
-effect-final at (Some (frames.Headers payload, n)) w m e = let judged = headers-final (at + n) (headers_of payload) in cc
+effect-final at (Some (frames.Headers payload, n)) w m e = let of_item = headers-final (at + n) (headers_of payload) in cc
 effect-final at _ w m e = cc
 
 response-final : (at : ℕ) (bytes : List ℕ) (w : ResponseWalk) (n : ℕ) → response_decides at bytes ≡ Stops w n → is_response_final w ≡ true

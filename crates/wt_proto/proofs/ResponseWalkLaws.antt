@@ -12,11 +12,11 @@ use Rattle.wt_proto.proofs.FrameLaws.{IsEffect, frames-steady, session_id_ignore
 use Rattle.wt_proto.proofs.WalkLaws.{outcome-stays}
 
 pub response-effect : IsEffect response_effect
-response-effect = record { takes = takes }
+response-effect = record { size_is = size_is }
   where
-    takes : (at n : ℕ) (f : frames.Frame) → size_of_step (response_effect at n f) ≡ Some n
-    takes at n (frames.Skipped kind) = refl
-    takes at n _ = refl
+    size_is : (at n : ℕ) (f : frames.Frame) → size_of_step (response_effect at n f) ≡ Some n
+    size_is at n (frames.Skipped kind) = refl
+    size_is at n _ = refl
 
 pub response-steady : IsSteady response_decides
 unfolding response_decides

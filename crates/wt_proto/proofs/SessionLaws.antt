@@ -14,11 +14,11 @@ capsule-taken n None = refl
 capsule-taken n (Some value) = refl
 
 pub session-effect : IsEffect session_effect
-session-effect = record { takes = takes }
+session-effect = record { size_is = size_is }
   where
-    takes : (s : Unit {0}) (n : ℕ) (f : frames.Frame) → size_of_step (session_effect s n f) ≡ Some n
-    takes s n (frames.Data payload) = capsule-taken n (close_value_at payload)
-    takes s n _ = refl
+    size_is : (s : Unit {0}) (n : ℕ) (f : frames.Frame) → size_of_step (session_effect s n f) ≡ Some n
+    size_is s n (frames.Data payload) = capsule-taken n (close_value_at payload)
+    size_is s n _ = refl
 
 pub session-steady : IsSteady session_decides
 unfolding session_decides

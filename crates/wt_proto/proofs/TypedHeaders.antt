@@ -1,4 +1,4 @@
--- The header of a stream is its type, behind which a session's id stands for one type: it is read from its own bytes, and stays under more.
+-- The header of a stream is its type, after which a session's id stands for one type: it is read from its own bytes, and stays under more.
 use Rattle.std.proofs.Common.{◌≡◌, ℕ, ◌+◌, ◌≤◌, Bool, true, false, List, [], ◌++◌, length, drop, Option, Some, None, ◌⊎◌, inl, inr, cond, refl, sym, ap, ◌∙◌, arith}
 use Rattle.std.proofs.lemmas.List.{drop-append-le, length-drop}
 use Rattle.wt_wire.specs.Varint.{varint_at}
@@ -34,7 +34,7 @@ module _ {A : Type 0} (at : ℕ) where
   ends f (inl c) bound x p e le more = let size = size-of c.0 p (sym (c.1 x) ∙ e) in (omega (arith, size), omega (arith, size))
   ends f (inr c) bound x p e le more = more (sym (c x) ∙ e)
 
--- a header behind its type, and with a session's id behind that
+-- a header after its type, and with a session's id after that
 pub record IsTyped {A : Type 0} (session : ℕ → Option (ℕ × ℕ) → Option (A × ℕ)) (by-type : ℕ → ℕ → Option (A × ℕ) → Option (A × ℕ)) (typed : List ℕ → Option (ℕ × ℕ) → Option (A × ℕ)) : Type 0 where
   pub made : ℕ → ℕ × ℕ → A
   pub no-session : (at : ℕ) → session at None ≡ None
@@ -64,7 +64,7 @@ module _ {A : Type 0} (session : ℕ → Option (ℕ × ℕ) → Option (A × �
       let within : s.1 ≤ length xs = omega (arith, session-size at s p f) in
       rw (varint_at-front xs ys s e within) f
 
-  -- it ends behind its type, and within the bytes
+  -- it ends after its type, and within the bytes
   type-ends : (xs : List ℕ) (t : ℕ × ℕ) (p : A × ℕ) → varint_at xs ≡ Some t → typed xs (Some t) ≡ Some p → (t.1 ≤ p.1) × (p.1 ≤ length xs)
   type-ends xs t p e f =
       let within = varint_at-within xs t e in

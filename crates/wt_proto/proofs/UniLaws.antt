@@ -5,7 +5,7 @@ use Rattle.wt_wire.specs.declared.side.StreamEnd.TheVariants.{Running}
 use Rattle.wt_proto.specs.declared.verdict.Verdict.{Verdict}
 use Rattle.wt_proto.specs.declared.walk.Step.TheVariants.{Cut, Stops}
 use Rattle.wt_proto.specs.FrameSteps.{step_of_item}
-use Rattle.wt_proto.specs.Progress.{Progress, reached_in}
+use Rattle.wt_proto.specs.WalkProgress.{WalkProgress, reached_in}
 use Rattle.wt_proto.specs.Steady.{IsSteady}
 use Rattle.wt_proto.specs.Uni.{header_by_type, is_final, or_at_stream_end, session_header_at, session_verdict, typed_header_at, uni_decides, uni_effect, uni_header_at, uni_unfinished, uni_verdict_of}
 use Rattle.wt_proto.specs.Walk.{Reached, outcome_at, whole_walk}
@@ -32,7 +32,7 @@ uni-reader : IsReader uni_header_at
 uni-reader = header-reader session_header_at header_by_type typed_header_at header-typed
 
 pub uni-effect : IsEffect uni_effect
-uni-effect = record { takes = λ s n v. refl }
+uni-effect = record { size_is = λ s n v. refl }
 
 pub uni-steady : IsSteady uni_decides
 unfolding uni_decides
@@ -42,9 +42,9 @@ uni-steady = items-steady uni_header_at uni-reader uni_effect uni-effect
 verdict-by : (bytes : List ℕ) (end : StreamEnd) (h : Option (Verdict × ℕ)) → uni_header_at bytes ≡ h → or_at_stream_end end h ≡ outcome_at uni_unfinished end (whole_walk uni_decides tt bytes)
 unfolding uni_decides
 verdict-by bytes end None e =
-    let cut : uni_decides tt bytes ≡ Cut = ap (λ (x : Option (Verdict × ℕ)). step_of_item (uni_effect tt) x) e in
+    let is_cut : uni_decides tt bytes ≡ Cut = ap (λ (x : Option (Verdict × ℕ)). step_of_item (uni_effect tt) x) e in
     sym (ap (λ (r : Reached (Unit {0}) Verdict). outcome_at uni_unfinished end r) (walk-progress uni_decides bytes tt None 0)
-    ∙ ap (λ (p : Progress (Unit {0}) Verdict). outcome_at uni_unfinished end (reached_in p)) (progress-cut uni_decides tt bytes cut) ∙ open-cut bytes)
+    ∙ ap (λ (p : WalkProgress (Unit {0}) Verdict). outcome_at uni_unfinished end (reached_in p)) (progress-cut uni_decides tt bytes is_cut) ∙ open-cut bytes)
   where
     open-cut : (kept : List ℕ) → outcome_at uni_unfinished end (reached_in (record { state = tt; stop = None; skip = 0; kept = kept })) ≡ or_at_stream_end end None
     open-cut [] = refl
@@ -52,7 +52,7 @@ verdict-by bytes end None e =
 verdict-by bytes end (Some h) e =
     let stops : uni_decides tt bytes ≡ Stops h.0 h.1 = ap (λ (x : Option (Verdict × ℕ)). step_of_item (uni_effect tt) x) e in
     sym (ap (λ (r : Reached (Unit {0}) Verdict). outcome_at uni_unfinished end r) (walk-progress uni_decides bytes tt None 0)
-    ∙ ap (λ (p : Progress (Unit {0}) Verdict). outcome_at uni_unfinished end (reached_in p))
+    ∙ ap (λ (p : WalkProgress (Unit {0}) Verdict). outcome_at uni_unfinished end (reached_in p))
     (progress-stopped uni_decides uni-steady tt h.0 h.1 bytes stops (header-within session_header_at header_by_type typed_header_at header-typed bytes h e)))
 
 pub uni-reaches : (bytes : List ℕ) (end : StreamEnd) → uni_verdict_of bytes end ≡ outcome_at uni_unfinished end (whole_walk uni_decides tt bytes)

@@ -62,7 +62,7 @@ uni-awaited = item-awaited uni_header_at uni_wants header-awaited uni_effect uni
 
 session-header-final : (at : ℕ) (s : Option (ℕ × ℕ)) (p : Verdict × ℕ) → session_header_at at s ≡ Some p → is_final p.0 ≡ true
 session-header-final at None p e = absurd cc
-session-header-final at (Some s) p e = let judged = session-final s.0 (at + s.1) in cc
+session-header-final at (Some s) p e = let of_item = session-final s.0 (at + s.1) in cc
 
 plain-final : (v : Verdict) (at : ℕ) (p : Verdict × ℕ) → is_final v ≡ true → Some (v, at) ≡ Some p → is_final p.0 ≡ true
 plain-final v at p f e = cc

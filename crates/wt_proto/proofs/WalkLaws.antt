@@ -56,7 +56,7 @@ module _ {S O : Type 0} (decide : S → List ℕ → Step S O) (steady : IsStead
       outcome_at unfinished end (whole_walk decide start (bytes ++ more)) ≡ outcome_at unfinished Running (whole_walk decide start bytes)
   outcome-stays bytes more end f = stays-by bytes more end (whole_walk decide start bytes).stop refl f
 
--- an answer around a want of memory, at an equal value
+-- an answer where memory may run out, at an equal value
 pub if_ok_same : {A E : Type 0} (r : Result A E) (x y : A) → IfOk r (λ a. a ≡ x) → x ≡ y → IfOk r (λ a. a ≡ y)
 if_ok_same (Ok a) x y e f = e ∙ f
 if_ok_same (Err a) x y e f = e

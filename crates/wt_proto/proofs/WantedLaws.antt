@@ -93,7 +93,7 @@ chosen-few : (b : Bool) (u v n : ℕ) → u ≤ n → v ≤ n → cond b u v ≤
 chosen-few true u v n f g = f
 chosen-few false u v n f g = g
 
--- the integer behind a place
+-- the integer after a place
 pub behind-still : (bytes ys : List ℕ) (at : ℕ) → at ≤ length bytes → length (bytes ++ ys) < at + varint_wants (drop at bytes) → varint_at (drop at (bytes ++ ys)) ≡ None
 behind-still bytes ys at le lt =
     rw (drop-append-le at bytes ys le) (varint-still (drop at bytes) ys (omega (arith, length-append bytes ys, length-append (drop at bytes) ys, length-drop at bytes)))
@@ -119,7 +119,7 @@ length-few : (bytes : List ℕ) (kind at : ℕ) (l : Option (ℕ × ℕ)) → at
 length-few bytes kind at None le e = omega (arith, varint-few (drop at bytes))
 length-few bytes kind at (Some l) le e = omega (arith, header-few kind (at + l.1) l.0, varint_at-within (drop at bytes) l e)
 
--- an id that is read behind a signal, or isn't
+-- an id that is read after a signal, or isn't
 record AwaitsId (reads_id : Bool) (id_at : List ℕ → Option (ℕ × ℕ)) : Type 0 where
   pub still : (bytes ys : List ℕ) (at : ℕ) → at ≤ length bytes → length (bytes ++ ys) < id_wants reads_id bytes at → id_at (drop at (bytes ++ ys)) ≡ None
   pub onward : (bytes : List ℕ) (at : ℕ) → at ≤ length bytes → id_at (drop at bytes) ≡ None → length bytes < id_wants reads_id bytes at

@@ -30,7 +30,7 @@ headers_verdict at (Ok fields) = parsed_verdict at (request_of fields)
 headers_verdict at (Err fault) = Fault fault
 
 -- the state is the offset of the frame; the first one that isn't skipped is judged;
--- a signal may stand behind frames that are skipped (this repository's rule; draft-ietf-webtrans-http3, section 4.3, has it at the very front, and asks H3_FRAME_ERROR elsewhere)
+-- a signal may stand after frames that are skipped (this repository's rule; draft-ietf-webtrans-http3, section 4.3, has it at the very front, and asks H3_FRAME_ERROR elsewhere)
 abbrev pub bi_effect : ℕ → ℕ → frames.Frame → Step ℕ Verdict
 bi_effect at size (frames.Skipped kind) = Goes (at + size) size
 bi_effect at size (frames.Signal id) = Stops (session_verdict id (at + size)) size

@@ -1,4 +1,4 @@
--- The walk over the peer's control stream behind its type, over all bytes and the end (RFC 9114, sections 6.2.1 and 7.2.4).
+-- The walk over the peer's control stream after its type, over all bytes and the end (RFC 9114, sections 6.2.1 and 7.2.4).
 use Rattle.std.specs.Prelude.{ℕ, List, Bool, Option, Some, None, Result, Ok, Err, if◌then◌else◌}
 use Rattle.wt_proto.specs.declared.control_walk.ControlWalk.{ControlWalk}
 use Rattle.wt_wire.specs.declared.error.ErrorCode.{ErrorCode}

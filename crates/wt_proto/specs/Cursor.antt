@@ -2,13 +2,13 @@
 use Rattle.std.specs.Prelude.{◌≡◌, ℕ, ◌<◌, ◌≤◌, ◌++◌, List, length, take, drop, Bool, true, is_some, unwrap_or, ◌==◌, ◌&&◌, if◌then◌else◌}
 use Rattle.wt_wire.specs.declared.side.StreamEnd.{StreamEnd}
 use Rattle.wt_proto.specs.declared.cursor.Cursor.{Cursor}
-use Rattle.wt_proto.specs.declared.cursor.Passed.{Passed}
+use Rattle.wt_proto.specs.declared.cursor.PassedItems.{PassedItems}
 use Rattle.wt_proto.specs.declared.walk.Step.{Step}
 use Rattle.wt_proto.specs.declared.walk.Step.TheVariants.{Cut}
-use Rattle.wt_proto.specs.Progress.{Progress, IsProper}
+use Rattle.wt_proto.specs.WalkProgress.{WalkProgress, IsProper}
 
 -- how far it is
-abbrev pub progress_of : {S O : Type 0} → Cursor S O → Progress S O
+abbrev pub progress_of : {S O : Type 0} → Cursor S O → WalkProgress S O
 progress_of c = record { state = c.state; stop = c.stop; skip = c.skip; kept = c.kept.items }
 
 -- it is proper, and the bytes that are wanted beside those that are kept decide at the earliest with their last
@@ -19,9 +19,10 @@ pub record IsPlaced {S O : Type 0} (decide : S → List ℕ → Step S O) (c : C
   pub few : c.wanted ≤ 4112
 
 -- how far the walk is that went over bytes
-abbrev pub progress_passed : {S O : Type 0} → S → Passed O → List ℕ → Progress S O
+abbrev pub progress_passed : {S O : Type 0} → S → PassedItems O → List ℕ → WalkProgress S O
 progress_passed s p bytes = record { state = s; stop = p.stop; skip = p.skip; kept = drop p.rest (take p.taken bytes) }
 
 -- and its outcome
-abbrev pub passed_outcome : {S O : Type 0} → (StreamEnd → S → Bool → O) → StreamEnd → S → Passed O → O
-passed_outcome unfinished end s p = if is_some p.stop && p.skip == 0 then unwrap_or p.stop (unfinished end s true) else unfinished end s (p.skip == 0 && p.rest == p.taken)
+abbrev pub passed_outcome : {S O : Type 0} → (StreamEnd → S → Bool → O) → StreamEnd → S → PassedItems O → O
+passed_outcome unfinished end s p = if is_some p.stop
+    && p.skip == 0 then unwrap_or p.stop (unfinished end s true) else unfinished end s (p.skip == 0 && p.rest == p.taken)

@@ -6,7 +6,7 @@ pub mod ControlWalk
 pub mod SessionWalk
 pub mod Bi
 pub mod ResponseWalk
-pub mod Progress
+pub mod WalkProgress
 pub mod Steady
 pub mod Cursor
 pub mod Reading

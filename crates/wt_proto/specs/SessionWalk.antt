@@ -1,4 +1,4 @@
--- The walk over a session's stream behind the frame that made the session stand, over all bytes and the end (draft-ietf-webtrans-http3, section 5; RFC 9297, section 3.2).
+-- The walk over a session's stream after the frame that established the session, over all bytes and the end (draft-ietf-webtrans-http3, section 5; RFC 9297, section 3.2).
 use Rattle.std.specs.Prelude.{ℕ, List, [], Bool, true, false, Option, Some, None, Result, Ok, Err}
 use Rattle.wt_message.specs.declared.capsule.CloseWebTransportSession.{CloseWebTransportSession}
 use Rattle.wt_wire.specs.declared.error.ErrorCode.{ErrorCode}
@@ -20,7 +20,7 @@ closed_by (Ok close) = walks.Closed close.error_code close.reason
 closed_by (Err fault) = walks.Fault fault
 
 -- a payload with no such capsule at its front is skipped, so the capsule has to stand in one DATA frame, at its front
--- (this repository's rule; RFC 9297, section 3.2, has capsules one behind the other in a stream of bytes, which DATA frames cut anywhere)
+-- (this repository's rule; RFC 9297, section 3.2, has capsules one after the other in a stream of bytes, which DATA frames cut anywhere)
 abbrev pub on_capsule : ℕ → Option (List ℕ) → Step (Unit {0}) SessionWalk
 on_capsule size None = Goes tt size
 on_capsule size (Some value) = Stops (closed_by (close_of value)) size

@@ -17,7 +17,7 @@ at_stream_end Running = Incomplete
 at_stream_end Fin = Dropped
 at_stream_end (Reset code) = Dropped
 
--- the id of a session that stands in front of this offset: a multiple of 4
+-- the id of a session that ends at this offset: a multiple of 4
 abbrev pub session_verdict : ℕ → ℕ → Verdict
 session_verdict id at = if id % 4 == 0 then WebTransport id at else Fault Id
 

@@ -13,11 +13,11 @@ pub record Reached (S O : Type 0) : Type 0 where
 
 -- a step leads on: in a state, with what the walk stops with, after so many bytes
 abbrev pub step_on : {S O R : Type 0} → R → (S → Option O → ℕ → R) → S → Step S O → R
-step_on cut go s Cut = cut
-step_on cut go s (Goes t n) = go t None n
-step_on cut go s (Stops o n) = go s (Some o) n
+step_on at_cut go s Cut = at_cut
+step_on at_cut go s (Goes t n) = go t None n
+step_on at_cut go s (Stops o n) = go s (Some o) n
 
--- the walk over bytes of which the first so many are the rest of an item; with a stop it ends behind that item
+-- the walk over bytes of which the first so many are the rest of an item; with a stop it ends after that item
 abbrev pub walk : {S O : Type 0} → (S → List ℕ → Step S O) → S → Option O → ℕ → List ℕ → Reached S O
 walk decide s stop (suc rest) [] = record { state = s; stop = None; between = false }
 walk decide s stop (suc rest) (b ∷ bytes) = walk decide s stop rest bytes

@@ -31,13 +31,13 @@ fn of_request(headers: Headers, at: usize) -> Verdict
 fn headers_step(
     alloc: Global,
     payload: &[u8],
-    behind: u64,
+    next_offset: u64,
     size: usize,
 ) -> Result<Step<u64, Verdict>, OutOfMemory>
-    ensures { IfOk result (λ step. step ≡ Step.Stops (headers_verdict behind (headers_of payload.now)) size) }
+    ensures { IfOk result (λ step. step ≡ Step.Stops (headers_verdict next_offset (headers_of payload.now)) size) }
 {
     match Headers::with_payload(alloc, payload)? {
-        Ok(headers) => Ok(Step::Stops(of_request(headers, behind as usize), size as u64)),
+        Ok(headers) => Ok(Step::Stops(of_request(headers, next_offset as usize), size as u64)),
         Err(fault) => Ok(faulty(fault, size)),
     }
 }
@@ -59,16 +59,16 @@ fn bi_step(alloc: Global, at: u64, bytes: &[u8]) -> Result<Step<u64, Verdict>, O
         ParsedFrame::Signal(id_at) => match read_varint(&bytes[id_at..]) {
             Some((id, length)) => {
                 let size = (id_at + length) as u64;
-                let behind = behind_item(at, size)?;
-                Ok(Step::Stops(of_session(id, behind as usize), size))
+                let next_offset = behind_item(at, size)?;
+                Ok(Step::Stops(of_session(id, next_offset as usize), size))
             }
             None => Ok(Step::Cut),
         },
         ParsedFrame::TooLong(header) => Ok(faulty(ErrorCode::ExcessiveLoad, header)),
         ParsedFrame::Headers(header, size) => {
             let payload = &bytes[header..header + size];
-            let behind = behind_item(at, (header + size) as u64)?;
-            headers_step(alloc, payload, behind, header + size)
+            let next_offset = behind_item(at, (header + size) as u64)?;
+            headers_step(alloc, payload, next_offset, header + size)
         }
         ParsedFrame::Data(header, size) | ParsedFrame::Settings(header, size) => {
             Ok(faulty(ErrorCode::FrameUnexpected, header + size))

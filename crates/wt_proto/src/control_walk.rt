@@ -150,7 +150,7 @@ impl Walk for ControlWalk {
     }
 }
 
-/// The walk over the peer's control stream, over the bytes behind its type and its end
+/// The walk over the peer's control stream, over the bytes after its type and its end
 /// (RFC 9114, sections 6.2.1 and 7.2.4). Frames are judged one after another up to the first fault:
 /// DATA, HEADERS, a second SETTINGS or the signal of a WebTransport stream (FrameUnexpected), a
 /// payload longer than 4,096 bytes (ExcessiveLoad), a fault of the settings, an exercise frame

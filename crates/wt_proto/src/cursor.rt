@@ -1,7 +1,7 @@
 //! How far a walk is, and how code goes over bytes.
 ghost use Rattle.std.specs.Prelude.{◌≡◌, ◌≤◌, ◌<◌, ◌==◌, ◌&&◌, ◌-◌, ℕ, [], None, length, IfOk, OnErr, OnOk, IsOk, IsSome, Some, is_some, take, true, false};
 ghost use Rattle.wt_proto.specs.Cursor.{IsPlaced, passed_outcome, progress_of, progress_passed};
-ghost use Rattle.wt_proto.specs.Progress.{Advances, AdvancesSome, IsProper, at_item, progress_past};
+ghost use Rattle.wt_proto.specs.WalkProgress.{Advances, AdvancesSome, IsProper, at_item, progress_past};
 ghost use Rattle.wt_proto.specs.Steady.{IsAwaited, IsLawful, IsSteady, size_of_step};
 
 use crate::walk::{Step, Walk};
@@ -9,22 +9,22 @@ use std::alloc::Global;
 use wt_wire::error::OutOfMemory;
 use wt_wire::side::StreamEnd;
 
-/// Where a walk over whole bytes ended: what it stopped with behind the bytes to skip, how many
+/// Where a walk over whole bytes ended: what it stopped with after the bytes to skip, how many
 /// these are, the offset of an item that isn't decided, and how many bytes were taken.
 #[derive(Drop)]
-pub(crate) struct Passed<O> {
+pub(crate) struct PassedItems<O> {
     pub(crate) stop: Option<O>,
     pub(crate) skip: u64,
     pub(crate) rest: usize,
     pub(crate) taken: usize,
 }
 
-impl<O> Passed<O> {
+impl<O> PassedItems<O> {
     /// Nothing stopped the walk.
-    fn running(skip: u64, rest: usize, taken: usize) -> Passed<O>
+    fn running(skip: u64, rest: usize, taken: usize) -> PassedItems<O>
         ensures { result ≡ record { stop = None; skip = skip; rest = rest; taken = taken } }
     {
-        Passed {
+        PassedItems {
             stop: None,
             skip,
             rest,
@@ -33,10 +33,10 @@ impl<O> Passed<O> {
     }
 
     /// An item stopped it.
-    fn stopped(outcome: O, skip: u64, taken: usize) -> Passed<O>
+    fn stopped(outcome: O, skip: u64, taken: usize) -> PassedItems<O>
         ensures { result ≡ record { stop = Some outcome; skip = skip; rest = taken; taken = taken } }
     {
-        Passed {
+        PassedItems {
             stop: Some(outcome),
             skip,
             rest: taken,
@@ -51,7 +51,7 @@ pub(crate) fn go_over<W: Walk>(
     alloc: Global,
     state: &mut W::State,
     bytes: &[u8],
-) -> Result<Passed<W::Outcome>, OutOfMemory>
+) -> Result<PassedItems<W::Outcome>, OutOfMemory>
     requires { IsSteady W.decides }
     ensures advances { IfOk result (λ p. Advances W.decides (at_item state.old) (progress_passed state.new p bytes.now) bytes.now p.taken) }
     ensures proper { IfOk result (λ p. IsProper W.decides (progress_passed state.new p bytes.now)) }
@@ -67,21 +67,21 @@ pub(crate) fn go_over<W: Walk>(
         let left = (bytes.len() - at) as u64;
         match W::step(alloc, state, &bytes[at..]) {
             Err(error) => return Err(error),
-            Ok(Step::Cut) => return Ok(Passed::running(0, at, bytes.len())),
+            Ok(Step::Cut) => return Ok(PassedItems::running(0, at, bytes.len())),
             Ok(Step::Goes(next, size)) => {
                 *state = next;
                 if left < size {
-                    return Ok(Passed::running(size - left, bytes.len(), bytes.len()));
+                    return Ok(PassedItems::running(size - left, bytes.len(), bytes.len()));
                 }
                 at += size as usize;
             }
             Ok(Step::Stops(outcome, size)) => {
                 let n = size.min(left);
-                return Ok(Passed::stopped(outcome, size - n, at + n as usize));
+                return Ok(PassedItems::stopped(outcome, size - n, at + n as usize));
             }
         }
     }
-    Ok(Passed::running(0, at, at))
+    Ok(PassedItems::running(0, at, at))
 }
 
 /// The walk over whole bytes and the end.
@@ -106,12 +106,12 @@ fn outcome_passed<W: Walk>(
     alloc: Global,
     end: StreamEnd,
     state: &W::State,
-    passed: Passed<W::Outcome>,
+    passed: PassedItems<W::Outcome>,
 ) -> W::Outcome
     requires { passed.rest ≤ passed.taken }
     ensures { result ≡ passed_outcome W.unfinished_at end state.now passed }
 {
-    let Passed {
+    let PassedItems {
         stop,
         skip,
         rest,
@@ -183,7 +183,8 @@ fn decide_kept<W: Walk>(
     requires bare { (cursor.old.stop ≡ None) × (cursor.old.skip ≡ 0) }
     requires few { cursor.old.wanted ≤ 4112 }
     requires whole { (m : ℕ) → size_of_step (W.decides cursor.old.state cursor.old.kept.items) ≡ Some m → length cursor.old.kept.items ≤ m }
-    ensures passed { OnOk result (progress_of cursor.new ≡ progress_past cursor.old.state (W.decides cursor.old.state cursor.old.kept.items) (length cursor.old.kept.items) cursor.old.kept.items) }
+    ensures passed { OnOk result (progress_of cursor.new
+        ≡ progress_past cursor.old.state (W.decides cursor.old.state cursor.old.kept.items) (length cursor.old.kept.items) cursor.old.kept.items) }
     ensures placed { OnOk result (IsPlaced W.decides cursor.new) }
     ensures lost { OnErr result (cursor.new ≡ record cursor.old { kept = cursor.new.kept }) }
     ensures back { OnErr result (cursor.new.kept.items ≡ take had cursor.old.kept.items) }

@@ -5,7 +5,7 @@ ghost use Rattle.wt_proto.specs.ControlWalk.{control_decides};
 ghost use Rattle.wt_proto.specs.ResponseWalk.{response_decides};
 ghost use Rattle.wt_proto.specs.SessionWalk.{session_decides};
 ghost use Rattle.wt_proto.specs.Uni.{uni_decides};
-ghost use Rattle.wt_proto.specs.Progress.{Advances, AdvancesSome, HasRead, Reading, fed_reading};
+ghost use Rattle.wt_proto.specs.WalkProgress.{Advances, AdvancesSome, HasRead, Reading, fed_reading};
 ghost use Rattle.wt_proto.specs.Reading.{outcome_in};
 ghost use Rattle.wt_proto.specs.Steady.{IsLawful};
 ghost use Rattle.wt_wire.specs.declared.side.StreamEnd.{StreamEnd};
@@ -31,10 +31,10 @@ pub type UniReader = StreamReader<UniHeader>;
 /// A reader of a peer's bidirectional stream up to its verdict.
 pub type BiReader = StreamReader<BiHeader>;
 
-/// A reader of the peer's control stream behind its type.
+/// A reader of the peer's control stream after its type.
 pub type ControlReader = StreamReader<ControlWalk>;
 
-/// A reader of frames: of a session's stream behind the frame that made the session stand
+/// A reader of frames: of a session's stream after the frame that established the session
 /// (`SessionWalk`), or of a client's session stream from its first byte (`ResponseWalk`).
 pub type FrameReader<W> = StreamReader<W>;
 
@@ -49,7 +49,7 @@ pub struct StreamReader<W: Walk> {
 }
 
 impl<W: Walk> Model for StreamReader<W> {
-    ghost use Rattle.wt_proto.specs.Progress.{Reading};
+    ghost use Rattle.wt_proto.specs.WalkProgress.{Reading};
     ghost use Rattle.wt_proto.specs.Cursor.{progress_of};
     ghost use Rattle.wt_proto.specs.Reading.{IsReading};
 
@@ -132,7 +132,7 @@ impl<W: Walk> StreamReader<W> {
     }
 
     /// Takes the bytes of the piece up to the one with which the outcome is final, else all of them,
-    /// and tells how many. It counts one step. Where memory is short, the reader stands behind some
+    /// and tells how many. It counts one step. Where memory is short, the reader stands after some
     /// first bytes of the piece.
     pub fn feed<L: Ledger>(
         &mut self,
@@ -147,7 +147,7 @@ impl<W: Walk> StreamReader<W> {
             IfOk result (λ n. k < n → W.is_final_outcome (W.outcome_of (bytes ++ take k piece.now) end) ≡ false) }
         ensures stopped { (bytes : List ℕ) (end : StreamEnd) → HasRead W.decides W.start_state self.old bytes end →
             IfOk result (λ n. n < length piece.now → W.is_final_outcome (W.outcome_of (bytes ++ take n piece.now) end) ≡ true) }
-        ensures stands { IfOk result (λ n. n < length piece.now → W.is_final_outcome (outcome_in W.unfinished_at self.new) ≡ true) }
+        ensures stops_short { IfOk result (λ n. n < length piece.now → W.is_final_outcome (outcome_in W.unfinished_at self.new) ≡ true) }
         ensures steps { steps.new ≡ steps.old + 1 }
         ensures lost { OnErr result ((k : ℕ) × (k ≤ length piece.now) × (self.new ≡ fed_reading W.decides self.old (take k piece.now))) }
     {
@@ -156,10 +156,11 @@ impl<W: Walk> StreamReader<W> {
         self.take_piece(piece)
     }
 
-    /// Tells the end behind the bytes that were taken.
+    /// Tells the end after the bytes that were taken.
     pub fn end(&mut self, end: StreamEnd)
         ensures value { self.new ≡ record self.old { end = end } }
-        ensures read { (bytes : List ℕ) (before : StreamEnd) → HasRead W.decides W.start_state self.old bytes before → HasRead W.decides W.start_state self.new bytes end }
+        ensures read { (bytes : List ℕ) (before : StreamEnd) → HasRead W.decides W.start_state self.old bytes before
+            → HasRead W.decides W.start_state self.new bytes end }
     {
         let alloc = *self.cursor.kept.allocator();
         let between = self.cursor.is_between();

@@ -1,5 +1,5 @@
 //! Whatever the pieces are in which a stream's bytes come, each function whose contract is that law
-//! of a reader: byte by byte, in twos or whole, the reader stands alike behind them.
+//! of a reader: byte by byte, in twos or whole, the reader stands alike after them.
 ghost use Rattle.std.specs.Prelude.{None};
 ghost use Rattle.wt_proto.specs.Bi.{bi_decides, bi_unfinished, bi_verdict_of};
 ghost use Rattle.wt_proto.specs.ControlWalk.{control_decides, control_unfinished, control_walk_of};

@@ -17,9 +17,9 @@ use wt_wire::side::StreamEnd;
 /// What a server answered up to now.
 #[derive(Debug, Drop)]
 pub enum ResponseWalk {
-    /// No response came.
-    Waiting,
-    /// A response, and the offset of the first byte behind it.
+    /// No response came yet.
+    Incomplete,
+    /// A response, and the offset of the first byte after it.
     Response(SessionResponse, usize),
     /// The stream ended before a response.
     Ended,
@@ -47,13 +47,13 @@ fn faulty(fault: ErrorCode, size: usize) -> Step<u64, ResponseWalk>
 fn headers_step(
     alloc: Global,
     payload: &[u8],
-    behind: u64,
+    next_offset: u64,
     size: usize,
 ) -> Result<Step<u64, ResponseWalk>, OutOfMemory>
-    ensures { IfOk result (λ step. step ≡ Step.Stops (headers_response behind (headers_of payload.now)) size) }
+    ensures { IfOk result (λ step. step ≡ Step.Stops (headers_response next_offset (headers_of payload.now)) size) }
 {
     match Headers::with_payload(alloc, payload)? {
-        Ok(headers) => Ok(Step::Stops(of_response(headers, behind as usize), size as u64)),
+        Ok(headers) => Ok(Step::Stops(of_response(headers, next_offset as usize), size as u64)),
         Err(fault) => Ok(faulty(fault, size)),
     }
 }
@@ -74,8 +74,8 @@ fn response_step(
         ParsedFrame::TooLong(header) => Ok(faulty(ErrorCode::ExcessiveLoad, header)),
         ParsedFrame::Headers(header, size) => {
             let payload = &bytes[header..header + size];
-            let behind = behind_item(at, (header + size) as u64)?;
-            headers_step(alloc, payload, behind, header + size)
+            let next_offset = behind_item(at, (header + size) as u64)?;
+            headers_step(alloc, payload, next_offset, header + size)
         }
         ParsedFrame::Data(header, size) | ParsedFrame::Settings(header, size) => {
             Ok(faulty(ErrorCode::FrameUnexpected, header + size))
@@ -89,7 +89,7 @@ fn ended(end: StreamEnd) -> ResponseWalk
     ensures { (at : ℕ) (between : Bool) → result ≡ response_unfinished end at between }
 {
     match end {
-        StreamEnd::Running => ResponseWalk::Waiting,
+        StreamEnd::Running => ResponseWalk::Incomplete,
         StreamEnd::Fin | StreamEnd::Reset(_) => ResponseWalk::Ended,
     }
 }
@@ -133,7 +133,7 @@ impl Walk for ResponseWalk {
 
     fn is_final(walk: &ResponseWalk) -> bool {
         match walk {
-            ResponseWalk::Waiting | ResponseWalk::Ended => false,
+            ResponseWalk::Incomplete | ResponseWalk::Ended => false,
             ResponseWalk::Response(_, _) | ResponseWalk::Fault(_) => true,
         }
     }

@@ -133,7 +133,7 @@ impl Walk for SessionWalk {
     }
 }
 
-/// The walk over a session's stream, over the bytes behind the frame that made the session stand
+/// The walk over a session's stream, over the bytes after the frame that established the session
 /// and its end (draft-ietf-webtrans-http3, section 5). Frames are judged one after another up to
 /// the first that ends the walk: a DATA frame with a capsule that closes the session at its front,
 /// which is a fault where its value is malformed (Message); SETTINGS or the signal of a WebTransport

@@ -121,7 +121,8 @@ impl StreamHeader {
     #[tactic(auto, using(crate::proofs::HeaderAgain::control_again, crate::proofs::HeaderAgain::session_again))]
     pub fn write(&self, out: &mut Vec<u8>) -> Result<(), OutOfMemory>
         ensures bytes { OnOk result (out.new.items ≡ out.old.items ++ header_bytes self.now) }
-        ensures again { OnOk result ((more : List ℕ) (end : StreamEnd) → uni_verdict_of (header_bytes self.now ++ more) end ≡ header_verdict self.now) }
+        ensures again { OnOk result ((more : List ℕ) (end : StreamEnd)
+            → uni_verdict_of (header_bytes self.now ++ more) end ≡ header_verdict self.now) }
     {
         match self.session {
             None => write_varint(StreamKind::Control.number(), out),

@@ -12,7 +12,7 @@ use wt_wire::ids::{SessionId, StreamId};
 use wt_wire::side::StreamEnd;
 use wt_wire::varint::{VarInt, read_varint};
 
-/// What the front of a peer's stream says. A number is the offset of the first byte behind what was
+/// What the front of a peer's stream says. A number is the offset of the first byte after what was
 /// read.
 #[derive(Debug, Drop)]
 pub enum Verdict {
@@ -82,7 +82,7 @@ fn uni_header(bytes: &[u8]) -> Option<(Verdict, usize)>
     }
 }
 
-/// The id of a session, behind a type of so many bytes.
+/// The id of a session, after a type of so many bytes.
 fn session_header(bytes: &[u8], at: usize) -> Option<(Verdict, usize)>
     requires { at ≤ 8 }
     ensures { result ≡ session_header_at at (varint_at bytes.now) }

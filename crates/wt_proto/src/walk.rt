@@ -12,13 +12,13 @@ use wt_wire::side::StreamEnd;
 pub enum Step<S, O> {
     /// The bytes end before anything is decided.
     Cut,
-    /// Behind the item the walk goes on in this state.
+    /// After the item the walk goes on in this state.
     Goes(S, u64),
     /// With the item's last byte the walk stops with this outcome.
     Stops(O, u64),
 }
 
-/// A walk over the items of a stream, one behind the other, up to the one that stops it. What an
+/// A walk over the items of a stream, one after the other, up to the one that stops it. What an
 /// item does is decided by the state that the items before it left and by the item's own bytes
 /// alone.
 pub trait Walk {
@@ -39,7 +39,7 @@ pub trait Walk {
     // the outcome where no item stopped the walk: by the end, the state, and whether the bytes end between two items
     ghost unfinished_at: { StreamEnd → Self.State → Bool → Self.Outcome };
 
-    // whether an outcome is final: no byte is taken behind it
+    // whether an outcome is final: no byte is taken after it
     ghost is_final_outcome: { Self.Outcome → Bool };
 
     // the outcome of all bytes and the end
@@ -74,14 +74,14 @@ pub trait Walk {
     ) -> Self::Outcome
         ensures { result ≡ unfinished_at end state.now between };
 
-    /// Whether the outcome is final, so that no byte is taken behind it.
+    /// Whether the outcome is final, so that no byte is taken after it.
     fn is_final(outcome: &Self::Outcome) -> bool
         ensures { result ≡ is_final_outcome outcome.now };
 }
 
-/// The offset behind an item. One above 2^64 - 1 is more than any memory counts.
+/// The offset after an item. One above 2^64 - 1 is more than any memory counts.
 pub(crate) fn behind_item(at: u64, size: u64) -> Result<u64, OutOfMemory>
-    ensures { IfOk result (λ behind. behind ≡ at + size) }
+    ensures { IfOk result (λ next_offset. next_offset ≡ at + size) }
 {
     at.checked_add(size).ok_or(OutOfMemory)
 }

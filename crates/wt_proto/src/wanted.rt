@@ -47,7 +47,7 @@ fn length_wanted(bytes: &[u8], kind: u64, at: usize) -> usize
     }
 }
 
-/// Of a frame; where the id behind a signal is read, of that too (RFC 9114, section 7.1).
+/// Of a frame; where the id after a signal is read, of that too (RFC 9114, section 7.1).
 #[tactic(auto, unfolding(crate::specs::Wanted::frame_wants))]
 pub(crate) fn frame_wanted(bytes: &[u8], reads_id: bool) -> usize
     ensures { result ≡ frame_wants reads_id bytes.now }

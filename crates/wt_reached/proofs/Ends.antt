@@ -16,7 +16,7 @@ use Rattle.wt_laws.proofs.Facts.{facts-first}
 use Rattle.wt_laws.proofs.HeaderLaws.{no-new-session}
 use Rattle.wt_laws.proofs.Looks.{from-or}
 use Rattle.wt_laws.proofs.Reached.{reached}
-use Rattle.wt_laws.proofs.SendLaws.{Given, given-entries}
+use Rattle.wt_laws.proofs.SendLaws.{GivenStreams, given-entries}
 use Rattle.wt_laws.proofs.SessionLaws.{from-request, handshakes-first}
 use Rattle.wt_laws.proofs.Steps.{Keeps, of-record}
 use Rattle.wt_laws.specs.Causes.{ActionCause, FinishCause, OfCall, OfRejection, OwnCauses}
@@ -34,7 +34,7 @@ abbrev pub IsSession : List CallRecord → ℕ → Type 0
 IsSession cs k = (s : ℕ × ℕ) × (established_session cs ≡ Some s) × (s.0 ≡ k)
 
 pub record Ends (side : Side) (log : Log) : Type 0 where
-  pub given : Given side log
+  pub given : GivenStreams side log
   pub finished : (k : ℕ) → is_finished (actions_of log) k ≡ true → (is_accepted log k ≡ true) ⊎ (list_any (delivers k) (calls_of log) ≡ true)
   pub reset : (k : ℕ) → is_reset log k ≡ true → (is_accepted log k ≡ true) ⊎ IsSession (calls_of log) k
 

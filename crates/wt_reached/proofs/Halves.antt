@@ -5,7 +5,7 @@ use Rattle.wt_turn.specs.Log.{Log, calls_of}
 use Rattle.wt_wire.specs.declared.side.Side.{Side}
 use Rattle.wt_laws.proofs.SessionLaws.{has_request}
 use Rattle.wt_laws.specs.Reachable.{IsReachable}
-use Rattle.wt_reached.proofs.Handshaking.{Reached, asked-left, asked-unfinished, asks, connect-unfinished, connect-unreset, opening-there, opening-unfinished, opening-unreset, reached-holds, request-there, request-unreset, responding-unfinished}
+use Rattle.wt_reached.proofs.Handshaking.{Reached, asked-left, asked-unfinished, asking, connect-unfinished, connect-unreset, opening-there, opening-unfinished, opening-unreset, reached-holds, request-there, request-unreset, responding-unfinished}
 use Rattle.wt_reached.proofs.Rejecting.{rejects-whole}
 use Rattle.wt_reached.proofs.There.{given-origin, given-receives, given-sends}
 use Rattle.wt_reached.specs.Reading.{Origin}
@@ -20,7 +20,7 @@ module _ (side : Side) (log : Log) (r : IsReachable side log) where
 
   starts-well : awaits_answer (handshake_state (calls_of log)) ≡ true → (accepts : Bool) (head : List ℕ) → (accepts ≡ false → head ≡ [] → ⊥) → RespondsWell side log accepts head
   starts-well w accepts head n =
-      let q = asks side log holds (handshake_state (calls_of log)) refl w in
+      let q = asking side log holds (handshake_state (calls_of log)) refl w in
       record {
         there = request-there side log holds q;
         unreset = request-unreset side log holds q;

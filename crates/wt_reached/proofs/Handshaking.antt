@@ -10,7 +10,7 @@ use Rattle.wt_turn.specs.Log.{Log, actions_of, calls_of}
 use Rattle.wt_wire.specs.declared.side.Side.{Side}
 use Rattle.wt_laws.proofs.SendLaws.{accepted-ends}
 use Rattle.wt_laws.proofs.SessionLaws.{has_request}
-use Rattle.wt_laws.proofs.SessionStream.{Out, for-client, for-server, is_unanswered, not-given, not-true-so, so-far-reached}
+use Rattle.wt_laws.proofs.SessionStream.{FrameOut, for-client, for-server, is_unanswered, not-given, not-true-so, so-far-reached}
 use Rattle.wt_laws.specs.Causes.{is_under_way}
 use Rattle.wt_laws.specs.Laws.{session_frame}
 use Rattle.wt_laws.specs.Reachable.{IsReachable}
@@ -26,7 +26,7 @@ use Rattle.wt_spec.specs.Handshake.{Connecting, HandshakeState, Requested, Respo
 -- what holds of a log that lawful turns lead to
 pub record Reached (side : Side) (log : Log) : Type 0 where
   pub frame : Option (List ℕ)
-  pub out : Out side frame log
+  pub out : FrameOut side frame log
   pub ends : Ends side log
   pub unanswered : is_client side ≡ false → is_unanswered (handshake_state (calls_of log)) ≡ true → frame ≡ None
 
@@ -122,18 +122,18 @@ module _ (side : Side) (log : Log) (h : Reached side log) where
         at (Requested id) w = (refl, refl)
         at _ w = absurd (cc)
 
-    pub asks : has_request (handshake_state (calls_of log)) ≡ true
-    asks = ap has_request i ∙ unanswered-so.0
+    pub asking : has_request (handshake_state (calls_of log)) ≡ true
+    asking = ap has_request i ∙ unanswered-so.0
 
     no-frame : h.frame ≡ None
-    no-frame = h.unanswered (h.out.asked asks) (ap is_unanswered i ∙ unanswered-so.1)
+    no-frame = h.unanswered (h.out.asked asking) (ap is_unanswered i ∙ unanswered-so.1)
 
     pub asked-unfinished : is_finished (actions_of log) (requested_stream (calls_of log)) ≡ false
-    asked-unfinished = not-true-so (is_finished (actions_of log) (requested_stream (calls_of log))) (λ f. absurd (let x = request-frame asks f in let y = no-frame in cc))
+    asked-unfinished = not-true-so (is_finished (actions_of log) (requested_stream (calls_of log))) (λ f. absurd (let x = request-frame asking f in let y = no-frame in cc))
 
     pub asked-left : (head : List ℕ) → head_left log (requested_stream (calls_of log)) head ≡ head
     asked-left head =
-        let b = request-begun asks in
+        let b = request-begun asking in
         ap (λ (xs : List ℕ). drop (length xs) head) (b.1 ∙ ap (λ (o : Option (List ℕ)). take b.0 (unwrap_or o [])) no-frame ∙ none-of b.0)
 
   -- once finished, all of the response is out

@@ -136,7 +136,7 @@ IsThere side log k = (v : Verdict) × (verdict_of k (stream_table side log).clas
 pub record Recorded (side : Side) (log : Log) : Type 0 where
   pub queued : (k : ℕ) → list_any (delivers k) (calls_of log) ≡ true → IsQueued side log k
   pub passed : (k : ℕ) → list_any (passes k) (calls_of log) ≡ true → IsThere side log k
-  pub goes_on : (reserved : Option (List ℕ)) (head : List ℕ) (k : ℕ) → handshake_state (calls_of log) ≡ Connecting reserved head → (use_of k (calls_of log)).is_over ≡ false
+  pub still_going : (reserved : Option (List ℕ)) (head : List ℕ) (k : ℕ) → handshake_state (calls_of log) ≡ Connecting reserved head → (use_of k (calls_of log)).is_over ≡ false
 
 there-stays : (side : Side) (e : Entry) (log : Log) (k : ℕ) → IsThere side log k → IsThere side (e ∷ log) k
 there-stays side e log k t = (t.0, classified-stays side k t.0 e log t.1)
@@ -145,7 +145,7 @@ same-calls : (side : Side) (e : Entry) (log : Log) → calls_of (e ∷ log) ≡ 
 same-calls side e log c h = record {
   queued = λ k x. queued-stays side e log k (h.queued k (ap (list_any (delivers k)) (sym c) ∙ x));
   passed = λ k x. there-stays side e log k (h.passed k (ap (list_any (passes k)) (sym c) ∙ x));
-  goes_on = λ reserved head k x. ap (λ (cs : List CallRecord). (use_of k cs).is_over) c ∙ h.goes_on reserved head k (ap handshake_state (sym c) ∙ x);
+  still_going = λ reserved head k x. ap (λ (cs : List CallRecord). (use_of k cs).is_over) c ∙ h.still_going reserved head k (ap handshake_state (sym c) ∙ x);
 }
 
 new-queued : (side : Side) (turn : Turn) (log : Log) (k : ℕ) (r : CallRecord) → RecordCause side turn log r → delivers k r ≡ true → IsQueued side log k
@@ -167,13 +167,13 @@ new-goes-on side turn log (RequestDelivered id) reserved head k g c e = absurd (
 new-goes-on side turn log (ResponseStarted a h) reserved head k g c e = absurd (cc)
 new-goes-on side turn log (SessionEstablished id at) reserved head k g c e = absurd (cc)
 new-goes-on side turn log HandshakeOver reserved head k g c e = absurd (cc)
-new-goes-on side turn log _ reserved head k g c e = g.goes_on reserved head k e
+new-goes-on side turn log _ reserved head k g c e = g.still_going reserved head k e
 
 record-recorded : (side : Side) (turn : Turn) (log : Log) (r : CallRecord) → RecordCause side turn log r → Recorded side log → Recorded side (Called r ∷ log)
 record-recorded side turn log r c h = record {
   queued = λ k x. queued-stays side (Called r) log k (from-or (delivers k r) _ (new-queued side turn log k r c) (h.queued k) x);
   passed = λ k x. there-stays side (Called r) log k (from-or (passes k r) _ (new-passed side turn log k r c) (h.passed k) x);
-  goes_on = λ reserved head k e. new-goes-on side turn log r reserved head k h c e;
+  still_going = λ reserved head k e. new-goes-on side turn log r reserved head k h c e;
 }
 
 pub recorded-entries : (side : Side) (turn : Turn) → KeepsEntries side turn (Recorded side)
@@ -186,7 +186,7 @@ recorded-entries side turn = record {
 }
 
 pub first-recorded : (side : Side) → Recorded side []
-first-recorded side = record { queued = λ k e. absurd (cc); passed = λ k e. absurd (cc); goes_on = λ reserved head k e. absurd (cc) }
+first-recorded side = record { queued = λ k e. absurd (cc); passed = λ k e. absurd (cc); still_going = λ reserved head k e. absurd (cc) }
 
 pub recorded-holds : (side : Side) (log : Log) → IsReachable side log → Recorded side log
 recorded-holds side log r = reached (Recorded side) (first-recorded side) (λ turn. by-entries (recorded-entries side turn)) log r
@@ -305,7 +305,7 @@ module _ (side : Side) (log : Log) (r : IsReachable side log) where
   connects reserved head e = record {
     client = is-the-client side (holds.out.connecting reserved head e).1;
     unestablished = holds.out.heads.given.handshakes.none_yet (ap is_under_way e);
-    goes_on = so-far.goes_on reserved head (local_bi side) e;
+    still_going = so-far.still_going reserved head (local_bi side) e;
   }
 
   receives : (k : ℕ) → has_receiving_now side (session_state log) k ≡ true → is_for_application (role_of side k) (classified_of k (stream_table side log).classified) ≡ true

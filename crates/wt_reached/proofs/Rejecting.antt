@@ -19,7 +19,7 @@ use Rattle.wt_laws.proofs.Caused.{sent-send}
 use Rattle.wt_laws.proofs.Facts.{IsSessions, is_local}
 use Rattle.wt_laws.proofs.Reached.{keeps-turn}
 use Rattle.wt_laws.proofs.ReadLaws.{local-unclassified}
-use Rattle.wt_laws.proofs.SendLaws.{Given, flush-other, pending-other}
+use Rattle.wt_laws.proofs.SendLaws.{GivenStreams, flush-other, pending-other}
 use Rattle.wt_laws.proofs.SessionLaws.{has_request}
 use Rattle.wt_laws.proofs.Sends.{piece_on, sends_of, with-piece}
 use Rattle.wt_laws.proofs.SessionStream.{not-true-so}
@@ -86,7 +86,7 @@ whole-flush side e log n w = at (is_moment e && is_open (e ∷ log))
 
 -- ---- a request's stream
 
-module _ (side : Side) (log : Log) (g : Given side log) where
+module _ (side : Side) (log : Log) (g : GivenStreams side log) where
   request-not-local : (k : ℕ) → is_local side k ≡ true → list_any (delivers k) (calls_of log) ≡ true → ⊥
   request-not-local k l d = absurd (let w = (g.handshakes.delivered k d).verdict in let n = local-unclassified side log k l in cc)
 
@@ -103,7 +103,7 @@ module _ (side : Side) (log : Log) (g : Given side log) where
 -- ---- turns that answer no request
 
 module _ (side : Side) (turn : Turn) (never : (cs : List CallRecord) (accepts : Bool) (head : List ℕ) → ResponseFrom turn cs accepts head → ⊥) where
-  quiet-action : (log : Log) (a : Action) → Given side log → ActionCause side turn log a → has_request (handshake_state (calls_of log)) ≡ true → piece_on (requested_stream (calls_of log)) a ≡ []
+  quiet-action : (log : Log) (a : Action) → GivenStreams side log → ActionCause side turn log a → has_request (handshake_state (calls_of log)) ≡ true → piece_on (requested_stream (calls_of log)) a ≡ []
   quiet-action log (actions.Send id piece) g c q = at (id == requested_stream (calls_of log)) refl c.1
     where
       at : (b : Bool) → (id == requested_stream (calls_of log)) ≡ b → SendCause side turn log id piece → (if b then piece else []) ≡ []

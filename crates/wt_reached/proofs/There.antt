@@ -16,7 +16,7 @@ use Rattle.wt_laws.proofs.Looks.{from-or}
 use Rattle.wt_laws.proofs.ReadLaws.{local-unclassified}
 use Rattle.wt_laws.proofs.RequestLaws.{uni-no-request}
 use Rattle.wt_laws.proofs.SessionLaws.{HadRequest}
-use Rattle.wt_laws.proofs.SessionStream.{Out}
+use Rattle.wt_laws.proofs.SessionStream.{FrameOut}
 use Rattle.wt_laws.proofs.PeersExist.{among-exist}
 use Rattle.wt_laws.specs.Laws.{is_session_stream}
 use Rattle.wt_laws.specs.Reachable.{is_among}
@@ -59,7 +59,7 @@ module _ (side : Side) (log : Log) (h : Heads side log) where
   given-exists k a = at (h.given.facts_hold.accepted k a)
     where
       at : (is_local side k ≡ true) ⊎ IsSessions side log k → exists side log k ≡ true
-      at (inl l) = local-exist side log k (h.counted k (h.local_accepted k l a))
+      at (inl l) = local-exist side log k (h.count_is k (h.local_accepted k l a))
       at (inr s) = from-or (is_among (peer_uni side) (peer_count side (events_of log) (peer_uni side)) k) (is_among (peer_bi side) (peer_count side (events_of log) (peer_bi side)) k)
           (among-exist side log (peer_uni side) k) (among-exist side log (peer_bi side) k) (are-peers side log k _ s.verdict)
 
@@ -77,7 +77,7 @@ module _ (side : Side) (log : Log) (h : Heads side log) where
   -- ---- what is being opened, and a request's stream
 
   pub opening-sends : (k : ℕ) → list_any (starts_opening k) (calls_of log) ≡ true → can_send side log k ≡ true
-  opening-sends k o = and_from (exists side log k) (not (peer_uni side == k % 4)) (local-exist side log k (h.counted k o)) (ap not (local-sends side k (h.given.facts_hold.openings k o)))
+  opening-sends k o = and_from (exists side log k) (not (peer_uni side == k % 4)) (local-exist side log k (h.count_is k o)) (ap not (local-sends side k (h.given.facts_hold.openings k o)))
 
   pub request-sends : (k : ℕ) → list_any (delivers k) (calls_of log) ≡ true → can_send side log k ≡ true
   request-sends k d = let w = h.given.handshakes.delivered k d in at w (h.given.facts_hold.verdicts k _ w.verdict)
@@ -90,7 +90,7 @@ module _ (side : Side) (log : Log) (h : Heads side log) where
       of-bi m false e = refl
       of-bi m true e = absurd (other side (eqb-true (peer_uni side) (k % 4) e ∙ eqb-true (k % 4) (peer_bi side) m))
 
-      at : (w : HadRequest side log k) → HasVerdict side log k (verdicts.Request w.headers w.at) → can_send side log k ≡ true
+      at : (w : HadRequest side log k) → HasVerdict side log k (verdicts.Request w.headers w.offset) → can_send side log k ≡ true
       at w (HasUni a v f) = absurd (let x = uni-no-request (contents log k) (end_of (events_of log) k) in let y = ap is_request v in cc)
       at w (HasBi a v f) = and_from (exists side log k) (not (peer_uni side == k % 4)) (among-exist side log (peer_bi side) k a) (ap not (of-bi (and_parts (k % 4 == peer_bi side) _ a).0 (peer_uni side == k % 4) refl))
 
@@ -98,7 +98,7 @@ module _ (side : Side) (log : Log) (h : Heads side log) where
   pub request-bi : (k : ℕ) → list_any (delivers k) (calls_of log) ≡ true → (k % 4 == peer_bi side) ≡ true
   request-bi k d = let w = h.given.handshakes.delivered k d in at w (h.given.facts_hold.verdicts k _ w.verdict)
     where
-      at : (w : HadRequest side log k) → HasVerdict side log k (verdicts.Request w.headers w.at) → (k % 4 == peer_bi side) ≡ true
+      at : (w : HadRequest side log k) → HasVerdict side log k (verdicts.Request w.headers w.offset) → (k % 4 == peer_bi side) ≡ true
       at w (HasUni a v f) = absurd (let x = uni-no-request (contents log k) (end_of (events_of log) k) in let y = ap is_request v in cc)
       at w (HasBi a v f) = (and_parts (k % 4 == peer_bi side) _ a).0
 
@@ -107,7 +107,7 @@ module _ (side : Side) (log : Log) (h : Heads side log) where
     where
       at : (is_local side k ≡ true) ⊎ IsSessions side log k → Origin side log k
       at (inl l) = ByCall l (h.local_accepted k l a)
-      at (inr s) = ByPeer s.session s.at s.verdict
+      at (inr s) = ByPeer s.session s.offset s.verdict
 
   pub not-request : (k : ℕ) → is_local side k ≡ true → list_any (delivers k) (calls_of log) ≡ true → ⊥
   not-request k l d = absurd (let w = (h.given.handshakes.delivered k d).verdict in let n = local-unclassified side log k l in cc)
@@ -125,7 +125,7 @@ module _ (side : Side) (log : Log) (h : Heads side log) where
 
 -- ---- the established session's stream
 
-module _ (side : Side) (frame : Option (List ℕ)) (log : Log) (h : Out side frame log) where
+module _ (side : Side) (frame : Option (List ℕ)) (log : Log) (h : FrameOut side frame log) where
   session-stream : (k : ℕ) → IsSession (calls_of log) k → is_session_stream side (calls_of log) k ≡ true
   session-stream k s = subst (λ (j : ℕ). is_session_stream side (calls_of log) j ≡ true) s.2 (h.whole s.0.0 s.0.1 s.1).0
 

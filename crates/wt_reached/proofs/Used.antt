@@ -80,7 +80,7 @@ module _ (side : Side) (log : Log) (kind s : ℕ) (c : Classified) (e : next_due
     unreleased-so c.id (passes c.id) (passes-releases c.id) (calls_of log) due.unreleased,
   )
 
-  -- behind its stop
+  -- after its stop
   may-pass : (a : Action) → MayUse side (Sent a ∷ log) (StreamPassed c.id)
   unfolding stream_table
   may-pass a = (

@@ -42,17 +42,19 @@ pub fn calls_may_record()
     ensures { (side : Side) (log : Log) → IsReachable side log → RecordFacts side log }
 {}
 
-/// So each action of a lawful call's plan may go out, behind those before it.
+/// So each action of a lawful call's plan may go out, after those before it.
 #[tactic(auto, using(crate::proofs::Theorems::actions_theorem))]
 pub fn own_actions_go_out()
-    ensures { (side : Side) (log : Log) (call : Call) → IsReachable side log → is_lawful side log (turns.Call call) ≡ true → MayActAll side log (own_of (plan_of (facts_of side log) (session_state log) call)) }
+    ensures { (side : Side) (log : Log) (call : Call) → IsReachable side log → is_lawful side log (turns.Call call) ≡ true
+        → MayActAll side log (own_of (plan_of (facts_of side log) (session_state log) call)) }
 {}
 
 /// So a lawful call's plan may be performed: what it sends may go out and leaves this end's control
-/// stream alone, and what it records may be recorded behind that, with the driver still able to send.
+/// stream alone, and what it records may be recorded after that, with the driver still able to send.
 #[tactic(auto, using(crate::proofs::Theorems::performs_theorem))]
 pub fn calls_may_be_performed()
-    ensures { (side : Side) (log : Log) (call : Call) → IsReachable side log → is_lawful side log (turns.Call call) ≡ true → MayPerform side log (plan_of (facts_of side log) (session_state log) call) }
+    ensures { (side : Side) (log : Log) (call : Call) → IsReachable side log → is_lawful side log (turns.Call call) ≡ true
+        → MayPerform side log (plan_of (facts_of side log) (session_state log) call) }
 {}
 
 /// Each entry of a log that lawful turns lead to does with streams what it may: a client connects
@@ -68,14 +70,17 @@ pub fn streams_are_used_as_allowed()
 #[tactic(auto, using(crate::proofs::Theorems::sends_theorem, crate::proofs::Theorems::receives_theorem, crate::proofs::Theorems::origin_theorem))]
 pub fn given_streams_are_there()
     ensures sends { (side : Side) (log : Log) (k : ℕ) → IsReachable side log → has_sending_half side log k ≡ true → can_send side log k ≡ true }
-    ensures receives { (side : Side) (log : Log) (k : ℕ) → IsReachable side log → has_receiving_half side log k ≡ true → can_receive side log k ≡ true }
+    ensures receives { (side : Side) (log : Log) (k : ℕ) → IsReachable side log → has_receiving_half side log k ≡ true
+        → can_receive side log k ≡ true }
     ensures origin { (side : Side) (log : Log) (k : ℕ) → IsReachable side log → is_accepted log k ≡ true → Origin side log k }
 {}
 
 /// A rejection whose response is out is finished.
 #[tactic(auto, using(crate::proofs::Theorems::rejected_theorem))]
 pub fn rejections_are_finished()
-    ensures { (side : Side) (log : Log) (head : List ℕ) → IsReachable side log → handshake_state (calls_of log) ≡ Responding false head → head_left log (requested_stream (calls_of log)) head ≡ [] → is_finished (actions_of log) (requested_stream (calls_of log)) ≡ true }
+    ensures { (side : Side) (log : Log) (head : List ℕ) → IsReachable side log → handshake_state (calls_of log) ≡ Responding false head
+        → head_left log (requested_stream (calls_of log)) head ≡ []
+        → is_finished (actions_of log) (requested_stream (calls_of log)) ≡ true }
 {}
 
 /// This end's control stream is never finished or reset, and the stream of the established session
@@ -84,8 +89,10 @@ pub fn rejections_are_finished()
 pub fn the_driver_may_send()
     ensures unfinished { (side : Side) (log : Log) → IsReachable side log → is_finished (actions_of log) (local_uni side) ≡ false }
     ensures unreset { (side : Side) (log : Log) → IsReachable side log → is_reset log (local_uni side) ≡ false }
-    ensures session_sends { (side : Side) (log : Log) (s : ℕ × ℕ) → IsReachable side log → established_session (calls_of log) ≡ Some s → can_send side log s.0 ≡ true }
-    ensures session_receives { (side : Side) (log : Log) (s : ℕ × ℕ) → IsReachable side log → established_session (calls_of log) ≡ Some s → can_receive side log s.0 ≡ true }
+    ensures session_sends { (side : Side) (log : Log) (s : ℕ × ℕ) → IsReachable side log → established_session (calls_of log) ≡ Some s
+        → can_send side log s.0 ≡ true }
+    ensures session_receives { (side : Side) (log : Log) (s : ℕ × ℕ) → IsReachable side log → established_session (calls_of log) ≡ Some s
+        → can_receive side log s.0 ≡ true }
 {}
 
 /// What lets the driver send holds of each log that lawful turns lead to, after each entry that
@@ -99,9 +106,13 @@ pub fn the_driver_may_send_at_moments()
     ensures before { (side : Side) (log : Log) → KeepsOwnStreams side (flush side log) → KeepsOwnStreams side log }
 {}
 
-/// What lets the driver send holds at a call's moment: behind its own actions and its record.
+/// What lets the driver send holds at a call's moment: after its own actions and its record.
 #[tactic(auto, using(crate::proofs::Theorems::step_theorem, crate::proofs::Theorems::establish_theorem))]
 pub fn the_driver_may_send_for_calls()
-    ensures step { (side : Side) (log : Log) (call : Call) (own : List Action) (made : CallRecord) (reply : Reply) → IsReachable side log → is_lawful side log (turns.Call call) ≡ true → plan_of (facts_of side log) (session_state log) call ≡ Step own made reply → KeepsOwnStreams side (Called made ∷ with_actions own log) }
-    ensures establish { (side : Side) (log : Log) (call : Call) (own : List Action) (id at : ℕ) → IsReachable side log → is_lawful side log (turns.Call call) ≡ true → plan_of (facts_of side log) (session_state log) call ≡ Establish own id at → KeepsOwnStreams side (Called (SessionEstablished id at) ∷ with_actions own log) }
+    ensures step { (side : Side) (log : Log) (call : Call) (own : List Action) (made : CallRecord) (reply : Reply) → IsReachable side log
+        → is_lawful side log (turns.Call call) ≡ true → plan_of (facts_of side log) (session_state log) call ≡ Step own made reply
+        → KeepsOwnStreams side (Called made ∷ with_actions own log) }
+    ensures establish { (side : Side) (log : Log) (call : Call) (own : List Action) (id at : ℕ) → IsReachable side log
+        → is_lawful side log (turns.Call call) ≡ true → plan_of (facts_of side log) (session_state log) call ≡ Establish own id at
+        → KeepsOwnStreams side (Called (SessionEstablished id at) ∷ with_actions own log) }
 {}

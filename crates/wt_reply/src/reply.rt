@@ -19,13 +19,13 @@ pub enum Reply {
     Done,
     /// Nothing is there to give yet.
     Pending,
-    /// No session stands.
+    /// No session is established.
     NoSession,
     /// The stream wasn't handed out, has no such half, or the half was given up.
     NoStream,
     /// A request: the id of its session, and its header fields.
     Request { id: SessionId, headers: HeaderList },
-    /// The session stands.
+    /// The session is established.
     Session(SessionId),
     /// The request is rejected.
     Rejected,

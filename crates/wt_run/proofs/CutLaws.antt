@@ -106,7 +106,7 @@ cut-here side log after id first second true l = λ n. record {
   whole = answer_to side log (turns.Bytes id (first ++ second));
   one = answer_to side log (turns.Bytes id first);
   two = answer_to side (log_after side log (turns.Bytes id first)) (turns.Bytes id second);
-  place_is = refl;
+  index_is = refl;
   were = ap (λ (r : Run). r.answers) (run-goes side log (turns.Bytes id (first ++ second)) after l);
   are = ap (λ (r : Run). r.answers) (parts-run side log id first second after l);
   one_reply = refl;
@@ -128,19 +128,19 @@ cut-later-turn side log t before after id first second more true l = λ n.
     answered-first side log t (before ++ turns.Bytes id (first ++ second) ∷ after) l in
     let within : suc (length before) < suc (length (run_from side (log_after side log t) (before ++ turns.Bytes id (first ++ second) ∷ after)).answers) =
     subst (λ (answers : List Answer). suc (length before) < length answers) e n in
-    let cut = more (omega (arith, within)) in
+    let later_parts = more (omega (arith, within)) in
     record {
-      earlier = answer_to side log t ∷ cut.earlier;
-      later = cut.later;
-      whole = cut.whole;
-      one = cut.one;
-      two = cut.two;
-      place_is = ap suc cut.place_is;
-      were = onto (answer_to side log t) _ _ _ e cut.were;
-      are = onto (answer_to side log t) _ _ _ (answered-first side log t (before ++ turns.Bytes id first ∷ turns.Bytes id second ∷ after) l) cut.are;
-      one_reply = cut.one_reply;
-      two_reply = cut.two_reply;
-      actions = cut.actions;
+      earlier = answer_to side log t ∷ later_parts.earlier;
+      later = later_parts.later;
+      whole = later_parts.whole;
+      one = later_parts.one;
+      two = later_parts.two;
+      index_is = ap suc later_parts.index_is;
+      were = onto (answer_to side log t) _ _ _ e later_parts.were;
+      are = onto (answer_to side log t) _ _ _ (answered-first side log t (before ++ turns.Bytes id first ∷ turns.Bytes id second ∷ after) l) later_parts.are;
+      one_reply = later_parts.one_reply;
+      two_reply = later_parts.two_reply;
+      actions = later_parts.actions;
     }
 
 cut-from : (side : Side) (log : Log) (before after : List Turn) (id : ℕ) (first second : List ℕ) → Cut side log before after id first second

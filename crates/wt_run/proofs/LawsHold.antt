@@ -69,7 +69,7 @@ laws side all =
     record {
       sessions = λ n l. sessions_theorem side (log_at side all n) (reach n l);
       one_session = λ n turn l e. one_session_theorem side (log_at side all n) turn (before n l) (lawful n turn l e);
-      told = λ n turn l e. session_told_theorem side (log_at side all n) turn (lawful n turn l e);
+      reported = λ n turn l e. session_told_theorem side (log_at side all n) turn (lawful n turn l e);
       requests = λ n turn l e. request_told_theorem side (log_at side all n) turn (before n l) (lawful n turn l e);
       streams = λ n turn l e. accepted_theorem side (log_at side all n) turn (before n l) (lawful n turn l e);
       given_once = λ n l. given_once_theorem side (take n all) (lawful-at side all n l);
@@ -90,7 +90,7 @@ laws side all =
       left = λ n turn l e. leaves-record side (log_at side all n) turn (lawful n turn l e);
       events = λ n turn l e. done_at_once_theorem side (log_at side all n) turn;
       opened = λ n l. open_theorem side (log_at side all n) (reach n l);
-      faults = λ n l. record { closes = λ moment goes. fault_theorem side moment; went_out = pending-goes-out side (log_at side all n) (reach n l) };
+      faults = λ n l. record { closes = λ since goes. fault_theorem side since; went_out = pending-goes-out side (log_at side all n) (reach n l) };
       endings = λ n turn l e. ending-goes-out side (log_at side all n) turn (lawful n turn l e);
       driver = λ n l. driver-is-read side (log_at side all n) (reach n l);
       dequeued = λ n l. dequeued_turns_theorem side (take n all);
@@ -98,7 +98,7 @@ laws side all =
       after_end = λ n l. after_end_theorem side (log_at side all n) (reach n l);
       late = λ n turn l e. late_theorem side (log_at side all n) turn;
       forgotten = λ n l. later_theorem side (log_at side all n);
-      settled = λ n l. settled-stays side (log_at side all n);
+      settled_stay = λ n l. settled-stays side (log_at side all n);
       settings = λ n l. settings_theorem side (log_at side all n) (reach n l);
       headers = λ n l. headers_theorem side (log_at side all n) (reach n l);
       heads = λ n turn l e. head-goes-out side (log_at side all n) turn (before n l) (lawful n turn l e);
@@ -107,7 +107,7 @@ laws side all =
       sends_end = λ n turn l e. sends_end_theorem side (log_at side all n) turn (before n l) (lawful n turn l e);
       session_stream = λ n l. session_stream_theorem side (take n all) (lawful-at side all n l);
       credit = λ n l. within_credit_theorem side (log_at side all n) (reach n l);
-      taken = λ n l. taken_theorem side (log_at side all n);
+      taken_goes_out = λ n l. taken_theorem side (log_at side all n);
       opened_in_order = λ n l. opened_in_order_theorem side (log_at side all n) (reach n l);
       cutting = may-be-cut side all;
     }

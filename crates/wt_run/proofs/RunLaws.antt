@@ -8,11 +8,11 @@ use Rattle.wt_turn.specs.declared.turn.Turn.{Turn}
 use Rattle.wt_wire.specs.declared.side.Side.{Side}
 
 -- these answers before those of a run
-abbrev pub behind : List Answer → Run → Run
-behind answers r = record { answers = answers ++ r.answers; stop = r.stop }
+abbrev pub after_answers : List Answer → Run → Run
+after_answers answers r = record { answers = answers ++ r.answers; stop = r.stop }
 
-pub behind-more : (answers : List Answer) (a : Answer) (r : Run) → behind answers (with_answer a r) ≡ behind (answers ++ a ∷ []) r
-behind-more answers a r = ap (λ (as_ : List Answer). record { answers = as_; stop = r.stop }) (sym (append_assoc answers (a ∷ []) r.answers))
+pub after_answers-more : (answers : List Answer) (a : Answer) (r : Run) → after_answers answers (with_answer a r) ≡ after_answers (answers ++ a ∷ []) r
+after_answers-more answers a r = ap (λ (as_ : List Answer). record { answers = as_; stop = r.stop }) (sym (append_assoc answers (a ∷ []) r.answers))
 
 -- a run that stops at once
 abbrev pub stopped : Run
@@ -26,21 +26,21 @@ run-goes side log t ts e = rw (e, run_from) refl
 
 -- it ends at a turn that isn't lawful
 pub stops-here : (side : Side) (log : Log) (t : Turn) (ts later : List Turn) (answers : List Answer) (r : Run) → ts ≡ t ∷ later → is_lawful side log t ≡ false
-    → behind answers (run_from side log ts) ≡ r → r ≡ record { answers = answers; stop = AtUnlawful }
+    → after_answers answers (run_from side log ts) ≡ r → r ≡ record { answers = answers; stop = AtUnlawful }
 stops-here side log t ts later answers r e l g =
     sym g
-    ∙ ap (λ (us : List Turn). behind answers (run_from side log us)) e
-    ∙ ap (behind answers) (run-unlawful side log t later l)
+    ∙ ap (λ (us : List Turn). after_answers answers (run_from side log us)) e
+    ∙ ap (after_answers answers) (run-unlawful side log t later l)
     ∙ ap (λ (as_ : List Answer). record { answers = as_; stop = AtUnlawful }) (append-nil answers)
 
 -- one more answer
 pub goes-on : (side : Side) (log : Log) (t : Turn) (ts later : List Turn) (answers : List Answer) (a : Answer) (r : Run) → ts ≡ t ∷ later → is_lawful side log t ≡ true
-    → a ≡ answer_to side log t → behind answers (run_from side log ts) ≡ r → behind (answers ++ a ∷ []) (run_from side (log_after side log t) later) ≡ r
+    → a ≡ answer_to side log t → after_answers answers (run_from side log ts) ≡ r → after_answers (answers ++ a ∷ []) (run_from side (log_after side log t) later) ≡ r
 goes-on side log t ts later answers a r e l f g =
-    ap (λ (x : Answer). behind (answers ++ x ∷ []) (run_from side (log_after side log t) later)) f
-    ∙ sym (behind-more answers (answer_to side log t) (run_from side (log_after side log t) later))
-    ∙ ap (behind answers) (sym (run-goes side log t later l))
-    ∙ ap (λ (us : List Turn). behind answers (run_from side log us)) (sym e) ∙ g
+    ap (λ (x : Answer). after_answers (answers ++ x ∷ []) (run_from side (log_after side log t) later)) f
+    ∙ sym (after_answers-more answers (answer_to side log t) (run_from side (log_after side log t) later))
+    ∙ ap (after_answers answers) (sym (run-goes side log t later l))
+    ∙ ap (λ (us : List Turn). after_answers answers (run_from side log us)) (sym e) ∙ g
 
 -- what holds of a run, as it goes on turn by turn
 along-by : (side : Side) (P : Log → List Turn → Run → Type 0) → ((log : Log) (t : Turn) (ts : List Turn) → is_lawful side log t ≡ false → P log (t ∷ ts) stopped)

@@ -51,9 +51,9 @@ OfExchanges side Law all answers = (n : ℕ) → n ≤ length answers → Law (e
 -- ---- laws of a moment, and of what is over
 
 -- Each moment up to the end of the log closes where it finds a fault, with its code, or the session's end; and what it sends went
--- out right behind it.
+-- out right after it.
 pub record FaultsClose (side : Side) (log : Log) : Type 0 where
-  pub closes : (moment : Log) → GoesOnFrom moment log → FaultCloses side moment
+  pub closes : (since : Log) → GoesOnFrom since log → FaultCloses side since
   pub went_out : PendingGoesOut side log
 
 -- once the connection has ended, what it is told as stays
@@ -91,13 +91,13 @@ AtEachEntry Law log = (e : Entry) (earlier : Log) → GoesOnFrom (e ∷ earlier)
 pub record DriverIsRead (side : Side) (log : Log) : Type 0 where
   pub classified : ClassifiedRightly side log  -- a classified stream was opened by the peer, and has its verdict over all bytes that came for it
   pub settings : AtEachEntry (SettingsComeRead side) log  -- SETTINGS came at a moment that found the connection open, and at which the walk over the first control stream had read them
-  pub ending : AtEachEntry (EndsForCause side) log  -- the driver ended the connection at an entry that shows a fault in the stream or datagram that it takes, or behind those taken, or the end of the session
+  pub ending : AtEachEntry (EndsForCause side) log  -- the driver ended the connection at an entry that shows a fault in the stream or datagram that it takes, or after those taken, or the end of the session
   pub streams : StreamsFaultless side log  -- while it ended none, no classified stream has a fault; one that has a fault is classified last
   pub once : OnceEach side log  -- while it ended none, the control stream and the QPACK streams were classified once each
   pub datagram : AtEachEntry (DatagramOrEnds side) log  -- the datagram that a moment dequeues is the next that came, and has a quarter id, or the driver ends the connection then
   pub order : AtEachEntry (LooksInOrder side) log  -- of several streams that a moment classifies, unidirectional ones come first, then those of a kind by id, and none that is due before another is passed over
   pub first : AtEachEntry (FirstIsTold side) log  -- of several faults of one moment that of a stream before all others, then the first in the driver's order ends the connection
-  pub faultless : AtEachEntry (FaultlessOrEnds side) log  -- a moment at which it doesn't end an open connection shows no fault behind the streams
+  pub faultless : AtEachEntry (FaultlessOrEnds side) log  -- a moment at which it doesn't end an open connection shows no fault after the streams
 
 -- ---- what a call answers
 
@@ -113,7 +113,8 @@ pub record HandshakesAnswer (side : Side) (log : Log) : Type 0 where
   pub request : RequestsAnswer side log
   pub response : (call : Call) → ResponsesAnswer side log call
   pub connect : (text : List ℕ) (headers : Fields) (lookup : Lookup) (outcome : ConnectOutcome) → ConnectsAnswer side log text headers lookup outcome
-  pub dialled : (reserved : Option (List ℕ)) (head : List ℕ) → handshake_state (calls_of log) ≡ Connecting reserved head → ConnectGoesOn side log reserved head
+  pub dialled : (reserved : Option (List ℕ)) (head : List ℕ) → handshake_state (calls_of log) ≡ Connecting reserved head
+      → ConnectGoesOn side log reserved head
   pub sent : (head : List ℕ) → MaySend side log head → RequestGoesOn side log head
 
 -- a call that sends a head sends it as far as credit goes
@@ -124,13 +125,13 @@ HeadGoesOut side log turn = (call : Call) → turn ≡ turns.Call call → Heads
 
 -- The answers where the piece at this place comes in two parts: both parts are answered, each with the reply of the whole
 -- and together with its actions, and every other answer is the same.
-pub record IsCut (place : ℕ) (answers parts : List Answer) : Type 0 where
+pub record IsCut (index : ℕ) (answers parts : List Answer) : Type 0 where
   pub earlier : List Answer
   pub whole : Answer
   pub one : Answer
   pub two : Answer
   pub later : List Answer
-  pub place_is : length earlier ≡ place
+  pub index_is : length earlier ≡ index
   pub were : answers ≡ earlier ++ whole ∷ later
   pub are : parts ≡ earlier ++ one ∷ two ∷ later
   pub one_reply : one.reply ≡ whole.reply
@@ -140,7 +141,8 @@ pub record IsCut (place : ℕ) (answers parts : List Answer) : Type 0 where
 -- a piece that was answered may come in two parts
 abbrev pub MayBeCut : Side → List Turn → List Answer → Type 0
 MayBeCut side all answers =
-    (before after : List Turn) (id : ℕ) (first second : List ℕ) → all ≡ before ++ turns.Bytes id (first ++ second) ∷ after → length before < length answers
+    (before after : List Turn) (id : ℕ) (first second : List ℕ) → all ≡ before ++ turns.Bytes id (first ++ second) ∷ after
+    → length before < length answers
     → IsCut (length before) answers (run side (before ++ turns.Bytes id first ∷ turns.Bytes id second ∷ after)).answers
 
 -- ---- all of them
@@ -149,7 +151,7 @@ MayBeCut side all answers =
 pub record KeepsLaws (side : Side) (all : List Turn) (answers : List Answer) : Type 0 where
   pub sessions : Throughout side (SessionsRightly side) all answers
   pub one_session : AtEachTurn side (OneSession side) all answers
-  pub told : AtEachTurn side (SessionTold side) all answers
+  pub reported : AtEachTurn side (SessionTold side) all answers
   pub requests : AtEachTurn side (RequestTold side) all answers
   pub streams : AtEachTurn side (StreamsAcceptedRightly side) all answers
   pub given_once : OfExchanges side (λ before log. GivenOnce before) all answers
@@ -178,7 +180,7 @@ pub record KeepsLaws (side : Side) (all : List Turn) (answers : List Answer) : T
   pub after_end : Throughout side NothingAfterEnd all answers
   pub late : AtEachTurn side (DoneAfterEnd side) all answers
   pub forgotten : Throughout side (LateIsForgotten side) all answers
-  pub settled : Throughout side (SettledStays side) all answers
+  pub settled_stay : Throughout side (SettledStays side) all answers
   pub settings : Throughout side (SettingsOut side) all answers
   pub headers : Throughout side (HeadersOut side) all answers
   pub heads : AtEachTurn side (HeadGoesOut side) all answers
@@ -187,6 +189,6 @@ pub record KeepsLaws (side : Side) (all : List Turn) (answers : List Answer) : T
   pub sends_all : OfExchanges side (SendsAll side) all answers
   pub sends_end : AtEachTurn side (SendsEnd side) all answers
   pub credit : Throughout side (WithinCredit side) all answers
-  pub taken : Throughout side (TakenGoesOut side) all answers
+  pub taken_goes_out : Throughout side (TakenGoesOut side) all answers
   pub opened_in_order : Throughout side OpenedInOrder all answers
   pub cutting : MayBeCut side all answers

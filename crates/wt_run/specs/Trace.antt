@@ -27,7 +27,8 @@ log_at side all n = log_from side [] (take n all)
 -- the run reached its end, or it stopped where the turn isn't lawful after those before it
 abbrev pub StopsRightly : Side → List Turn → Result (List Answer) TraceError → Type 0
 StopsRightly side all (Ok answers) = length answers ≡ length all
-StopsRightly side all (Err (errors.Unlawful at answers)) = (turn : Turn) × (slice_get all at ≡ Some turn) × (is_lawful side (log_at side all at) turn ≡ false)
+StopsRightly side all (Err (errors.Unlawful at answers)) = (turn : Turn) × (slice_get all at ≡ Some turn)
+    × (is_lawful side (log_at side all at) turn ≡ false)
 StopsRightly side all (Err errors.OutOfMemory) = Unit {0}
 
 -- each answer is that to its turn, after the log of the turns before it

@@ -64,7 +64,7 @@ pub fn run_trace(alloc: Global, side: Side, turns: &[Turn]) -> Result<Answers, T
     ensures complete { AllLawful side [] turns.now → IfErr result (λ error. error ≡ TraceError.OutOfMemory) }
     ensures sessions { IfAnswered result (Throughout side (SessionsRightly side) turns.now) }
     ensures one_session { IfAnswered result (AtEachTurn side (OneSession side) turns.now) }
-    ensures told { IfAnswered result (AtEachTurn side (SessionTold side) turns.now) }
+    ensures reported { IfAnswered result (AtEachTurn side (SessionTold side) turns.now) }
     ensures requests { IfAnswered result (AtEachTurn side (RequestTold side) turns.now) }
     ensures streams { IfAnswered result (AtEachTurn side (StreamsAcceptedRightly side) turns.now) }
     ensures given_once { IfAnswered result (OfExchanges side (λ before log. GivenOnce before) turns.now) }
@@ -93,7 +93,7 @@ pub fn run_trace(alloc: Global, side: Side, turns: &[Turn]) -> Result<Answers, T
     ensures after_end { IfAnswered result (Throughout side NothingAfterEnd turns.now) }
     ensures late { IfAnswered result (AtEachTurn side (DoneAfterEnd side) turns.now) }
     ensures forgotten { IfAnswered result (Throughout side (LateIsForgotten side) turns.now) }
-    ensures settled { IfAnswered result (Throughout side (SettledStays side) turns.now) }
+    ensures settled_stay { IfAnswered result (Throughout side (SettledStays side) turns.now) }
     ensures settings { IfAnswered result (Throughout side (SettingsOut side) turns.now) }
     ensures headers { IfAnswered result (Throughout side (HeadersOut side) turns.now) }
     ensures heads { IfAnswered result (AtEachTurn side (HeadGoesOut side) turns.now) }
@@ -102,7 +102,7 @@ pub fn run_trace(alloc: Global, side: Side, turns: &[Turn]) -> Result<Answers, T
     ensures sends_all { IfAnswered result (OfExchanges side (SendsAll side) turns.now) }
     ensures sends_end { IfAnswered result (AtEachTurn side (SendsEnd side) turns.now) }
     ensures credit { IfAnswered result (Throughout side (WithinCredit side) turns.now) }
-    ensures taken { IfAnswered result (Throughout side (TakenGoesOut side) turns.now) }
+    ensures taken_goes_out { IfAnswered result (Throughout side (TakenGoesOut side) turns.now) }
     ensures opened_in_order { IfAnswered result (Throughout side OpenedInOrder turns.now) }
     ensures cutting { IfAnswered result (MayBeCut side turns.now) }
 {

@@ -12,7 +12,7 @@ use Rattle.wt_dispatch.specs.declared.slot.Half.TheVariants.{Bi, Uni}
 use Rattle.wt_driver_spec.proofs.ClassifiedOnce.{turned-round}
 use Rattle.wt_driver_spec.proofs.ScanLoop.{SoFar, scan-begins, scan-few, scan-halted, scan-whole, slot-removed, slot-written}
 use Rattle.wt_driver_spec.specs.Bounds.{AreDistinct, IsBounded, has_slot}
-use Rattle.wt_driver_spec.specs.DriverState.{Arrived, Dequeued, Held, Slot, SlotPlace}
+use Rattle.wt_driver_spec.specs.DriverState.{Arrived, Dequeued, Held, Slot, SlotPhase}
 use Rattle.wt_driver_spec.specs.Step.{Known, Visited, keep_slot, scan_slots, visit_slot}
 use Rattle.wt_inbox.specs.Stage.{Refines, Stage, with_stage}
 use Rattle.wt_inbox.specs.State.{InboxState}
@@ -39,7 +39,7 @@ awaits-other half stages id to (l ∷ ls) e a = by (l.id == id) refl e (λ g. aw
 
     by : (b : Bool) → (l.id == id) ≡ b → (b || has_slot id ls) ≡ false → (has_slot id ls ≡ false → AllAwait half (with_stage stages id to) ls) → AllAwait half (with_stage stages id to) (l ∷ ls)
     by true f g again = absurd cc
-    by false f g again = (subst (AwaitsAt half l.place) (same (turned-round l.id id f)) a.0, again g)
+    by false f g again = (subst (AwaitsAt half l.phase) (same (turned-round l.id id f)) a.0, again g)
 
 -- ---- removing in a list
 
@@ -67,7 +67,7 @@ module _ (side : Side) (log : Log) (untaken : List Action) (ready : Bool) (half 
 
   stages-cons : (n : ℕ) (l : Slot) (ls : List Slot) (c : Known) (stages : ℕ → Stage) → c.progress.ending ≡ None
       → scan_stages ready half rule n (l ∷ ls) c stages
-      ≡ stages_on (λ m later s. scan_stages ready half rule m ls later s) (visit_slot ready rule l.place l n c) (with_stage stages l.id (visit_stage ready half rule l.place l.id n c (stages l.id)))
+      ≡ stages_on (λ m later s. scan_stages ready half rule m ls later s) (visit_slot ready rule l.phase l n c) (with_stage stages l.id (visit_stage ready half rule l.phase l.id n c (stages l.id)))
   stages-cons n l ls c stages e = rw e refl
 
   module _ (stage : ℕ → Stage) (old : List Slot) (known_old : Known) (at : ℕ) (ls : List Slot) (c e : Known) (x y : InboxState) (l : Slot)
@@ -75,7 +75,7 @@ module _ (side : Side) (log : Log) (untaken : List Action) (ready : Bool) (half 
     front : drop at ls ≡ l ∷ drop (at + 1) ls
     front = drop_more ls at l lt ∙ ap (λ (x : Slot). x ∷ drop (at + 1) ls) (sym is)
 
-    pub front-awaits : AwaitsAt half l.place (s.stages l.id)
+    pub front-awaits : AwaitsAt half l.phase (s.stages l.id)
     front-awaits = (rw front at s.awaits).0
 
     pub front-receives : can_receive side log l.id ≡ true
@@ -86,15 +86,15 @@ module _ (side : Side) (log : Log) (untaken : List Action) (ready : Bool) (half 
 
     -- the stages once the slot was visited
     abbrev visited_stages : ℕ → Stage
-    visited_stages = with_stage s.stages l.id (visit_stage ready half rule l.place l.id at c (s.stages l.id))
+    visited_stages = with_stage s.stages l.id (visit_stage ready half rule l.phase l.id at c (s.stages l.id))
 
     rest-awaits : AllAwait half visited_stages (drop (at + 1) ls)
-    rest-awaits = awaits-other half s.stages l.id (visit_stage ready half rule l.place l.id at c (s.stages l.id)) (drop (at + 1) ls) (rw front at s.so_far.distinct).0 (rw front at s.awaits).1
+    rest-awaits = awaits-other half s.stages l.id (visit_stage ready half rule l.phase l.id at c (s.stages l.id)) (drop (at + 1) ls) (rw front at s.so_far.distinct).0 (rw front at s.awaits).1
 
-    opened-stages : scan_stages ready half rule 0 old known_old stage ≡ stages_on (λ m later t. scan_stages ready half rule m (drop (at + 1) ls) later t) (visit_slot ready rule l.place l at c) visited_stages
+    opened-stages : scan_stages ready half rule 0 old known_old stage ≡ stages_on (λ m later t. scan_stages ready half rule m (drop (at + 1) ls) later t) (visit_slot ready rule l.phase l at c) visited_stages
     opened-stages = s.staged ∙ ap (λ (xs : List Slot). scan_stages ready half rule at xs c s.stages) front ∙ stages-cons at l (drop (at + 1) ls) c s.stages runs
 
-    pub slot-stays-so : (new : Slot) → Leaves side log s.stages untaken l.id (visit_stage ready half rule l.place l.id at c (s.stages l.id)) (visit_slot ready rule l.place l at c) at (Some new) y e
+    pub slot-stays-so : (new : Slot) → Leaves side log s.stages untaken l.id (visit_stage ready half rule l.phase l.id at c (s.stages l.id)) (visit_slot ready rule l.phase l at c) at (Some new) y e
         → ScansSoFar stage old known_old (at + 1) (set ls at new) e y
     slot-stays-so new v =
         let same : drop (at + 1) (set ls at new) ≡ drop (at + 1) ls = drop-set-lt (at + 1) ls at new (omega arith) in
@@ -110,7 +110,7 @@ module _ (side : Side) (log : Log) (untaken : List Action) (ready : Bool) (half 
           receive = rw same rest-receive;
         }
 
-    pub slot-goes-so : Leaves side log s.stages untaken l.id (visit_stage ready half rule l.place l.id at c (s.stages l.id)) (visit_slot ready rule l.place l at c) at None y e
+    pub slot-goes-so : Leaves side log s.stages untaken l.id (visit_stage ready half rule l.phase l.id at c (s.stages l.id)) (visit_slot ready rule l.phase l at c) at None y e
         → ScansSoFar stage old known_old at (remove ls at) e y
     slot-goes-so v = record {
       stages = visited_stages;
@@ -126,12 +126,12 @@ module _ (side : Side) (log : Log) (untaken : List Action) (ready : Bool) (half 
 
   -- ---- the end of the loop
 
-  arrived-stays : (p : SlotPlace) (k n : ℕ) (c : Known) → p ≡ Arrived → nat_lt n rule.slots ≡ false → visit_slot ready rule p (record { id = k; place = p }) n c ≡ keep_slot (record { id = k; place = p }) n c
+  arrived-stays : (p : SlotPhase) (k n : ℕ) (c : Known) → p ≡ Arrived → nat_lt n rule.slots ≡ false → visit_slot ready rule p (record { id = k; phase = p }) n c ≡ keep_slot (record { id = k; phase = p }) n c
   arrived-stays Arrived k n c e f = rw (and_right ready (nat_lt n rule.slots) f) refl
   arrived-stays Dequeued k n c e f = absurd cc
   arrived-stays Held k n c e f = absurd cc
 
-  arrived-stage : (p : SlotPlace) (k n : ℕ) (c : Known) (s : Stage) → p ≡ Arrived → nat_lt n rule.slots ≡ false → visit_stage ready half rule p k n c s ≡ s
+  arrived-stage : (p : SlotPhase) (k n : ℕ) (c : Known) (s : Stage) → p ≡ Arrived → nat_lt n rule.slots ≡ false → visit_stage ready half rule p k n c s ≡ s
   arrived-stage Arrived k n c s e f = rw (and_right ready (nat_lt n rule.slots) f) refl
   arrived-stage Dequeued k n c s e f = absurd cc
   arrived-stage Held k n c s e f = refl
@@ -139,22 +139,22 @@ module _ (side : Side) (log : Log) (untaken : List Action) (ready : Bool) (half 
   later-too : (n : ℕ) → nat_lt n rule.slots ≡ false → nat_lt (suc n) rule.slots ≡ false
   later-too n e = le-ltb (suc n) rule.slots (let le = ltb-false n rule.slots e in omega arith)
 
-  -- behind the first few slots no stream is read
+  -- after the first few slots no stream is read
   behind-stages : (ls : List Slot) (n : ℕ) (c : Known) (stages : ℕ → Stage) → nat_lt n rule.slots ≡ false → IsBounded rule.slots n ls → scan_stages ready half rule n ls c stages ≡ stages
   behind-stages [] n c stages e b = refl
   behind-stages (l ∷ ls) n c stages e b = by c.progress.ending refl (behind-stages ls (suc n) c stages (later-too n e) b.1)
     where
-      one : visit_slot ready rule l.place l n c ≡ keep_slot l n c
-      one = arrived-stays l.place l.id n c (b.0 e) e
+      one : visit_slot ready rule l.phase l n c ≡ keep_slot l n c
+      one = arrived-stays l.phase l.id n c (b.0 e) e
 
-      two : visit_stage ready half rule l.place l.id n c (stages l.id) ≡ stages l.id
-      two = arrived-stage l.place l.id n c (stages l.id) (b.0 e) e
+      two : visit_stage ready half rule l.phase l.id n c (stages l.id) ≡ stages l.id
+      two = arrived-stage l.phase l.id n c (stages l.id) (b.0 e) e
 
       by : (o : Option Ending) → c.progress.ending ≡ o → scan_stages ready half rule (suc n) ls c stages ≡ stages → scan_stages ready half rule n (l ∷ ls) c stages ≡ stages
       by (Some x) f again = rw f refl
       by None f again =
           stages-cons n l ls c stages f
-          ∙ ap (λ (z : Visited). stages_on (λ m later t. scan_stages ready half rule m ls later t) z (with_stage stages l.id (visit_stage ready half rule l.place l.id n c (stages l.id)))) one
+          ∙ ap (λ (z : Visited). stages_on (λ m later t. scan_stages ready half rule m ls later t) z (with_stage stages l.id (visit_stage ready half rule l.phase l.id n c (stages l.id)))) one
           ∙ ap (λ (t : Stage). scan_stages ready half rule (suc n) ls c (with_stage stages l.id t)) two
           ∙ ap (λ (t : ℕ → Stage). scan_stages ready half rule (suc n) ls c t) (stage-again stages l.id)
           ∙ again

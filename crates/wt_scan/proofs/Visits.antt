@@ -36,7 +36,7 @@ module _ (side : Side) (log : Log) (stage : ℕ → Stage) (untaken : List Actio
       → v ≡ rule.verdict id → e ≡ rule.consequence d id v → gives ≡ (e.surplus || reads_no_more v) → released ≡ is_released false v
       → p_then ≡ with_consequence e p → d_then ≡ dispatch d (record { id = id; verdict = v; surplus = e.surplus })
       → Refines side x log (with_stage stage id (unless_given_up gives (stage_from (verdict_offset (rule.verdict id))))) untaken
-      → ((m : ℕ) (known : Known) → record { slots = if released then [] else record { id = id; place = Held } ∷ []; occupied = occupied released m; known = known } ≡ visited_as left m known)
+      → ((m : ℕ) (known : Known) → record { slots = if released then [] else record { id = id; phase = Held } ∷ []; occupied = occupied released m; known = known } ≡ visited_as left m known)
       → Leaves side log stage untaken id (classified_stage (rule.consequence d id (rule.verdict id)).surplus (rule.verdict id)) (classify_as rule.consequence id (rule.verdict id) n (known_by d p)) n left x (known_by d_then p_then)
   classify-done rule d d_then p p_then v e gives released x left vw ev gv rv pv dv r h =
       let same : e ≡ rule.consequence d id (rule.verdict id) = ev ∙ ap (rule.consequence d id) vw in
@@ -49,7 +49,7 @@ module _ (side : Side) (log : Log) (stage : ℕ → Stage) (untaken : List Actio
         inbox = subst (λ (b : Bool). Refines side x log (with_stage stage id (unless_given_up b (stage_from (verdict_offset (rule.verdict id))))) untaken) given r;
         visited =
             (λ i. record {
-              slots = if freed i then [] else record { id = id; place = Held } ∷ [];
+              slots = if freed i then [] else record { id = id; phase = Held } ∷ [];
               occupied = occupied (freed i) n;
               known = record { dispatched = added i; progress = noted i };
             })
@@ -62,9 +62,9 @@ module _ (side : Side) (log : Log) (stage : ℕ → Stage) (untaken : List Actio
   leaves-twice half to visit left x known v = record { inbox = twice side x log untaken stage id (header_stage half) to v.inbox; visited = v.visited }
 
   -- the slot of a stream that may not be dequeued stays
-  pub keeps-arrived : (ready : Bool) (half : Half) (rule : SlotRule) (slot new : Slot) (x : InboxState) (known : Known) → Refines side x log stage untaken → record { id = slot.id; place = Arrived } ≡ new → slot.place ≡ Arrived
+  pub keeps-arrived : (ready : Bool) (half : Half) (rule : SlotRule) (slot new : Slot) (x : InboxState) (known : Known) → Refines side x log stage untaken → record { id = slot.id; phase = Arrived } ≡ new → slot.phase ≡ Arrived
       → (ready && nat_lt n rule.slots) ≡ false
-      → Leaves side log stage untaken slot.id (visit_stage ready half rule slot.place slot.id n known (stage slot.id)) (visit_slot ready rule slot.place slot n known) n (Some new) x known
+      → Leaves side log stage untaken slot.id (visit_stage ready half rule slot.phase slot.id n known (stage slot.id)) (visit_slot ready rule slot.phase slot n known) n (Some new) x known
   keeps-arrived ready half rule slot new x known r same p m = rw (p, m) (record {
     inbox = subst (λ (t : ℕ → Stage). Refines side x log t untaken) (sym (stage-again stage slot.id)) r;
     visited = ap (λ (s : Slot). record { slots = s ∷ []; occupied = suc n; known = known }) same;

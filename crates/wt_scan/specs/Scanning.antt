@@ -3,7 +3,7 @@ use Rattle.std.specs.Prelude.{[], ◌&&◌, ◌||◌, ◌∷◌, ◌≡◌, Bool
 use Rattle.wt_dispatch.specs.Rules.{reads_no_more}
 use Rattle.wt_dispatch.specs.declared.slot.Half.{Half}
 use Rattle.wt_dispatch.specs.declared.slot.Half.TheVariants.{Bi, Uni}
-use Rattle.wt_driver_spec.specs.DriverState.{Arrived, Dequeued, Held, Slot, SlotPlace}
+use Rattle.wt_driver_spec.specs.DriverState.{Arrived, Dequeued, Held, Slot, SlotPhase}
 use Rattle.wt_driver_spec.specs.Step.{Known, Visited, scan_slots, visit_slot, visited_as}
 use Rattle.wt_inbox.specs.Stage.{BiHeader, GivenUp, Refines, Stage, UniHeader, awaits_bi, awaits_uni, stage_from, verdict_offset, with_stage}
 use Rattle.wt_inbox.specs.State.{InboxState}
@@ -36,7 +36,7 @@ abbrev pub unless_given_up : Bool → Stage → Stage
 unless_given_up true stage = GivenUp
 unless_given_up false stage = stage
 
--- a classified stream is read behind its header
+-- a classified stream is read after its header
 abbrev pub classified_stage : Bool → Verdict → Stage
 classified_stage surplus v = unless_given_up (surplus || reads_no_more v) (stage_from (verdict_offset v))
 
@@ -51,8 +51,8 @@ dequeue_stage false half rule k known stage = stage
 dequeue_stage true half rule k known stage =
     look_stage (is_final (rule.verdict k)) half (rule.consequence known.dispatched k (rule.verdict k)).surplus (rule.verdict k)
 
--- a visit of a slot behind so many others
-abbrev pub visit_stage : Bool → Half → SlotRule → SlotPlace → ℕ → ℕ → Known → Stage → Stage
+-- a visit of a slot after so many others
+abbrev pub visit_stage : Bool → Half → SlotRule → SlotPhase → ℕ → ℕ → Known → Stage → Stage
 visit_stage ready half rule Held k n known stage = stage
 visit_stage ready half rule Dequeued k n known stage = dequeue_stage true half rule k known stage
 visit_stage ready half rule Arrived k n known stage = dequeue_stage (ready && nat_lt n rule.slots) half rule k known stage
@@ -70,26 +70,26 @@ pub record Leaves (side : Side) (log : Log) (stage : ℕ → Stage) (untaken : L
 -- ---- all slots of a kind
 
 -- the header of a stream that isn't classified can be read
-abbrev pub AwaitsAt : Half → SlotPlace → Stage → Type 0
+abbrev pub AwaitsAt : Half → SlotPhase → Stage → Type 0
 AwaitsAt half Held stage = Unit {0}
-AwaitsAt half place stage = awaits half stage ≡ true
+AwaitsAt half phase stage = awaits half stage ≡ true
 
 -- that of each that isn't classified
 abbrev pub AllAwait : Half → (ℕ → Stage) → List Slot → Type 0
 AllAwait half stage [] = Unit {0}
-AllAwait half stage (slot ∷ slots) = AwaitsAt half slot.place (stage slot.id) × AllAwait half stage slots
+AllAwait half stage (slot ∷ slots) = AwaitsAt half slot.phase (stage slot.id) × AllAwait half stage slots
 
 -- each stream in these slots is there, with a receiving half, so that it can be given up
 abbrev pub SlotsReceive : Side → Log → List Slot → Type 0
 SlotsReceive side log [] = Unit {0}
 SlotsReceive side log (slot ∷ slots) = (can_receive side log slot.id ≡ true) × SlotsReceive side log slots
 
--- the stages once the scan behind the ending is left out
+-- the stages once the scan after the ending is left out
 abbrev pub unless_ended_stages : Option Ending → (Known → ℕ → Stage) → (ℕ → Stage) → Known → ℕ → Stage
 unless_ended_stages None f stage known = f known
 unless_ended_stages (Some e) f stage known = stage
 
--- the stages after the slot was visited, then after those behind it
+-- the stages after the slot was visited, then after those after it
 abbrev pub stages_on : (ℕ → Known → (ℕ → Stage) → ℕ → Stage) → Visited → (ℕ → Stage) → ℕ → Stage
 stages_on again v stage = again v.occupied v.known stage
 
@@ -98,12 +98,13 @@ abbrev pub scan_stages : Bool → Half → SlotRule → ℕ → List Slot → Kn
 scan_stages ready half rule n [] known stage = stage
 scan_stages ready half rule n (slot ∷ slots) known stage =
     unless_ended_stages known.progress.ending
-    (λ k. stages_on (λ m later stages. scan_stages ready half rule m slots later stages) (visit_slot ready rule slot.place slot n k)
-    (with_stage stage slot.id (visit_stage ready half rule slot.place slot.id n k (stage slot.id))))
+    (λ k. stages_on (λ m later stages. scan_stages ready half rule m slots later stages) (visit_slot ready rule slot.phase slot n k)
+    (with_stage stage slot.id (visit_stage ready half rule slot.phase slot.id n k (stage slot.id))))
     stage known
 
 -- The scan of the slots of a kind leaves the streams at these stages, and this of the slots.
-pub record Scans (side : Side) (log : Log) (untaken : List Action) (ready : Bool) (half : Half) (rule : SlotRule) (stage : ℕ → Stage) (old new : List Slot)
+pub record Scans (side : Side) (log : Log) (untaken : List Action) (ready : Bool) (half : Half) (rule : SlotRule) (stage : ℕ
+    → Stage) (old new : List Slot)
     (known_old known_new : Known) (x : InboxState) : Type 0 where
   pub inbox : Refines side x log (scan_stages ready half rule 0 old known_old stage) untaken
   pub scanned : scan_slots ready rule 0 old known_old ≡ record { slots = new; known = known_new }

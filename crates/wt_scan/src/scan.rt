@@ -20,8 +20,8 @@ ghost use Rattle.wt_wire.specs.declared.side.Side.{Side};
 use std::collections::VecDeque;
 use wt_dispatch::classified::{Classified, is_given_up, is_released_at_once};
 use wt_dispatch::dispatched::DispatchedStreams;
-use wt_dispatch::progress::Progress;
-use wt_dispatch::slot::{Half, Place, Slot};
+use wt_dispatch::progress::ConnectionProgress;
+use wt_dispatch::slot::{Half, Phase, Slot};
 use wt_inbox::Inbox;
 use wt_proto::verdict::Verdict;
 use wt_wire::error::OutOfMemory;
@@ -39,8 +39,10 @@ fn slots_of(half: Half) -> usize
 
 /// Whether the verdict of a stream of this kind is final.
 fn has_verdict(inbox: &mut Inbox, half: Half, id: StreamId) -> Result<bool, OutOfMemory>
-    ensures answer { TellsAt inbox.old (λ side log stage. awaits half (stage id) ≡ true → IfOk result (λ so. so ≡ is_final ((rule_of half (transport_view side log)).verdict id))) }
-    ensures log { OfEachLog inbox.old (λ side log stage untaken. awaits half (stage id) ≡ true → OnOk result (Refines side inbox.new log (with_stage stage id (header_stage half)) untaken)) }
+    ensures answer { TellsAt inbox.old (λ side log stage. awaits half (stage id) ≡ true
+        → IfOk result (λ so. so ≡ is_final ((rule_of half (transport_view side log)).verdict id))) }
+    ensures log { OfEachLog inbox.old (λ side log stage untaken. awaits half (stage id) ≡ true
+        → OnOk result (Refines side inbox.new log (with_stage stage id (header_stage half)) untaken)) }
 {
     match half {
         Half::Uni => inbox.has_uni_verdict(id),
@@ -50,7 +52,8 @@ fn has_verdict(inbox: &mut Inbox, half: Half, id: StreamId) -> Result<bool, OutO
 
 /// The verdict of a stream of this kind, whose reader is let go.
 fn release_header(inbox: &mut Inbox, half: Half, id: StreamId) -> Result<Verdict, OutOfMemory>
-    ensures answer { TellsAt inbox.old (λ side log stage. awaits half (stage id) ≡ true → IfOk result (λ v. v ≡ (rule_of half (transport_view side log)).verdict id)) }
+    ensures answer { TellsAt inbox.old (λ side log stage. awaits half (stage id) ≡ true
+        → IfOk result (λ v. v ≡ (rule_of half (transport_view side log)).verdict id)) }
     ensures log { OfEachLog inbox.old (λ side log stage untaken. awaits half (stage id) ≡ true
         → OnOk result (Refines side inbox.new log (with_stage stage id (stage_from (verdict_offset ((rule_of half (transport_view side log)).verdict id)))) untaken)) }
 {
@@ -62,7 +65,8 @@ fn release_header(inbox: &mut Inbox, half: Half, id: StreamId) -> Result<Verdict
 
 /// Gives a stream up where the test holds: its bytes are let go.
 fn give_up_if(inbox: &mut Inbox, id: StreamId, test: bool)
-    ensures log { (side : Side) (log : Log) (stage : ℕ → Stage) (to : Stage) (untaken : List Action) → Refines side inbox.old log (with_stage stage id to) untaken → can_receive side log id ≡ true
+    ensures log { (side : Side) (log : Log) (stage : ℕ → Stage) (to : Stage) (untaken : List Action)
+        → Refines side inbox.old log (with_stage stage id to) untaken → can_receive side log id ≡ true
         → Refines side inbox.new log (with_stage stage id (unless_given_up test to)) untaken }
 {
     if test && inbox.can_receive(id) {
@@ -79,7 +83,9 @@ fn gives_up(surplus: bool, verdict: &Verdict) -> bool
 
 /// The slot of a classified stream, unless it is released.
 fn held_unless(is_released: bool, id: StreamId) -> Option<Slot>
-    ensures { (n : ℕ) (known : Known) → record { slots = if is_released then [] else record { id = id; place = Held } ∷ []; occupied = occupied is_released n; known = known } ≡ visited_as result n known }
+    ensures { (n : ℕ) (known : Known)
+        → record { slots = if is_released then [] else record { id = id; phase = Held } ∷ []; occupied = occupied is_released n; known = known }
+        ≡ visited_as result n known }
 {
     if is_released {
         None
@@ -94,9 +100,10 @@ fn classify(
     half: Half,
     id: StreamId,
     dispatched: &mut DispatchedStreams,
-    progress: &mut Progress,
+    progress: &mut ConnectionProgress,
 ) -> Result<Option<Slot>, OutOfMemory>
-    ensures log { (side : Side) (log : Log) (stage : ℕ → Stage) (untaken : List Action) (n : ℕ) → Refines side inbox.old log stage untaken → awaits half (stage id) ≡ true → can_receive side log id ≡ true
+    ensures log { (side : Side) (log : Log) (stage : ℕ → Stage) (untaken : List Action) (n : ℕ) → Refines side inbox.old log stage untaken
+        → awaits half (stage id) ≡ true → can_receive side log id ≡ true
         → IfOk result (λ left. Leaves side log stage untaken id
         (look_stage true half ((rule_of half (transport_view side log)).consequence dispatched.old id ((rule_of half (transport_view side log)).verdict id)).surplus ((rule_of half (transport_view side log)).verdict id))
         (classify_slot true (rule_of half (transport_view side log)) id n (known_by dispatched.old progress.old))
@@ -123,9 +130,10 @@ fn look(
     half: Half,
     id: StreamId,
     dispatched: &mut DispatchedStreams,
-    progress: &mut Progress,
+    progress: &mut ConnectionProgress,
 ) -> Result<Option<Slot>, OutOfMemory>
-    ensures log { (side : Side) (log : Log) (stage : ℕ → Stage) (untaken : List Action) (n : ℕ) → Refines side inbox.old log stage untaken → awaits half (stage id) ≡ true → can_receive side log id ≡ true
+    ensures log { (side : Side) (log : Log) (stage : ℕ → Stage) (untaken : List Action) (n : ℕ) → Refines side inbox.old log stage untaken
+        → awaits half (stage id) ≡ true → can_receive side log id ≡ true
         → IfOk result (λ left. Leaves side log stage untaken id
         (dequeue_stage true half (rule_of half (transport_view side log)) id (known_by dispatched.old progress.old) (stage id))
         (classify_slot (is_final ((rule_of half (transport_view side log)).verdict id)) (rule_of half (transport_view side log)) id n (known_by dispatched.old progress.old))
@@ -139,35 +147,37 @@ fn look(
     }
 }
 
-/// Whether a stream may be dequeued behind so many occupied slots.
+/// Whether a stream may be dequeued after so many occupied slots.
 fn may_dequeue(inbox: &Inbox, half: Half, occupied: usize) -> bool
-    ensures { Tells inbox.now (λ side log. is_open log ≡ true → result ≡ (settings_ready side log && nat_lt occupied (rule_of half (transport_view side log)).slots)) }
+    ensures { Tells inbox.now (λ side log. is_open log ≡ true
+        → result ≡ (settings_ready side log && nat_lt occupied (rule_of half (transport_view side log)).slots)) }
 {
     let is_ready = inbox.is_ready();
     let is_free = occupied < slots_of(half);
     is_ready && is_free
 }
 
-/// Visits a slot behind so many others: what is left of it.
+/// Visits a slot after so many others: what is left of it.
 fn visit(
     inbox: &mut Inbox,
     half: Half,
     slot: &Slot,
     occupied: usize,
     dispatched: &mut DispatchedStreams,
-    progress: &mut Progress,
+    progress: &mut ConnectionProgress,
 ) -> Result<Option<Slot>, OutOfMemory>
-    ensures log { OfEachLog inbox.old (λ side log stage untaken. is_open log ≡ true → AwaitsAt half slot.now.place (stage slot.now.id) → can_receive side log slot.now.id ≡ true
+    ensures log { OfEachLog inbox.old (λ side log stage untaken. is_open log ≡ true → AwaitsAt half slot.now.phase (stage slot.now.id)
+        → can_receive side log slot.now.id ≡ true
         → IfOk result (λ left. Leaves side log stage untaken slot.now.id
-        (visit_stage (settings_ready side log) half (rule_of half (transport_view side log)) slot.now.place slot.now.id occupied (known_by dispatched.old progress.old) (stage slot.now.id))
-        (visit_slot (settings_ready side log) (rule_of half (transport_view side log)) slot.now.place slot.now occupied (known_by dispatched.old progress.old))
+        (visit_stage (settings_ready side log) half (rule_of half (transport_view side log)) slot.now.phase slot.now.id occupied (known_by dispatched.old progress.old) (stage slot.now.id))
+        (visit_slot (settings_ready side log) (rule_of half (transport_view side log)) slot.now.phase slot.now occupied (known_by dispatched.old progress.old))
         occupied left inbox.new (known_by dispatched.new progress.new))) }
 {
     let id = slot.id();
-    match slot.place() {
-        Place::Held => Ok(Some(Slot::held(id))),
-        Place::Dequeued => look(inbox, half, id, dispatched, progress),
-        Place::Arrived => {
+    match slot.phase() {
+        Phase::Held => Ok(Some(Slot::held(id))),
+        Phase::Dequeued => look(inbox, half, id, dispatched, progress),
+        Phase::Arrived => {
             let may_dequeue = may_dequeue(inbox, half, occupied);
             if may_dequeue {
                 look(inbox, half, id, dispatched, progress)
@@ -189,21 +199,22 @@ pub fn remove_at(slots: &mut VecDeque<Slot>, at: usize)
     }
 }
 
-/// Scans the slots of a kind in order; behind the first few none is dequeued.
+/// Scans the slots of a kind in order; after the first few none is dequeued.
 pub fn scan(
     inbox: &mut Inbox,
     half: Half,
     slots: &mut VecDeque<Slot>,
     dispatched: &mut DispatchedStreams,
-    progress: &mut Progress,
+    progress: &mut ConnectionProgress,
 ) -> Result<(), OutOfMemory>
-    ensures log { OfEachLog inbox.old (λ side log stage untaken. is_open log ≡ true → AllAwait half stage slots.old.items → SlotsReceive side log slots.old.items → AreDistinct slots.old.items
+    ensures log { OfEachLog inbox.old (λ side log stage untaken. is_open log ≡ true → AllAwait half stage slots.old.items
+        → SlotsReceive side log slots.old.items → AreDistinct slots.old.items
         → IsBounded (slots_of half) 0 slots.old.items
         → OnOk result (Scans side log untaken (settings_ready side log) half (rule_of half (transport_view side log)) stage slots.old.items slots.new.items (known_by dispatched.old progress.old) (known_by dispatched.new progress.new) inbox.new)) }
 {
     let most = slots_of(half);
     let mut at = 0;
-    while at < most && at < slots.len() && progress.goes_on() {
+    while at < most && at < slots.len() && progress.still_going() {
         match visit(inbox, half, &slots[at], at, dispatched, progress)? {
             Some(slot) => {
                 slots[at] = slot;

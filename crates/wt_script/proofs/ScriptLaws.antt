@@ -27,10 +27,10 @@ pub longer : (script : List ℕ) (start i : ℕ) → start ≤ i → i < length 
     → take (i + 1 - start) (drop start script) ≡ take (i - start) (drop start script) ++ get_or script i 0 ∷ []
 longer script start i begun within =
     let count : i + 1 - start ≡ suc (i - start) = omega arith in
-    let place : start + (i - start) ≡ i = omega arith in
+    let offset_is : start + (i - start) ≡ i = omega arith in
     ap (λ n. take n (drop start script)) count
     ∙ take-suc (drop start script) (i - start) 0 (omega (arith, length-drop start script))
-    ∙ ap (λ b. take (i - start) (drop start script) ++ b ∷ []) (get_or-drop start script (i - start) 0 ∙ ap (λ n. get_or script n 0) place)
+    ∙ ap (λ b. take (i - start) (drop start script) ++ b ∷ []) (get_or-drop start script (i - start) 0 ∙ ap (λ n. get_or script n 0) offset_is)
 
 pub in_line : (script : List ℕ) (start i : ℕ) → start ≤ i → i < length script → (get_or script i 0 ≡ 10 → ⊥)
     → lines_from (take (i - start) (drop start script)) (drop i script) ≡ lines_from (take (i + 1 - start) (drop start script)) (drop (i + 1) script)

@@ -10,7 +10,8 @@ use Rattle.wt_wire.specs.declared.side.Side.{Side}
 
 -- the law holds of each log that the transport refines
 abbrev pub OfEachLog : TransportState → (Side → Log → (ℕ → ReadPosition) → List Action → Type 0) → Type 0
-OfEachLog t Law = (side : Side) (log : Log) (position : ℕ → ReadPosition) (untaken : List Action) → Refines side t log position untaken → Law side log position untaken
+OfEachLog t Law = (side : Side) (log : Log) (position : ℕ → ReadPosition) (untaken : List Action) → Refines side t log position untaken
+    → Law side log position untaken
 
 -- it is so in each log that the transport refines
 abbrev pub Tells : TransportState → (Side → Log → Type 0) → Type 0

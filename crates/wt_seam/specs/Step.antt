@@ -50,7 +50,8 @@ may_receive_now t id = t.is_connected && can_receive_now t id && is_running (str
 -- the peer may stop this end's half
 abbrev pub may_stop_now : TransportState → ℕ → Bool
 may_stop_now t id =
-    t.is_connected && can_send_now t id && not (is_some (stream.stream_at t.streams id).all_signals.stop) && not (stream.stream_at t.streams id).all_signals.acknowledged
+    t.is_connected && can_send_now t id && not (is_some (stream.stream_at t.streams id).all_signals.stop)
+    && not (stream.stream_at t.streams id).all_signals.acknowledged
 
 -- all of this end's half may be acknowledged
 abbrev pub may_ack_now : TransportState → ℕ → Bool

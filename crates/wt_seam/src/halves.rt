@@ -73,7 +73,8 @@ impl QuicSendStream {
         ensures answer { IfOk result (λ a. a ≡ write_all_answer t.old.is_open (sending_half_now t.old self.old.id) bytes.now) }
         ensures state { OnOk result (t.new ≡ after_write t.old self.old.id bytes.now) }
         ensures err { OnErr result (t.new ≡ t.old) }
-        ensures log_answer { Tells t.old (λ side log. IfOk result (λ a. a ≡ write_all_answer (is_open log) (sending_half log self.old.id) bytes.now)) }
+        ensures log_answer { Tells t.old (λ side log. IfOk result (λ a. a
+            ≡ write_all_answer (is_open log) (sending_half log self.old.id) bytes.now)) }
         ensures log { SendsIfOk result t.old t.new (λ side log. actions_of_write side log self.old.id bytes.now) }
         ensures same { self.new ≡ self.old }
     {
@@ -190,10 +191,13 @@ impl QuicRecvStream {
     ) -> Poll<Result<Option<usize>, StreamReadError>>
         requires { IsTrue (can_receive_now t.old self.old.id) }
         ensures answer { result ≡ read_answer t.old.is_open (receiving_half_now t.old self.old.id) (length buffer.old) }
-        ensures bytes { buffer.new ≡ take (read_count (receiving_half_now t.old self.old.id) (length buffer.old)) (unread_now t.old self.old.id) ++ drop (read_count (receiving_half_now t.old self.old.id) (length buffer.old)) buffer.old }
+        ensures bytes { buffer.new
+            ≡ take (read_count (receiving_half_now t.old self.old.id) (length buffer.old)) (unread_now t.old self.old.id) ++ drop (read_count (receiving_half_now t.old self.old.id) (length buffer.old)) buffer.old }
         ensures state { t.new ≡ after_consume t.old self.old.id (read_count (receiving_half_now t.old self.old.id) (length buffer.old)) }
-        ensures log_answer { TellsUnread t.old (λ side log position. result ≡ read_answer (is_open log) (receiving_half log position self.old.id) (length buffer.old)) }
-        ensures log_bytes { TellsUnread t.old (λ side log position. buffer.new ≡ take (read_count (receiving_half log position self.old.id) (length buffer.old)) (unread log position self.old.id) ++ drop (read_count (receiving_half log position self.old.id) (length buffer.old)) buffer.old) }
+        ensures log_answer { TellsUnread t.old (λ side log position. result
+            ≡ read_answer (is_open log) (receiving_half log position self.old.id) (length buffer.old)) }
+        ensures log_bytes { TellsUnread t.old (λ side log position. buffer.new
+            ≡ take (read_count (receiving_half log position self.old.id) (length buffer.old)) (unread log position self.old.id) ++ drop (read_count (receiving_half log position self.old.id) (length buffer.old)) buffer.old) }
         ensures log { OfEachLog t.old (λ side log position untaken. Refines side t.new log (position_after position self.old.id (read_count (receiving_half log position self.old.id) (length buffer.old))) untaken) }
         ensures same { self.new ≡ self.old }
     {
@@ -210,10 +214,13 @@ impl QuicRecvStream {
     ) -> Poll<Result<(), StreamReadExactError>>
         requires { IsTrue (can_receive_now t.old self.old.id) }
         ensures answer { result ≡ read_exact_answer t.old.is_open (receiving_half_now t.old self.old.id) (length buffer.old) }
-        ensures bytes { buffer.new ≡ take (read_exact_count (receiving_half_now t.old self.old.id) (length buffer.old)) (unread_now t.old self.old.id) ++ drop (read_exact_count (receiving_half_now t.old self.old.id) (length buffer.old)) buffer.old }
+        ensures bytes { buffer.new
+            ≡ take (read_exact_count (receiving_half_now t.old self.old.id) (length buffer.old)) (unread_now t.old self.old.id) ++ drop (read_exact_count (receiving_half_now t.old self.old.id) (length buffer.old)) buffer.old }
         ensures state { t.new ≡ after_consume t.old self.old.id (read_exact_count (receiving_half_now t.old self.old.id) (length buffer.old)) }
-        ensures log_answer { TellsUnread t.old (λ side log position. result ≡ read_exact_answer (is_open log) (receiving_half log position self.old.id) (length buffer.old)) }
-        ensures log_bytes { TellsUnread t.old (λ side log position. buffer.new ≡ take (read_exact_count (receiving_half log position self.old.id) (length buffer.old)) (unread log position self.old.id) ++ drop (read_exact_count (receiving_half log position self.old.id) (length buffer.old)) buffer.old) }
+        ensures log_answer { TellsUnread t.old (λ side log position. result
+            ≡ read_exact_answer (is_open log) (receiving_half log position self.old.id) (length buffer.old)) }
+        ensures log_bytes { TellsUnread t.old (λ side log position. buffer.new
+            ≡ take (read_exact_count (receiving_half log position self.old.id) (length buffer.old)) (unread log position self.old.id) ++ drop (read_exact_count (receiving_half log position self.old.id) (length buffer.old)) buffer.old) }
         ensures log { OfEachLog t.old (λ side log position untaken. Refines side t.new log (position_after position self.old.id (read_exact_count (receiving_half log position self.old.id) (length buffer.old))) untaken) }
         ensures same { self.new ≡ self.old }
     {

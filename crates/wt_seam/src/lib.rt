@@ -13,3 +13,4 @@ pub use transport::Transport;
 pub use wt_turn::stream_error::{
     ClosedStream, StreamReadError, StreamReadExactError, StreamWriteError, WriteAll,
 };
+pub use wt_wire::side::{Side, StreamEnd};

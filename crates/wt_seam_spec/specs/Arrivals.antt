@@ -38,13 +38,16 @@ may_come side log (turns.Bytes id piece) = may_receive side log id
 may_come side log (turns.End id) = may_receive side log id
 may_come side log (turns.Reset id code) = may_receive side log id
 may_come side log (turns.Stop id code) =
-    is_connected (all_events_of log) && can_send side log id && not (is_some (stop_of (all_events_of log) id)) && not (is_acknowledged (all_events_of log) id)
+    is_connected (all_events_of log) && can_send side log id && not (is_some (stop_of (all_events_of log) id))
+    && not (is_acknowledged (all_events_of log) id)
 may_come side log (turns.Acked id) =
     is_connected (all_events_of log) && is_finished (actions_of log) id && not (is_reset log id)
     && not (is_some (stop_of (all_events_of log) id)) && not (is_acknowledged (all_events_of log) id)
 may_come side log (turns.Datagram piece) = is_connected (all_events_of log)
-may_come side log (turns.MaxUni total) = is_connected (all_events_of log) && not (nat_lt total (unis_allowed (all_events_of log))) && not (nat_lt (2 ^ 60) total)
-may_come side log (turns.MaxBi total) = is_connected (all_events_of log) && not (nat_lt total (bis_allowed (all_events_of log))) && not (nat_lt (2 ^ 60) total)
+may_come side log (turns.MaxUni total) = is_connected (all_events_of log) && not (nat_lt total (unis_allowed (all_events_of log)))
+    && not (nat_lt (2 ^ 60) total)
+may_come side log (turns.MaxBi total) = is_connected (all_events_of log) && not (nat_lt total (bis_allowed (all_events_of log)))
+    && not (nat_lt (2 ^ 60) total)
 may_come side log (turns.MaxData id total) =
     is_connected (all_events_of log) && can_send side log id && not (nat_lt total (credit (all_events_of log) id)) && nat_lt total (2 ^ 62)
 may_come side log (turns.DatagramLimit fact) = is_connected (all_events_of log)

@@ -31,7 +31,8 @@ actions_to_open side log kind = if may_open side log kind then actions.Opened (n
 
 -- the sending half can still send: it is neither finished, reset nor stopped, and the connection is open
 abbrev pub may_send : Side → Log → ℕ → Bool
-may_send side log k = is_open log && can_send side log k && not (is_finished (actions_of log) k) && not (is_reset log k) && not (is_some (stop_of (events_of log) k))
+may_send side log k = is_open log && can_send side log k && not (is_finished (actions_of log) k) && not (is_reset log k)
+    && not (is_some (stop_of (events_of log) k))
 
 -- how many more bytes a sending half may send
 abbrev pub credit_left : Log → ℕ → ℕ

@@ -62,6 +62,8 @@ pub fn reading()
 /// What goes out together.
 pub fn joining()
     ensures together { joined_actions (actions.Send 3 (98 ∷ []) ∷ actions.Send 3 (97 ∷ []) ∷ []) ≡ actions.Send 3 (97 ∷ 98 ∷ []) ∷ [] }
-    ensures other_stream { joined_actions (actions.Send 7 (98 ∷ []) ∷ actions.Send 3 (97 ∷ []) ∷ []) ≡ actions.Send 3 (97 ∷ []) ∷ actions.Send 7 (98 ∷ []) ∷ [] }
-    ensures apart { joined_actions (actions.Send 3 (98 ∷ []) ∷ actions.Opened 7 ∷ actions.Send 3 (97 ∷ []) ∷ []) ≡ actions.Send 3 (97 ∷ []) ∷ actions.Opened 7 ∷ actions.Send 3 (98 ∷ []) ∷ [] }
+    ensures other_stream { joined_actions (actions.Send 7 (98 ∷ []) ∷ actions.Send 3 (97 ∷ []) ∷ [])
+        ≡ actions.Send 3 (97 ∷ []) ∷ actions.Send 7 (98 ∷ []) ∷ [] }
+    ensures apart { joined_actions (actions.Send 3 (98 ∷ []) ∷ actions.Opened 7 ∷ actions.Send 3 (97 ∷ []) ∷ [])
+        ≡ actions.Send 3 (97 ∷ []) ∷ actions.Opened 7 ∷ actions.Send 3 (98 ∷ []) ∷ [] }
 {}

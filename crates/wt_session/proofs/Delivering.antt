@@ -23,9 +23,9 @@ use Rattle.wt_spec.specs.Answers.{call_effect, is_client, is_first, may_call}
 use Rattle.wt_spec.specs.Effect.{Effect, driver_error, log_call, reply_with}
 use Rattle.wt_spec.specs.Handshake.{awaits_request, deliver, handshake_state, queued_requests, request_fields_of, requested_stream}
 use Rattle.wt_spec.specs.StreamTable.{Classified}
-use Rattle.wt_told.proofs.DriverTheorems.{driver_error_theorem, requests_theorem, told_end_theorem, transport_open_theorem}
-use Rattle.wt_told.proofs.Theorems.{logged_theorem}
-use Rattle.wt_told.proofs.Turns.{entry-first}
+use Rattle.wt_agreement.proofs.DriverTheorems.{driver_error_theorem, requests_theorem, told_end_theorem, transport_open_theorem}
+use Rattle.wt_agreement.proofs.Theorems.{logged_theorem}
+use Rattle.wt_agreement.proofs.Turns.{entry-first}
 use Rattle.wt_turn.specs.Log.{CallRecord, Called, HandshakeOver, Log, Polled, RequestDelivered, calls_of}
 use Rattle.wt_error.specs.declared.connection_error.ConnectionError.{ConnectionError}
 use Rattle.wt_turn.specs.declared.call.Call.TheVariants as calls
@@ -47,11 +47,11 @@ record Carries (c : Classified) (r : Request) : Type 0 where
 
 carries : (c : Classified) (later : List Classified) (r : Request) → FirstIsRequest (c ∷ later) → told_of (Some r) ≡ first_request (c ∷ later) → Carries c r
 carries c later r q e =
-    let found : Some (c.id, q.fields, q.at) ≡ Some (r.id, r.fields, r.end) = sym (ap (request_in c.id) q.verdict) ∙ sym e in
-    let told : (c.id, q.fields, q.at) ≡ (r.id, r.fields, r.end) = cc in
+    let found : Some (c.id, q.fields, q.offset) ≡ Some (r.id, r.fields, r.end) = sym (ap (request_in c.id) q.verdict) ∙ sym e in
+    let reported : (c.id, q.fields, q.offset) ≡ (r.id, r.fields, r.end) = cc in
     record {
-      id = ap (λ (x : ℕ × Fields × ℕ). x.0) told;
-      fields = ap request_fields_of q.verdict ∙ ap (λ (x : ℕ × Fields × ℕ). x.1) told;
+      id = ap (λ (x : ℕ × Fields × ℕ). x.0) reported;
+      fields = ap request_fields_of q.verdict ∙ ap (λ (x : ℕ × Fields × ℕ). x.1) reported;
     }
 
 module _ (side : Side) (d : DriverValue) (log : Log) (taken : ℕ) (f : Follows side d log taken) (reach : IsReachable side log) (may : may_call side log calls.Incoming ≡ true) where
@@ -75,7 +75,7 @@ module _ (side : Side) (d : DriverValue) (log : Log) (taken : ℕ) (f : Follows 
 
   -- ---- a request is told
 
-  module _ (r : Request) (told : told_of (Some r) ≡ first_request (requests_now d.state)) where
+  module _ (r : Request) (reported : told_of (Some r) ≡ first_request (requests_now d.state)) where
     effect-by : (cs : List Classified) → FirstIsRequest cs → told_of (Some r) ≡ first_request cs
         → deliver side log cs ≡ reply_with (log_call side log [] (RequestDelivered r.id)) (replies.Request r.id r.fields)
     effect-by [] q e = absurd (cc)
@@ -86,7 +86,7 @@ module _ (side : Side) (d : DriverValue) (log : Log) (taken : ℕ) (f : Follows 
 
     -- it is delivered
     pub delivered_effect : call_effect side log calls.Incoming ≡ reply_with (log_call side log [] (RequestDelivered r.id)) (replies.Request r.id r.fields)
-    delivered_effect = effect-is ∙ effect-by (requests_now d.state) first_is_request told
+    delivered_effect = effect-is ∙ effect-by (requests_now d.state) first_is_request reported
 
     record-by : (cs : List Classified) → FirstIsRequest cs → told_of (Some r) ≡ first_request cs → MayPerform side log (delivery (facts_of side log) cs) → MayBeCalled side log (RequestDelivered r.id)
     record-by [] q e m = absurd (cc)
@@ -94,7 +94,7 @@ module _ (side : Side) (d : DriverValue) (log : Log) (taken : ℕ) (f : Follows 
 
     -- and may be
     pub may_deliver : MayBeCalled side log (RequestDelivered r.id)
-    may_deliver = record-by (requests_now d.state) first_is_request told may-be
+    may_deliver = record-by (requests_now d.state) first_is_request reported may-be
 
     plan-by : (cs : List Classified) → FirstIsRequest cs → told_of (Some r) ≡ first_request cs → delivery (facts_of side log) cs ≡ Step [] (RequestDelivered r.id) (replies.Request r.id r.fields)
     plan-by [] q e = absurd (cc)
@@ -110,7 +110,7 @@ module _ (side : Side) (d : DriverValue) (log : Log) (taken : ℕ) (f : Follows 
         record {
           state = ap handshake_state made;
           requested = ap requested_stream made;
-          end = told_end_theorem side d log (untaken_since taken log) calls.Incoming [] r.id (replies.Request r.id r.fields) r.id r.fields r.end f.refines may (plan-is ∙ plan-by (requests_now d.state) first_is_request told) (sym told);
+          end = told_end_theorem side d log (untaken_since taken log) calls.Incoming [] r.id (replies.Request r.id r.fields) r.id r.fields r.end f.refines may (plan-is ∙ plan-by (requests_now d.state) first_is_request reported) (sym reported);
         }
 
     module _ (p : Result (Poll (Result Request ConnectionError)) OutOfMemory) (given : IfOk p (λ x. x ≡ Ready (Ok r))) where
@@ -128,7 +128,7 @@ module _ (side : Side) (d : DriverValue) (log : Log) (taken : ℕ) (f : Follows 
 
   none-by : (cs : List Classified) → FirstIsRequest cs → told_of None ≡ first_request cs → cs ≡ []
   none-by [] q e = refl
-  none-by (c ∷ later) q e = absurd (let found : Some (c.id, q.fields, q.at) ≡ None = sym (ap (request_in c.id) q.verdict) ∙ sym e in cc)
+  none-by (c ∷ later) q e = absurd (let found : Some (c.id, q.fields, q.offset) ≡ None = sym (ap (request_in c.id) q.verdict) ∙ sym e in cc)
 
   -- then the call waits, or fails
   pub undelivered_effect : told_of None ≡ first_request (requests_now d.state) → call_effect side log calls.Incoming ≡ deliver side log []
@@ -142,7 +142,7 @@ all-three true true false x y z = absurd cc
 all-three true false c x y z = absurd cc
 all-three false b c x y z = absurd cc
 
--- behind a poll the call still may come
+-- after a poll the call still may come
 may-again : (side : Side) (log : Log) → may_call side log calls.Incoming ≡ true → may_call side (log_call side log [] Polled) calls.Incoming ≡ true
 may-again side log may =
     let parts = and_parts (not (is_client side) && not (is_first log)) (awaits_request (handshake_state (calls_of log))) may in

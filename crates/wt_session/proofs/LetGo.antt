@@ -18,7 +18,7 @@ use Rattle.wt_seam.specs.Step.{unread_now}
 use Rattle.wt_seam_spec.specs.Streams.{can_receive, local_uni}
 use Rattle.wt_spec.specs.Connection.{accepts_stream}
 use Rattle.wt_spec.specs.Halves.{gives_up, has_receiving_half}
-use Rattle.wt_told.proofs.DriverTheorems.{let_go_theorem}
+use Rattle.wt_agreement.proofs.DriverTheorems.{let_go_theorem}
 use Rattle.wt_turn.specs.Log.{CallRecord, Called, Log, Received, Reported, Sent, StreamGivenUp, StreamPassed, calls_of, with_actions}
 use Rattle.wt_turn.specs.declared.action.Action.{Action}
 use Rattle.wt_turn.specs.declared.turn.Turn.{Turn}

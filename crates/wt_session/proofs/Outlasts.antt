@@ -10,7 +10,7 @@ use Rattle.wt_laws.specs.Reachable.{IsReachable}
 use Rattle.wt_laws.specs.RecordCauses.{AcceptanceEnded, AcceptanceStopped, ConnectEnded, NoMoreRequests, OverCause, RecordCause, RejectionEnded}
 use Rattle.wt_laws.specs.ReplyCauses.{AfterSuccess, BeforeConnection, BeforeRequest, BeforeResponse, BeforeSettings, BeforeStream, ByRefusal, ByReserved, ByResponseFault, ByStatus, ByStreamEnd, ConnectFailedCause, ConnectionEnded, NoAddress, NoUrl, NotHttps, NotProceeding, RejectedCause, RejectionOver, RejectionRefused}
 use Rattle.wt_plan.proofs.AnswersSame.{request_end_kept}
-use Rattle.wt_plan.specs.Tells.{KeepsRequestEnd}
+use Rattle.wt_plan.specs.PlansAgree.{KeepsRequestEnd}
 use Rattle.wt_connecting.specs.Connecting.{Connect, IsConnecting}
 use Rattle.wt_session.specs.Incoming.{IsUnanswered, Request}
 use Rattle.wt_session.specs.Responding.{IsResponse, Response}
@@ -18,8 +18,8 @@ use Rattle.wt_connection.specs.Staying.{is_past_handshake}
 use Rattle.wt_session_spec.specs.SessionState.{is_answering}
 use Rattle.wt_spec.specs.Answers.{call_effect, is_client, is_first, may_call}
 use Rattle.wt_spec.specs.Handshake.{awaits_request, handshake_state, requested_stream}
-use Rattle.wt_told.proofs.Theorems.{call_first_theorem}
-use Rattle.wt_told.proofs.Turns.{goes-on}
+use Rattle.wt_agreement.proofs.Theorems.{call_first_theorem}
+use Rattle.wt_agreement.proofs.Turns.{goes-on}
 use Rattle.wt_turn.specs.Log.{CallRecord, ConnectStarted, HandshakeOver, Log, RequestDelivered, ResponseStarted, SessionEstablished, calls_of}
 use Rattle.wt_turn.specs.declared.action.Action.{Action}
 use Rattle.wt_turn.specs.declared.call.Call.{Call}
@@ -64,13 +64,13 @@ module _ (side : Side) (call : Call) (p : is_past_handshake call ≡ true) where
   not-failed log e (BeforeSettings reserved head t h c o x) = not-this calls.Handshake t refl
   not-failed log e (BeforeStream reserved head t h c o x) = not-this calls.Handshake t refl
   not-failed log e (BeforeRequest reserved head t h c o x) = not-this calls.Handshake t refl
-  not-failed log e (BeforeResponse w o x) = not-this calls.Handshake w.goes_on refl
-  not-failed log e (AfterSuccess fields at w s o x) = not-this calls.Handshake w.goes_on refl
+  not-failed log e (BeforeResponse w o x) = not-this calls.Handshake w.still_going refl
+  not-failed log e (AfterSuccess fields at w s o x) = not-this calls.Handshake w.still_going refl
   not-failed log e (ByReserved name head t h s x) = not-this calls.Handshake t refl
   not-failed log e (ByRefusal reserved head t h o r x) = not-this calls.Handshake t refl
-  not-failed log e (ByStatus fields at w s x) = not-this calls.Handshake w.goes_on refl
-  not-failed log e (ByResponseFault code w x) = not-this calls.Handshake w.goes_on refl
-  not-failed log e (ByStreamEnd w x) = not-this calls.Handshake w.goes_on refl
+  not-failed log e (ByStatus fields at w s x) = not-this calls.Handshake w.still_going refl
+  not-failed log e (ByResponseFault code w x) = not-this calls.Handshake w.still_going refl
+  not-failed log e (ByStreamEnd w x) = not-this calls.Handshake w.still_going refl
 
   not-rejected : (log : Log) → RejectedCause side (turns.Call call) log → ⊥
   not-rejected log (ConnectionEnded head from o) = no-response (calls_of log) false head from
@@ -86,7 +86,7 @@ module _ (side : Side) (call : Call) (p : is_past_handshake call ≡ true) where
 
   -- its record leaves the handshake where it was
   record-as-before : (log : Log) (r : CallRecord) → RecordCause side (turns.Call call) log r → (cs : List CallRecord) → (handshake_state (r ∷ cs) ≡ handshake_state cs) × (requested_stream (r ∷ cs) ≡ requested_stream cs)
-  record-as-before log (RequestDelivered k) c cs = absurd (not-this calls.Incoming c.asks refl)
+  record-as-before log (RequestDelivered k) c cs = absurd (not-this calls.Incoming c.asking refl)
   record-as-before log (ResponseStarted accepts head) c cs = absurd (no-response (calls_of log) accepts head c.0)
   record-as-before log (ConnectStarted reserved head) c cs = absurd (not-to c.dials.to)
   record-as-before log (SessionEstablished id at) c cs = absurd (not-established c.before c.own id at c.how)

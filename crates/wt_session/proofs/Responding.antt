@@ -13,7 +13,7 @@ use Rattle.wt_plan.proofs.PlansSame.{response-same}
 use Rattle.wt_plan.specs.DriverAnswers.{answers_now}
 use Rattle.wt_plan.specs.FactsNow.{DriverAnswers, facts_now}
 use Rattle.wt_plan.specs.Planned.{defined_plan}
-use Rattle.wt_plan.specs.Tells.{KeepsRequestEnd, TellsFacts, driver_facts}
+use Rattle.wt_plan.specs.PlansAgree.{KeepsRequestEnd, TellsFacts, driver_facts}
 use Rattle.wt_plan.specs.declared.plan.Plan as code
 use Rattle.wt_reached.proofs.Handshaking.{reached-holds}
 use Rattle.wt_seam.specs.State.{TransportState}
@@ -28,9 +28,9 @@ use Rattle.wt_session_spec.specs.SessionState.{SessionState, is_answering, sessi
 use Rattle.wt_spec.specs.Answers.{call_effect, is_client, is_first, may_call}
 use Rattle.wt_spec.specs.Effect.{Effect, log_call}
 use Rattle.wt_spec.specs.Handshake.{HandshakeState, awaits_answer, handshake_state, is_continuable, requested_stream, requested_by}
-use Rattle.wt_told.proofs.DriverTheorems.{drivers_tell_theorem}
-use Rattle.wt_told.proofs.Theorems.{logged_theorem, stays_theorem}
-use Rattle.wt_told.specs.Delivering.{delivers_request}
+use Rattle.wt_agreement.proofs.DriverTheorems.{drivers_tell_theorem}
+use Rattle.wt_agreement.proofs.Theorems.{logged_theorem, stays_theorem}
+use Rattle.wt_agreement.specs.Delivering.{delivers_request}
 use Rattle.wt_turn.specs.Log.{CallRecord, HandshakeOver, Log, ResponseStarted, calls_of}
 use Rattle.wt_turn.specs.declared.action.Action.{Action}
 use Rattle.wt_turn.specs.declared.call.Call.{Call}
@@ -51,8 +51,8 @@ module _ (side : Side) (d : DriverValue) (log : Log) (taken : ℕ) (f : Follows 
       → response_plan (facts_now d.inbox.transport (answers_now d.inbox.transport d.state (is_first log) end (driver_facts side log).response)) (session_state log) accepts head waiting
       ≡ response_plan (facts_of side log) (session_state log) accepts head waiting
   response_by_log end k a accepts head waiting =
-      let tells : TellsFacts side log d.inbox.transport (answered end) = drivers_tell_theorem side d log (untaken_since taken log) (is_first log) end (driver_facts side log).response f.refines refl k (λ r h e. refl) reach in
-      ap (λ (x : CallFacts). response_plan x (session_state log) accepts head waiting) (facts-same side d.inbox.transport log tells.position tells.untaken tells.refines (answered end) tells.answers tells.lawful)
+      let says : TellsFacts side log d.inbox.transport (answered end) = drivers_tell_theorem side d log (untaken_since taken log) (is_first log) end (driver_facts side log).response f.refines refl k (λ r h e. refl) reach in
+      ap (λ (x : CallFacts). response_plan x (session_state log) accepts head waiting) (facts-same side d.inbox.transport log says.position says.untaken says.refines (answered end) says.answers says.lawful)
       ∙ response-same (facts_of side log) end (driver_facts side log).response (unread_now d.inbox.transport) (k a) accepts (requested_stream (calls_of log)) (left_of (facts_of side log) (requested_stream (calls_of log)) head) waiting
 
 -- ---- the call of a poll

@@ -9,7 +9,7 @@ use Rattle.wt_session.specs.Incoming.{IsUnanswered, Request}
 use Rattle.wt_session.specs.Responding.{IsResponse, Response}
 use Rattle.wt_spec.specs.Answers.{is_client, is_first, is_lawful, log_after, may_call}
 use Rattle.wt_spec.specs.Handshake.{awaits_request, handshake_state, requested_stream}
-use Rattle.wt_told.proofs.Theorems.{not_first_theorem, same_calls_theorem, turn_end_theorem}
+use Rattle.wt_agreement.proofs.Theorems.{not_first_theorem, same_calls_theorem, turn_end_theorem}
 use Rattle.wt_turn.specs.Log.{Log, calls_of}
 use Rattle.wt_turn.specs.declared.call.Call.{Call}
 use Rattle.wt_turn.specs.declared.call.Call.TheVariants as calls

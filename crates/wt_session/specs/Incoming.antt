@@ -1,7 +1,7 @@
 -- The request that a server is given (RFC 9220, section 3), and what a poll for it replies.
 use Rattle.std.specs.Prelude.{◌≡◌, Err, List, None, Ok, Option, Result, Some, false, true, ℕ}
 use Rattle.wt_session.specs.Responding.{Response}
-use Rattle.wt_plan.specs.Tells.{KeepsRequestEnd}
+use Rattle.wt_plan.specs.PlansAgree.{KeepsRequestEnd}
 use Rattle.wt_spec.specs.Answers.{may_call}
 use Rattle.wt_spec.specs.Handshake.{Requested, handshake_state, requested_stream}
 use Rattle.wt_turn.specs.Log.{Log, calls_of}
@@ -14,7 +14,7 @@ use Rattle.wt_reply.specs.declared.reply.Reply.TheVariants as replies
 use Rattle.wt_wire.specs.HeaderList.{Fields}
 use Rattle.wt_wire.specs.declared.side.Side.{Side}
 
--- a request: the stream of its session, its fields, and the offset behind it on the stream
+-- a request: the stream of its session, its fields, and the offset after it on the stream
 pub record Request : Type 0 where
   pub id : ℕ
   pub fields : Fields
@@ -30,7 +30,7 @@ pub record IsUnanswered (side : Side) (log : Log) (r : Request) : Type 0 where
 abbrev pub unbegun : Request → List ℕ → Response
 unbegun r head = record { id = r.id; end = r.end; head = head; has_begun = false }
 
--- what is told of a request: its stream, its fields, and the offset behind it
+-- what is told of a request: its stream, its fields, and the offset after it
 abbrev pub told_of : Option Request → Option (ℕ × Fields × ℕ)
 told_of None = None
 told_of (Some r) = Some (r.id, r.fields, r.end)

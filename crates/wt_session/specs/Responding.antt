@@ -1,8 +1,8 @@
 -- The response to a request as it goes on (RFC 9220, section 3; RFC 9114, section 4.1), and what a poll of it replies.
 use Rattle.std.specs.Prelude.{◌≡◌, Bool, Err, List, Ok, Result, codes, false, true, ℕ}
-use Rattle.wt_connection.specs.Standing.{IsEstablished}
+use Rattle.wt_connection.specs.TypesInLog.{IsEstablished}
 use Rattle.wt_message.specs.FixedBytes.{response_bytes}
-use Rattle.wt_plan.specs.Tells.{KeepsRequestEnd}
+use Rattle.wt_plan.specs.PlansAgree.{KeepsRequestEnd}
 use Rattle.wt_spec.specs.Handshake.{HandshakeState, Requested, Responding, handshake_state, requested_stream, response_head}
 use Rattle.wt_turn.specs.Log.{CallRecord, Log, Polled, ResponseStarted, calls_of}
 use Rattle.wt_turn.specs.declared.call.Call.{Call}
@@ -16,7 +16,7 @@ use Rattle.wt_wire.specs.declared.side.Side.{Side}
 
 -- ---- a response
 
--- a response: the stream of its request and the offset behind that, the frame of its fields, and whether it has begun
+-- a response: the stream of its request and the offset after that, the frame of its fields, and whether it has begun
 pub record Response : Type 0 where
   pub id : ℕ
   pub end : ℕ

@@ -18,7 +18,7 @@ use wt_turn::poll::Poll;
 use wt_turn::reply::Reply;
 use wt_wire::error::OutOfMemory;
 
-/// The acceptance of a request, until the session stands. Contracts see its response.
+/// The acceptance of a request, until the session is established. Contracts see its response.
 #[derive(Debug, Drop)]
 pub struct Accepting {
     response: Response,
@@ -51,7 +51,7 @@ impl Accepting {
         Accepting { response }
     }
 
-    /// Writes the response as far as credit lets it, and once all of it is out the session stands.
+    /// Writes the response as far as credit lets it, and once all of it is out the session is established.
     ///
     /// # Errors
     ///
@@ -66,8 +66,10 @@ impl Accepting {
     ) -> Result<Poll<Result<Connection, ConnectionError>>, OutOfMemory>
         ensures reply { (call : Call) → IsPollOf true self.old call → IfOk result (RepliesTo d.old (HasResponse true self.old) call accepting_reply) }
         ensures log { (call : Call) → IsPollOf true self.old call → OnOk result (LeadsOn d.old (HasResponse true self.old) call d.new) }
-        ensures stands { (call : Call) → IsPollOf true self.old call → IfOk result (λ p. StandsBehind d.old (HasResponse true self.old) call (λ side log. StandsWith side log true self.new (accepting_reply p))) }
-        ensures lawful { (side : Side) (log : Log) (call : Call) → IsReachable side log → IsResponse side log true self.old → IsPollOf true self.old call → may_call side log call ≡ true }
+        ensures in_log { (call : Call) → IsPollOf true self.old call
+            → IfOk result (λ p. StandsBehind d.old (HasResponse true self.old) call (λ side log. StandsWith side log true self.new (accepting_reply p))) }
+        ensures lawful { (side : Side) (log : Log) (call : Call) → IsReachable side log → IsResponse side log true self.old
+            → IsPollOf true self.old call → may_call side log call ≡ true }
     {
         let reply = self.response.poll(alloc, d, true)?;
         Ok(accepted(reply))

@@ -37,7 +37,7 @@ use wt_wire::header_list::HeaderList;
 use wt_wire::ids::SessionId;
 
 /// A request for a session that a server was given. Contracts see its session, its fields and the
-/// offset behind it.
+/// offset after it.
 #[derive(Debug, Drop)]
 pub struct SessionRequest {
     id: SessionId,
@@ -58,7 +58,7 @@ impl Model for SessionRequest {
 }
 
 /// What a poll for a request answers.
-pub type Given = Poll<Result<SessionRequest, ConnectionError>>;
+pub type RequestPoll = Poll<Result<SessionRequest, ConnectionError>>;
 
 /// The request that is queued, once the peer's SETTINGS came.
 fn queued_request(d: &Driver) -> Result<Option<SessionRequest>, OutOfMemory>
@@ -77,37 +77,43 @@ fn queued_request(d: &Driver) -> Result<Option<SessionRequest>, OutOfMemory>
 }
 
 /// The request is given.
-fn give(d: &mut Driver, request: SessionRequest) -> Result<Given, OutOfMemory>
+fn give(d: &mut Driver, request: SessionRequest) -> Result<RequestPoll, OutOfMemory>
     ensures given { IfOk result (λ p. p ≡ Poll.Ready (Ok request)) }
-    ensures log { (side : Side) (log : Log) (taken : ℕ) → Follows side d.old log taken → MayBeCalled side log (RequestDelivered request.id) → OnOk result (Follows side d.new (log_call side log [] (RequestDelivered request.id)) taken) }
+    ensures log { (side : Side) (log : Log) (taken : ℕ) → Follows side d.old log taken → MayBeCalled side log (RequestDelivered request.id)
+        → OnOk result (Follows side d.new (log_call side log [] (RequestDelivered request.id)) taken) }
 {
-    d.called(&Record::RequestDelivered(request.id.session_stream()))?;
+    d.record_call(&Record::RequestDelivered(request.id.session_stream()))?;
     Ok(Poll::Ready(Ok(request)))
 }
 
 /// The call waits on.
-fn wait_on(d: &mut Driver) -> Result<Given, OutOfMemory>
+fn wait_on(d: &mut Driver) -> Result<RequestPoll, OutOfMemory>
     ensures given { IfOk result (λ p. p ≡ Poll.Pending) }
-    ensures log { (side : Side) (log : Log) (taken : ℕ) → Follows side d.old log taken → OnOk result (Follows side d.new (log_call side log [] Polled) taken) }
+    ensures log { (side : Side) (log : Log) (taken : ℕ) → Follows side d.old log taken
+        → OnOk result (Follows side d.new (log_call side log [] Polled) taken) }
 {
-    d.called(&Record::Polled)?;
+    d.record_call(&Record::Polled)?;
     Ok(Poll::Pending)
 }
 
 /// The handshake is over, for this reason.
-fn fail(d: &mut Driver, error: ConnectionError) -> Result<Given, OutOfMemory>
+fn fail(d: &mut Driver, error: ConnectionError) -> Result<RequestPoll, OutOfMemory>
     ensures given { IfOk result (λ p. p ≡ Poll.Ready (Err error)) }
-    ensures log { (side : Side) (log : Log) (taken : ℕ) → Follows side d.old log taken → OnOk result (Follows side d.new (log_call side log [] HandshakeOver) taken) }
+    ensures log { (side : Side) (log : Log) (taken : ℕ) → Follows side d.old log taken
+        → OnOk result (Follows side d.new (log_call side log [] HandshakeOver) taken) }
 {
-    d.called(&Record::HandshakeOver)?;
+    d.record_call(&Record::HandshakeOver)?;
     Ok(Poll::Ready(Err(error)))
 }
 
 /// Without a request the call waits, or fails once the connection has ended.
-fn wait(alloc: Global, d: &mut Driver) -> Result<Given, OutOfMemory>
-    ensures reply { (side : Side) (log : Log) (taken : ℕ) → Follows side d.old log taken → IfOk result (λ p. incoming_reply p ≡ (handshake.deliver side log []).reply) }
-    ensures log { (side : Side) (log : Log) (taken : ℕ) → Follows side d.old log taken → OnOk result (Follows side d.new (handshake.deliver side log []).log taken) }
-    ensures stands { (side : Side) (log : Log) (taken : ℕ) → Follows side d.old log taken → may_call side log calls.Incoming ≡ true → IfOk result (λ p. StandsWith side (handshake.deliver side log []).log p) }
+fn wait(alloc: Global, d: &mut Driver) -> Result<RequestPoll, OutOfMemory>
+    ensures reply { (side : Side) (log : Log) (taken : ℕ) → Follows side d.old log taken
+        → IfOk result (λ p. incoming_reply p ≡ (handshake.deliver side log []).reply) }
+    ensures log { (side : Side) (log : Log) (taken : ℕ) → Follows side d.old log taken
+        → OnOk result (Follows side d.new (handshake.deliver side log []).log taken) }
+    ensures in_log { (side : Side) (log : Log) (taken : ℕ) → Follows side d.old log taken → may_call side log calls.Incoming ≡ true
+        → IfOk result (λ p. StandsWith side (handshake.deliver side log []).log p) }
 {
     let t = d.inbox().transport();
     if t.is_open() {
@@ -148,10 +154,10 @@ impl IncomingSessionFuture {
     ///
     /// `OutOfMemory` where the request, what is recorded or the error found no memory. The
     /// `ConnectionError` is how the connection ended, as the driver tells it.
-    pub fn poll(&mut self, alloc: Global, d: &mut Driver) -> Result<Given, OutOfMemory>
+    pub fn poll(&mut self, alloc: Global, d: &mut Driver) -> Result<RequestPoll, OutOfMemory>
         ensures reply { IfOk result (RepliesTo d.old (MayCall calls.Incoming) calls.Incoming incoming_reply) }
         ensures log { OnOk result (LeadsOn d.old (MayCall calls.Incoming) calls.Incoming d.new) }
-        ensures stands { IfOk result (λ p. StandsBehind d.old (MayCall calls.Incoming) calls.Incoming (λ side log. StandsWith side log p)) }
+        ensures in_log { IfOk result (λ p. StandsBehind d.old (MayCall calls.Incoming) calls.Incoming (λ side log. StandsWith side log p)) }
     {
         let request = queued_request(d)?;
         match request {
@@ -212,7 +218,7 @@ impl SessionRequest {
     /// `OutOfMemory` where the response found no memory.
     pub fn accept(self, alloc: Global) -> Result<Accepting, OutOfMemory>
         ensures response { IfOk result (λ a. a ≡ unbegun self (response_head (codes "200") [])) }
-        ensures stands { (side : Side) (log : Log) → IsUnanswered side log self → IfOk result (λ a. IsResponse side log true a) }
+        ensures in_log { (side : Side) (log : Log) → IsUnanswered side log self → IfOk result (λ a. IsResponse side log true a) }
         ensures call { IfOk result (λ a. IsPollOf true a (calls.Accept [])) }
     {
         self.accept_with_headers(alloc, HeaderList::new(alloc))
@@ -230,7 +236,7 @@ impl SessionRequest {
         headers: HeaderList,
     ) -> Result<Accepting, OutOfMemory>
         ensures response { IfOk result (λ a. a ≡ unbegun self (response_head (codes "200") headers)) }
-        ensures stands { (side : Side) (log : Log) → IsUnanswered side log self → IfOk result (λ a. IsResponse side log true a) }
+        ensures in_log { (side : Side) (log : Log) → IsUnanswered side log self → IfOk result (λ a. IsResponse side log true a) }
         ensures call { IfOk result (λ a. IsPollOf true a (calls.Accept headers)) }
     {
         let head = heads::accepting(alloc, &headers)?;
@@ -244,7 +250,7 @@ impl SessionRequest {
     /// `OutOfMemory` where the response found no memory.
     pub fn forbidden(self, alloc: Global) -> Result<Rejecting, OutOfMemory>
         ensures response { IfOk result (λ r. r ≡ unbegun self (response_bytes (codes "403"))) }
-        ensures stands { (side : Side) (log : Log) → IsUnanswered side log self → IfOk result (λ r. IsResponse side log false r) }
+        ensures in_log { (side : Side) (log : Log) → IsUnanswered side log self → IfOk result (λ r. IsResponse side log false r) }
         ensures call { IfOk result (λ r. IsPollOf false r calls.Forbidden) }
     {
         let head = heads::forbidding(alloc)?;
@@ -258,7 +264,7 @@ impl SessionRequest {
     /// `OutOfMemory` where the response found no memory.
     pub fn not_found(self, alloc: Global) -> Result<Rejecting, OutOfMemory>
         ensures response { IfOk result (λ r. r ≡ unbegun self (response_bytes (codes "404"))) }
-        ensures stands { (side : Side) (log : Log) → IsUnanswered side log self → IfOk result (λ r. IsResponse side log false r) }
+        ensures in_log { (side : Side) (log : Log) → IsUnanswered side log self → IfOk result (λ r. IsResponse side log false r) }
         ensures call { IfOk result (λ r. IsPollOf false r calls.NotFound) }
     {
         let head = heads::not_found(alloc)?;
@@ -272,7 +278,7 @@ impl SessionRequest {
     /// `OutOfMemory` where the response found no memory.
     pub fn too_many_requests(self, alloc: Global) -> Result<Rejecting, OutOfMemory>
         ensures response { IfOk result (λ r. r ≡ unbegun self (response_bytes (codes "429"))) }
-        ensures stands { (side : Side) (log : Log) → IsUnanswered side log self → IfOk result (λ r. IsResponse side log false r) }
+        ensures in_log { (side : Side) (log : Log) → IsUnanswered side log self → IfOk result (λ r. IsResponse side log false r) }
         ensures call { IfOk result (λ r. IsPollOf false r calls.TooManyRequests) }
     {
         let head = heads::too_many_requests(alloc)?;

@@ -57,10 +57,13 @@ impl Rejecting {
     ///
     /// `OutOfMemory` where what goes out or what is recorded found no memory.
     pub fn poll(&mut self, alloc: Global, d: &mut Driver) -> Result<Poll<()>, OutOfMemory>
-        ensures reply { (call : Call) → IsPollOf false self.old call → IfOk result (RepliesTo d.old (HasResponse false self.old) call rejecting_reply) }
+        ensures reply { (call : Call) → IsPollOf false self.old call
+            → IfOk result (RepliesTo d.old (HasResponse false self.old) call rejecting_reply) }
         ensures log { (call : Call) → IsPollOf false self.old call → OnOk result (LeadsOn d.old (HasResponse false self.old) call d.new) }
-        ensures stands { (call : Call) → IsPollOf false self.old call → IfOk result (λ p. StandsBehind d.old (HasResponse false self.old) call (λ side log. StandsWith side log false self.new (rejecting_reply p))) }
-        ensures lawful { (side : Side) (log : Log) (call : Call) → IsReachable side log → IsResponse side log false self.old → IsPollOf false self.old call → may_call side log call ≡ true }
+        ensures in_log { (call : Call) → IsPollOf false self.old call
+            → IfOk result (λ p. StandsBehind d.old (HasResponse false self.old) call (λ side log. StandsWith side log false self.new (rejecting_reply p))) }
+        ensures lawful { (side : Side) (log : Log) (call : Call) → IsReachable side log → IsResponse side log false self.old
+            → IsPollOf false self.old call → may_call side log call ≡ true }
     {
         let reply = self.response.poll(alloc, d, false)?;
         Ok(rejected(reply))

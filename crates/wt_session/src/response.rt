@@ -26,7 +26,7 @@ use wt_turn::reply::Reply;
 use wt_wire::error::OutOfMemory;
 use wt_wire::ids::SessionId;
 
-/// A response: the session of its request and the offset behind that, the frame of its fields, and
+/// A response: the session of its request and the offset after that, the frame of its fields, and
 /// whether it has begun.
 #[derive(Debug, Drop)]
 pub struct Response {
@@ -84,7 +84,8 @@ impl Response {
 
     /// What the next poll does.
     fn plan(&self, alloc: Global, d: &Driver, accepts: bool) -> Result<Plan, OutOfMemory>
-        ensures { (side : Side) (log : Log) (taken : ℕ) (call : Call) → Follows side d.now log taken → IsReachable side log → IsResponse side log accepts self.now → IsPollOf accepts self.now call
+        ensures { (side : Side) (log : Log) (taken : ℕ) (call : Call) → Follows side d.now log taken → IsReachable side log
+            → IsResponse side log accepts self.now → IsPollOf accepts self.now call
             → IfOk result (λ p. defined_plan p ≡ plan_of (facts_of side log) (session_state log) call) }
     {
         let waiting = self.waiting_record(accepts)?;
@@ -100,8 +101,10 @@ impl Response {
     ) -> Result<Reply, OutOfMemory>
         ensures reply { (call : Call) → IsPollOf accepts self.old call → IfOk result (RepliesTo d.old (HasResponse accepts self.old) call (λ r. r)) }
         ensures log { (call : Call) → IsPollOf accepts self.old call → OnOk result (LeadsOn d.old (HasResponse accepts self.old) call d.new) }
-        ensures kind { (call : Call) → IsPollOf accepts self.old call → IfOk result (λ r. WhereStands d.old (HasResponse accepts self.old) (λ side log taken. IsResponseReply accepts r)) }
-        ensures stands { (call : Call) → IsPollOf accepts self.old call → IfOk result (λ r. StandsBehind d.old (HasResponse accepts self.old) call (λ side log. StandsWith side log accepts self.new r)) }
+        ensures kind { (call : Call) → IsPollOf accepts self.old call
+            → IfOk result (λ r. WhereStands d.old (HasResponse accepts self.old) (λ side log taken. IsResponseReply accepts r)) }
+        ensures in_log { (call : Call) → IsPollOf accepts self.old call
+            → IfOk result (λ r. StandsBehind d.old (HasResponse accepts self.old) call (λ side log. StandsWith side log accepts self.new r)) }
     {
         let plan = self.plan(alloc, d, accepts)?;
         let reply = perform(alloc, d, plan)?;

@@ -44,11 +44,11 @@ still-counted : (b : Bool) (n : ℕ) → (n == 0) ≡ false → (one_more_if b n
 still-counted false n e = e
 still-counted true n e = more-counted true n refl
 
--- it stays so behind more actions
+-- it stays so after more actions
 pub counted-behind : (kind : ℕ) (own : List Action) (log : Log) → (local_count (actions_of log) kind == 0) ≡ false → (local_count (actions_of (with_actions own log)) kind == 0) ≡ false
 counted-behind kind [] log e = e
 counted-behind kind (a ∷ own) log e = counted-behind kind own (Sent a ∷ log) (still-counted (opens kind a) (local_count (actions_of log) kind) e)
 
--- and behind the first of two lists it is so behind both
+-- and after the first of two lists it is so after both
 pub counted-both : (kind : ℕ) (xs ys : List Action) (log : Log) → (local_count (actions_of (with_actions xs log)) kind == 0) ≡ false → (local_count (actions_of (with_actions (xs ++ ys) log)) kind == 0) ≡ false
 counted-both kind xs ys log e = rw (with-both xs ys log) (counted-behind kind ys (with_actions xs log) e)

@@ -169,7 +169,7 @@ module _ (side : Side) (log : Log) where
     read-may : (w : ResponseWalk) → MayPlan side log (response_read (facts_of side log) id own w)
     read-may (responses.Fault code) = closing-behind _
     read-may responses.Ended = closing-behind 0
-    read-may responses.Waiting = plan-if (is_open log) (send_and_reply own replies.Pending) (failed_connect own (lost_connect (facts_of side log))) (λ o. m) (λ o. m)
+    read-may responses.Incomplete = plan-if (is_open log) (send_and_reply own replies.Pending) (failed_connect own (lost_connect (facts_of side log))) (λ o. m) (λ o. m)
     read-may (responses.Response fields at) =
         plan-if (not (has_success fields)) (abandon_plan (facts_of side log) own connects.SessionRejected)
         (if is_open log then Establish own id at else failed_connect own (connects.ConnectionError (facts_of side log).driver_error)) (λ e. closing-behind 0)
@@ -211,8 +211,8 @@ module _ (side : Side) (log : Log) where
   bi-self Client = refl
   bi-self Server = refl
 
-  counted : (l : Log) → 0 < local_count (actions_of l) (local_bi side) → can_send side l (local_bi side) ≡ true
-  counted l n =
+  count_is : (l : Log) → 0 < local_count (actions_of l) (local_bi side) → can_send side l (local_bi side) ≡ true
+  count_is l n =
       (λ i. nat_lt (bi-quarter side i) (peer_count side (all_events_of l) (bi-self side i) + local_count (actions_of l) (bi-self side i)) && not (peer_uni side == bi-self side i))
       ∙ (λ i. lt-ltb 0 (peer_count side (all_events_of l) (local_bi side) + local_count (actions_of l) (local_bi side)) (omega (arith, n)) i && not (bi-peers side i))
 
@@ -233,7 +233,7 @@ module _ (side : Side) (log : Log) where
       let left = left_of (facts_of side log) k head in
       plan-if (not (local_count (actions_of log) k == 0)) (request_left (facts_of side log) k [] left)
       (if not (is_open log) then failed_connect [] (lost_connect (facts_of side log)) else (if may_open side log k then request_left (facts_of side log) k (actions.Opened (next_id side log k) ∷ []) left else only_reply replies.Pending))
-      (λ h. left-may k [] tt refl left (head-may side log k left (λ n. record { there = counted log (not-none (local_count (actions_of log) k) h); unfinished = f; unreset = r })))
+      (λ h. left-may k [] tt refl left (head-may side log k left (λ n. record { there = count_is log (not-none (local_count (actions_of log) k) h); unfinished = f; unreset = r })))
       (λ h.
       plan-if (not (is_open log)) (failed_connect [] (lost_connect (facts_of side log))) (if may_open side log k then request_left (facts_of side log) k (actions.Opened (next_id side log k) ∷ []) left else only_reply replies.Pending)
       (λ e. tt)
@@ -242,7 +242,7 @@ module _ (side : Side) (log : Log) where
       (λ m.
       left-may k (actions.Opened (next_id side log k) ∷ []) (next-may k (bi-kind side (stream_count side log k)) m, tt) refl left
       (head-may side (Sent (actions.Opened (next_id side log k)) ∷ log) k left
-      (λ n. record { there = counted (Sent (actions.Opened (next_id side log k)) ∷ log) (more-counted (next_id side log k % 4 == k) (local_count (actions_of log) k) next-self); unfinished = f; unreset = r })))
+      (λ n. record { there = count_is (Sent (actions.Opened (next_id side log k)) ∷ log) (more-counted (next_id side log k % 4 == k) (local_count (actions_of log) k) next-self); unfinished = f; unreset = r })))
       (λ m. tt)))
 
   awaited-may : (e : ConnectionError) → MayPlan side log (wait_plan (facts_of side log) e)

@@ -1,4 +1,4 @@
--- The record of every plan may be made, behind what the plan sends.
+-- The record of every plan may be made, after what the plan sends.
 use Rattle.std.proofs.Common.{arith, ◌≡◌, ◌⊎◌, inl, inr, ℕ, ◌≤◌, ◌+◌, ◌*◌, ◌/◌, ◌%◌, Bool, true, false, List, [], ◌∷◌, ◌++◌, refl, sym, ap, ◌∙◌}
 use Rattle.std.specs.Prelude.{Err, None, Ok, Option, Result, Some, bytes_eq, codes, is_some, length, nat_lt, not, ◌==◌, ◌&&◌, ◌||◌, if◌then◌else◌, ℤ}
 use Rattle.std.proofs.lemmas.Bool.{and_parts, eq-eqb, ltb-false, not-true}
@@ -124,7 +124,7 @@ module _ (side : Side) (log : Log) where
 
   -- ---- a client's connect
 
-  -- the request's stream is open behind these
+  -- the request's stream is open after these
   abbrev IsOpened : List Action → Type 0
   IsOpened own = (local_count (actions_of (with_actions own log)) (local_bi side) == 0) ≡ false
 
@@ -132,7 +132,7 @@ module _ (side : Side) (log : Log) where
     read-response : (own : List Action) → IsOpened own → (w : ResponseWalk) → (facts_of side log).response ≡ w → RecordMayBeMade side log (response_read (facts_of side log) (local_bi side) own w)
     read-response own o (responses.Fault code) e = fails (own ++ closing_with (facts_of side log) (code_of code))
     read-response own o responses.Ended e = fails (own ++ closing_with (facts_of side log) 0)
-    read-response own o responses.Waiting e = plan-if (is_open log) (send_and_reply own replies.Pending) (failed_connect own (lost_connect (facts_of side log))) (λ s. polls own) (λ s. fails own)
+    read-response own o responses.Incomplete e = plan-if (is_open log) (send_and_reply own replies.Pending) (failed_connect own (lost_connect (facts_of side log))) (λ s. polls own) (λ s. fails own)
     read-response own o (responses.Response fields at) e =
         plan-if (not (has_success fields)) (abandon_plan (facts_of side log) own connects.SessionRejected)
         (if is_open log then Establish own (local_bi side) at else failed_connect own (connects.ConnectionError (facts_of side log).driver_error)) (λ s. fails (own ++ closing_with (facts_of side log) 0))

@@ -167,7 +167,7 @@ module _ (side : Side) (log : Log) where
   read-apart : (id : ℕ) (own : List Action) → AllApart (local_uni side) own → (w : ResponseWalk) → Apart (response_read (facts_of side log) id own w)
   read-apart id own a (responses.Fault code) = closing-behind own (code_of code) a
   read-apart id own a responses.Ended = closing-behind own 0 a
-  read-apart id own a responses.Waiting = plan-if (is_open log) (send_and_reply own replies.Pending) (failed_connect own (lost_connect (facts_of side log))) (λ s. a) (λ s. a)
+  read-apart id own a responses.Incomplete = plan-if (is_open log) (send_and_reply own replies.Pending) (failed_connect own (lost_connect (facts_of side log))) (λ s. a) (λ s. a)
   read-apart id own a (responses.Response fields at) =
       plan-if (not (has_success fields)) (abandon_plan (facts_of side log) own connects.SessionRejected)
       (if is_open log then Establish own id at else failed_connect own (connects.ConnectionError (facts_of side log).driver_error)) (λ s. closing-behind own 0 a)

@@ -1,4 +1,4 @@
--- Each record of a call may be made, behind what the call sends.
+-- Each record of a call may be made, after what the call sends.
 use Rattle.std.proofs.Common.{arith, ◌≡◌, ◌⊎◌, ℕ, zero, suc, ◌<◌, ◌≤◌, ◌%◌, Bool, true, false, List, [], ◌∷◌, refl, ap, ◌∙◌}
 use Rattle.std.specs.Prelude.{Option, Some, None, ◌==◌, ◌&&◌, ◌||◌, length, ℤ}
 use Rattle.std.specs.List.{list_any}
@@ -49,7 +49,7 @@ delivered-made side log k q = record { may = q.classified; can = q.queued; half 
 pub started-made : (side : Side) (log : Log) (own : List Action) (accepts : Bool) (head : List ℕ) → side ≡ Server → awaits_answer (handshake_state (calls_of log)) ≡ true → MayBeMade side (with_actions own log) (ResponseStarted accepts head)
 started-made side log own accepts head s e = record { may = tt; can = (s, ap (λ (cs : List CallRecord). awaits_answer (handshake_state cs)) (calls-behind own log) ∙ e); half = tt }
 
--- a server's session begins behind the request that was queued
+-- a server's session begins after the request that was queued
 pub accepted-made : (side : Side) (log : Log) (own : List Action) (id at : ℕ) → side ≡ Server → queued_at (classified_of id (stream_table side log).classified) ≡ Some at → MayBeMade side (with_actions own log) (SessionEstablished id at)
 accepted-made Client log own id at s q = absurd cc
 accepted-made Server log own id at s q = record {
@@ -58,7 +58,7 @@ accepted-made Server log own id at s q = record {
   half = tt;
 }
 
--- a client's session begins behind the response that is awaited
+-- a client's session begins after the response that is awaited
 pub connected-made : (side : Side) (log : Log) (own : List Action) (at : ℕ) → Connects side log → (local_count (actions_of (with_actions own log)) (local_bi side) == 0) ≡ false
     → response_offset (response_walk_of (contents log (local_bi side)) (end_of (events_of log) (local_bi side))) ≡ Some at
     → MayBeMade side (with_actions own log) (SessionEstablished (local_bi side) at)
@@ -70,7 +70,7 @@ connected-made Client log own at c o w = record {
     record {
       role = refl;
       unestablished = ap established_session (calls-behind own log) ∙ c.unestablished;
-      goes_on = ap (λ (cs : List CallRecord). (use_of 0 cs).is_over) (calls-behind own log) ∙ c.goes_on;
+      still_going = ap (λ (cs : List CallRecord). (use_of 0 cs).is_over) (calls-behind own log) ∙ c.still_going;
     },
     (λ i. response_offset (response_walk_of (contents-behind own log 0 i) (end_of (events-behind own log i) 0))) ∙ w,
   );

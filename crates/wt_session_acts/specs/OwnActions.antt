@@ -30,8 +30,10 @@ left_out log k head = drop (length (sent_on (actions_of log) k)) head
 pub record RespondsWell (side : Side) (log : Log) (accepts : Bool) (head : List ℕ) : Type 0 where
   pub there : can_send side log (requested_stream (calls_of log)) ≡ true
   pub unreset : is_reset log (requested_stream (calls_of log)) ≡ false
-  pub unfinished : (left_out log (requested_stream (calls_of log)) head ≡ [] → ⊥) → is_finished (actions_of log) (requested_stream (calls_of log)) ≡ false
-  pub finished : accepts ≡ false → left_out log (requested_stream (calls_of log)) head ≡ [] → is_finished (actions_of log) (requested_stream (calls_of log)) ≡ true
+  pub unfinished : (left_out log (requested_stream (calls_of log)) head ≡ [] → ⊥)
+      → is_finished (actions_of log) (requested_stream (calls_of log)) ≡ false
+  pub finished : accepts ≡ false → left_out log (requested_stream (calls_of log)) head ≡ []
+      → is_finished (actions_of log) (requested_stream (calls_of log)) ≡ true
 
 -- What lets a session's calls send, of a log: the streams that the application has, those that are being opened, and those
 -- of the handshake have their halves.
@@ -39,6 +41,8 @@ pub record HalfFacts (side : Side) (log : Log) : Type 0 where
   pub given_sends : (k : ℕ) → has_sending_now side (session_state log) k ≡ true → can_send side log k ≡ true
   pub given_receives : (k : ℕ) → has_receiving_now side (session_state log) k ≡ true → can_receive side log k ≡ true
   pub opening : (k : ℕ) → is_opening_now (session_state log) k ≡ true → IsSendable side log k
-  pub starts : awaits_answer (handshake_state (calls_of log)) ≡ true → (accepts : Bool) (head : List ℕ) → (accepts ≡ false → head ≡ [] → ⊥) → RespondsWell side log accepts head
+  pub starts : awaits_answer (handshake_state (calls_of log)) ≡ true → (accepts : Bool) (head : List ℕ) → (accepts ≡ false → head ≡ [] → ⊥)
+      → RespondsWell side log accepts head
   pub responds : (accepts : Bool) (head : List ℕ) → handshake_state (calls_of log) ≡ Responding accepts head → RespondsWell side log accepts head
-  pub connects : (reserved : Option (List ℕ)) (head : List ℕ) → handshake_state (calls_of log) ≡ Connecting reserved head → (is_finished (actions_of log) (local_bi side) ≡ false) × (is_reset log (local_bi side) ≡ false)
+  pub connects : (reserved : Option (List ℕ)) (head : List ℕ) → handshake_state (calls_of log) ≡ Connecting reserved head
+      → (is_finished (actions_of log) (local_bi side) ≡ false) × (is_reset log (local_bi side) ≡ false)

@@ -15,7 +15,7 @@ pub record MayBeMade (side : Side) (log : Log) (r : CallRecord) : Type 0 where
   pub can : MayUse side log r
   pub half : HalfAsks side log r
 
--- what a plan records may be made behind what it sends; accepts see to their own records
+-- what a plan records may be made after what it sends; accepts see to their own records
 abbrev pub RecordMayBeMade : Side → Log → Plan → Type 0
 RecordMayBeMade side log (Step own call reply) = MayBeMade side (with_actions own log) call
 RecordMayBeMade side log (Establish own id at) = MayBeMade side (with_actions own log) (SessionEstablished id at)
@@ -26,7 +26,7 @@ pub record MaySendAll (side : Side) (log : Log) (own : List Action) : Type 0 whe
   pub act : MayActAll side log own
   pub spares : SparesControlAll side log own
 
--- what a plan sends may go out, and what it records may be recorded behind that; accepts see to their own
+-- what a plan sends may go out, and what it records may be recorded after that; accepts see to their own
 abbrev pub MayPerform : Side → Log → Plan → Type 0
 MayPerform side log (Step own call reply) = MaySendAll side log own × MayBeCalled side (with_actions own log) call
 MayPerform side log (Establish own id at) = MaySendAll side log own × MayBeCalled side (with_actions own log) (SessionEstablished id at)

@@ -16,13 +16,14 @@ use Rattle.wt_wire.specs.declared.side.Side.TheVariants.{Client, Server}
 -- a request is answered: this end is a server, and the request still stands as it was queued
 pub record AnswersRequest (side : Side) (log : Log) : Type 0 where
   pub server : side ≡ Server
-  pub queued : queued_at (classified_of (requested_stream (calls_of log)) (stream_table side log).classified) ≡ Some (request_end (verdict_of (requested_stream (calls_of log)) (stream_table side log).classified))
+  pub queued : queued_at (classified_of (requested_stream (calls_of log)) (stream_table side log).classified)
+      ≡ Some (request_end (verdict_of (requested_stream (calls_of log)) (stream_table side log).classified))
 
 -- a connect goes on: this end is a client, and has neither a session nor a failed handshake
 pub record Connects (side : Side) (log : Log) : Type 0 where
   pub client : side ≡ Client
   pub unestablished : established_session (calls_of log) ≡ None
-  pub goes_on : (use_of (local_bi side) (calls_of log)).is_over ≡ false
+  pub still_going : (use_of (local_bi side) (calls_of log)).is_over ≡ false
 
 -- a stream is being opened: this end opens it for a session, and it isn't the one for the request
 pub record OpensForSession (side : Side) (log : Log) (k : ℕ) : Type 0 where
@@ -38,7 +39,8 @@ pub record RecordFacts (side : Side) (log : Log) : Type 0 where
   pub answering : is_answering (handshake_state (calls_of log)) ≡ true → AnswersRequest side log
   pub connecting : (reserved : Option (List ℕ)) (head : List ℕ) → handshake_state (calls_of log) ≡ Connecting reserved head → Connects side log
   pub asked : (s : ℕ × ℕ) → established_session (calls_of log) ≡ Some s → RequestOpened side log
-  pub receiving : (k : ℕ) → has_receiving_now side (session_state log) k ≡ true → is_for_application (role_of side k) (classified_of k (stream_table side log).classified) ≡ true
+  pub receiving : (k : ℕ) → has_receiving_now side (session_state log) k ≡ true
+      → is_for_application (role_of side k) (classified_of k (stream_table side log).classified) ≡ true
   pub sending : (k : ℕ) → has_sending_now side (session_state log) k ≡ true → (k == local_uni side) ≡ false
   pub opening : (k : ℕ) → is_opening_now (session_state log) k ≡ true → OpensForSession side log k
   pub control : may_open side log (local_uni side) ≡ true → (control_sent side log).opened ≡ true

@@ -13,22 +13,28 @@ ghost use Rattle.wt_turn.specs.Log.{Log};
 ghost use Rattle.wt_turn.specs.declared.call.Call.{Call};
 ghost use Rattle.wt_wire.specs.declared.side.Side.{Side};
 
-/// Each action of a lawful call's plan may go out behind those before it.
+/// Each action of a lawful call's plan may go out after those before it.
 #[tactic(auto)]
 pub fn own_actions_may_go_out()
-    ensures { (side : Side) (log : Log) (call : Call) → HalfFacts side log → may_call_now (facts_of side log) (session_state log) call ≡ true → MayActAll side log (own_of (plan_of (facts_of side log) (session_state log) call)) }
+    ensures { (side : Side) (log : Log) (call : Call) → HalfFacts side log
+        → may_call_now (facts_of side log) (session_state log) call ≡ true
+        → MayActAll side log (own_of (plan_of (facts_of side log) (session_state log) call)) }
 {}
 
-/// A lawful call's record may be made behind what its plan sends: it may follow the log, and asks
+/// A lawful call's record may be made after what its plan sends: it may follow the log, and asks
 /// only what is there.
 #[tactic(auto)]
 pub fn own_records_may_be_made()
-    ensures { (side : Side) (log : Log) (call : Call) → RecordFacts side log → HalfFacts side log → may_call_now (facts_of side log) (session_state log) call ≡ true → RecordMayBeMade side log (plan_of (facts_of side log) (session_state log) call) }
+    ensures { (side : Side) (log : Log) (call : Call) → RecordFacts side log → HalfFacts side log
+        → may_call_now (facts_of side log) (session_state log) call ≡ true
+        → RecordMayBeMade side log (plan_of (facts_of side log) (session_state log) call) }
 {}
 
 /// Each action of a lawful call's plan leaves this end's control stream alone: none opens a stream of
 /// its kind before it, and none sends on it, finishes it or resets it.
 #[tactic(auto)]
 pub fn own_actions_spare_control()
-    ensures { (side : Side) (log : Log) (call : Call) → RecordFacts side log → HalfFacts side log → may_call_now (facts_of side log) (session_state log) call ≡ true → SparesControlAll side log (own_of (plan_of (facts_of side log) (session_state log) call)) }
+    ensures { (side : Side) (log : Log) (call : Call) → RecordFacts side log → HalfFacts side log
+        → may_call_now (facts_of side log) (session_state log) call ≡ true
+        → SparesControlAll side log (own_of (plan_of (facts_of side log) (session_state log) call)) }
 {}

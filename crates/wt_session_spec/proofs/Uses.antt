@@ -9,11 +9,11 @@ use Rattle.wt_spec.specs.Connection.{accepts_stream, ends_opening, is_opening, s
 use Rattle.wt_spec.specs.Driver.{apply_if, flush, is_moment, log_and_flush, pending_actions}
 use Rattle.wt_spec.specs.Effect.{log_call}
 use Rattle.wt_spec.specs.Halves.{has_receiving_half, has_sending_half}
-use Rattle.wt_session_spec.specs.SessionState.{Given, Giving, NotGiven, Opening, Unopened, session_after, giving_begun, changed_if, giving_failed, giving_after, giving_of, has_receiving_now, has_sending_now, is_in_opening, is_opening_now, session_state, was_given}
+use Rattle.wt_session_spec.specs.SessionState.{WasGiven, Giving, NotGiven, Opening, Unopened, session_after, giving_begun, changed_if, giving_failed, giving_after, giving_of, has_receiving_now, has_sending_now, is_in_opening, is_opening_now, session_state, was_given}
 
 -- the same, of what calls did: an opening began, it ended, the stream was given
 giving_by : Bool → Bool → Bool → Giving
-giving_by s e true = Given
+giving_by s e true = WasGiven
 giving_by s true false = Unopened
 giving_by true false false = Opening
 giving_by false false false = NotGiven
@@ -34,7 +34,7 @@ giving-failed true s true false = refl
 giving-failed true true false false = refl
 giving-failed true false false false = refl
 
-giving-given : (t s e a : Bool) → changed_if t (λ before. Given) (giving_by s e a) ≡ giving_by s (t || e) (t || a)
+giving-given : (t s e a : Bool) → changed_if t (λ before. WasGiven) (giving_by s e a) ≡ giving_by s (t || e) (t || a)
 unfolding giving_by
 giving-given false s e a = refl
 giving-given true s e a = refl

@@ -42,7 +42,7 @@ pub record CallFacts : Type 0 where
   pub next_id : ℕ → ℕ
   pub sending : ℕ → SendingHalf  -- of each stream
   pub sent : ℕ → ℕ  -- so many bytes went out on it
-  pub unread : ℕ → List ℕ  -- what came behind its header and wasn't read
+  pub unread : ℕ → List ℕ  -- what came after its header and wasn't read
   pub end : ℕ → StreamEnd
 
 -- the answers that a log gives

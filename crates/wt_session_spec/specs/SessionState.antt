@@ -14,7 +14,7 @@ pub data Giving : Type 0 where
   NotGiven : Giving
   Opening : Giving  -- it is being opened
   Unopened : Giving  -- its opening failed
-  Given : Giving  -- by an accept, or by an opening that is through
+  WasGiven : Giving  -- by an accept, or by an opening that is through
 
 -- what the application has of a stream
 pub record StreamUse : Type 0 where
@@ -28,7 +28,7 @@ giving_begun g = g
 
 -- an opening fails, unless the stream was given
 abbrev pub giving_failed : Giving → Giving
-giving_failed Given = Given
+giving_failed WasGiven = WasGiven
 giving_failed _ = Unopened
 
 -- the new where the test holds, else the old
@@ -40,7 +40,7 @@ changed_if false f g = g
 abbrev pub giving_after : ℕ → CallRecord → Giving → Giving
 giving_after k (OpeningStarted id session) g = changed_if (id == k) giving_begun g
 giving_after k (OpeningFailed id) g = changed_if (id == k) giving_failed g
-giving_after k (StreamAccepted id) g = changed_if (id == k) (λ before. Given) g
+giving_after k (StreamAccepted id) g = changed_if (id == k) (λ before. WasGiven) g
 giving_after k _ g = g
 
 -- whether stream k was given
@@ -63,7 +63,7 @@ is_in_opening _ = false
 
 -- it was given
 abbrev pub was_given : Giving → Bool
-was_given Given = true
+was_given WasGiven = true
 was_given _ = false
 
 -- ---- the session

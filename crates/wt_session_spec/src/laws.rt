@@ -16,13 +16,15 @@ ghost use Rattle.wt_wire.specs.declared.side.Side.{Side};
 /// same calls may come.
 #[tactic(auto, using(crate::proofs::Theorems::planned_theorem, crate::proofs::Theorems::may_call_theorem))]
 pub fn calls_go_by_what_is_kept()
-    ensures effect { (side : Side) (log : Log) (call : Call) → call_effect side log call ≡ perform side log (plan_of (facts_of side log) (session_state log) call) }
+    ensures effect { (side : Side) (log : Log) (call : Call)
+        → call_effect side log call ≡ perform side log (plan_of (facts_of side log) (session_state log) call) }
     ensures may { (side : Side) (log : Log) (call : Call) → may_call side log call ≡ may_call_now (facts_of side log) (session_state log) call }
 {}
 
 /// A call that recorded something changes what is kept step by step; what else happens changes nothing.
 #[tactic(auto, using(crate::proofs::Theorems::step_theorem, crate::proofs::Theorems::unchanged_theorem))]
 pub fn calls_change_what_is_kept()
-    ensures step { (side : Side) (log : Log) (own : List Action) (r : CallRecord) → session_state (log_call side log own r) ≡ session_after r (session_state log) }
+    ensures step { (side : Side) (log : Log) (own : List Action) (r : CallRecord)
+        → session_state (log_call side log own r) ≡ session_after r (session_state log) }
     ensures unchanged { (side : Side) (log : Log) (e : Entry) → record_in e ≡ None → session_state (log_and_flush side log e) ≡ session_state log }
 {}

@@ -87,7 +87,7 @@ turn_effect side log (turns.Bytes id piece) = reply_with (receive side log id pi
 turn_effect side log (turns.Call call) = call_effect side log call
 turn_effect side log turn = reply_with (flush side (log_turn log turn)) replies.Done
 
--- what went out behind a log, oldest first, with the sends on one stream that follow each other joined
+-- what went out after a log, oldest first, with the sends on one stream that follow each other joined
 abbrev pub actions_since : Log → Log → List Action
 actions_since log later = joined_actions (take (length (actions_of later) - length (actions_of log)) (actions_of later))
 

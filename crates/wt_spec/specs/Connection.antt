@@ -62,7 +62,7 @@ abbrev pub accept_due : Side → (ℕ → Reply) → (Log → Effect) → ℕ �
 accept_due side reply again s log None = poll_only side log (pending_or_failed side log)
 accept_due side reply again s log (Some c) = give_or_pass (is_for_session s c.verdict) side reply again log c.id
 
--- the first stream of the session; it looks again behind each that it passes, at most so many times
+-- the first stream of the session; it looks again after each that it passes, at most so many times
 abbrev pub accept_first : ℕ → Side → (ℕ → Reply) → ℕ → ℕ → Log → Effect
 accept_first zero side reply kind s log = poll_only side log (pending_or_failed side log)
 accept_first (suc n) side reply kind s log = accept_due side reply (λ later. accept_first n side reply kind s later) s log (next_due side log kind s)
@@ -183,7 +183,7 @@ send_datagram side log payload s =
     if is_open log then datagram_allowed side log (datagram_bytes (s / 4) payload) (datagram_fact (events_of log))
     else poll_only side log (replies.DatagramFailed datagrams.NotConnected)
 
--- what the limit leaves for a payload behind the quarter id
+-- what the limit leaves for a payload after the quarter id
 abbrev pub payload_limit : ℕ → Option DatagramFact → Option ℕ
 payload_limit s (Some (facts.Limit limit)) =
     if nat_lt limit (length (varint_bytes (s / 4))) then None else Some (limit - length (varint_bytes (s / 4)))

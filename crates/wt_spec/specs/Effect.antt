@@ -21,7 +21,7 @@ pub record Effect : Type 0 where
   pub log : Log
   pub reply : Reply
 
--- a call's record, behind the actions of the call's own; the driver's stand behind it
+-- a call's record, after the actions of the call's own; the driver's stand after it
 abbrev pub log_call : Side → Log → List Action → CallRecord → Log
 log_call side log own r = log_and_flush side (with_actions own log) (Called r)
 

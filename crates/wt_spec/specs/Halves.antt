@@ -135,7 +135,7 @@ abbrev pub total_read : ℕ → List CallRecord → ℕ
 total_read k [] = 0
 total_read k (r ∷ earlier) = bytes_read k r + total_read k earlier
 
--- where the application's part of a stream begins: behind the peer's header
+-- where the application's part of a stream begins: after the peer's header
 abbrev pub body_start : Option Verdict → ℕ
 body_start (Some (verdicts.WebTransport session at)) = at
 body_start _ = 0

@@ -1,4 +1,4 @@
--- One moment of the driver: the scan of the peer's streams, then the checks behind it, up to the first that ends the
+-- One moment of the driver: the scan of the peer's streams, then the checks after it, up to the first that ends the
 -- connection. (The slots and the order are this repository's rule.)
 use Rattle.std.specs.Prelude.{[], ◌&&◌, ◌*◌, ◌++◌, ◌+◌, ◌==◌, ◌||◌, ◌∷◌, Bool, Err, List, None, Ok, Option, Result, Some, drop, false, if◌then◌else◌, is_some, nat_lt, not, suc, true, zero, ℕ}
 use Rattle.wt_proto.specs.Bi.{bi_verdict_of}
@@ -101,7 +101,7 @@ abbrev pub visit : Bool → CallView → SlotRule → ℕ → Option Verdict →
 visit ready calls rule k (Some v) s = record s { occupied = occupied (is_released (calls.released k) v) s.occupied }
 visit ready calls rule k None s = dequeue (has k s.table.dequeued || (ready && nat_lt s.occupied rule.slots)) calls rule k s
 
--- nothing is done behind the ending
+-- nothing is done after the ending
 abbrev pub unless_ended : {S : Type 0} → Option Ending → (S → S) → S → S
 unless_ended None f s = f s
 unless_ended (Some e) f s = s
@@ -133,7 +133,7 @@ scan_unis t calls table = (scan t.ready calls (uni_rule t) (uni_ids t) (record {
 abbrev pub scan_bis : TransportView → CallView → StreamTable → StreamTable
 scan_bis t calls table = (scan t.ready calls (bi_rule t) (bi_ids t) (record { occupied = 0; table = table })).table
 
--- ---- the checks behind the streams
+-- ---- the checks after the streams
 
 -- this ends the connection
 abbrev pub ended_by : Ending → DriverProgress → DriverProgress
@@ -174,7 +174,7 @@ session_ends (walks.Fault code) by_capsule p = ended_by (ByFault code) p
 abbrev pub session_read : List ℕ → StreamEnd → DriverProgress → DriverProgress
 session_read bytes end p = session_ends (session_walk_of bytes end) (is_over (session_walk_of bytes ends.Running)) p
 
--- the session's stream behind the request or the response (draft-ietf-webtrans-http3, section 5)
+-- the session's stream after the request or the response (draft-ietf-webtrans-http3, section 5)
 abbrev pub check_session : TransportView → Option (ℕ × ℕ) → DriverProgress → DriverProgress
 check_session t None p = p
 check_session t (Some s) p = session_read (drop s.1 (t.contents s.0)) (t.end s.0) p
@@ -183,7 +183,7 @@ check_session t (Some s) p = session_read (drop s.1 (t.contents s.0)) (t.end s.0
 abbrev pub control_read : ControlWalk → DriverProgress → DriverProgress
 control_read walk p = with_fault walk.fault (record p { settings = p.settings || is_some walk.settings })
 
--- the peer's control stream behind its type
+-- the peer's control stream after its type
 abbrev pub check_control : TransportView → Option (ℕ × ℕ) → DriverProgress → DriverProgress
 check_control t None p = p
 check_control t (Some c) p = control_read (control_walk_of (drop c.1 (t.contents c.0)) (t.end c.0)) p

@@ -77,7 +77,7 @@ verdict_of k (c ∷ cs) = if c.id == k then Some c.verdict else verdict_of k cs
 
 -- ---- where classified streams go
 
--- where the control stream's part begins, behind its type; likewise for the QPACK streams
+-- where the control stream's part begins, after its type; likewise for the QPACK streams
 abbrev pub control_start : Verdict → Option ℕ
 control_start (verdicts.Control at) = Some at
 control_start _ = None
@@ -153,7 +153,7 @@ dispatched_streams calls cs = record {
   waiting = only (awaits_accept calls.released) cs;
 }
 
--- ---- what it leads to that a stream is classified, behind those that are dispatched so
+-- ---- what it leads to that a stream is classified, after those that are dispatched so
 
 -- what classifying a stream leads to: a mark, a stop, a fault
 pub record Consequence : Type 0 where

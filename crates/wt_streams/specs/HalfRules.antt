@@ -40,7 +40,8 @@ is_closed half = half.reset || (half.finished && half.acknowledged)
 -- why nothing can be written to the half
 abbrev pub write_refusal : Bool → SendingHalf → Option StreamWriteError
 write_refusal open_ half =
-    if not open_ then Some write_errors.NotConnected else (if half.finished || half.reset then Some write_errors.Closed else option_map write_errors.Stopped half.stop)
+    if not open_ then Some write_errors.NotConnected else (if half.finished
+    || half.reset then Some write_errors.Closed else option_map write_errors.Stopped half.stop)
 
 -- what a write of these bytes answers, with so much credit left
 abbrev pub written_count : ℕ → List ℕ → Poll (Result ℕ StreamWriteError)

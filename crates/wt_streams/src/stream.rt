@@ -143,7 +143,8 @@ impl Stream {
 
     /// All of this end's half may be acknowledged.
     pub fn may_be_acknowledged(&self) -> bool
-        ensures { result ≡ (self.now.finished && not self.now.reset && not (is_some self.now.all_signals.stop) && not self.now.all_signals.acknowledged) }
+        ensures { result ≡ (self.now.finished && not self.now.reset && not (is_some self.now.all_signals.stop)
+            && not self.now.all_signals.acknowledged) }
     {
         self.finished
             && !self.reset

@@ -2,7 +2,7 @@
 use Rattle.std.specs.Prelude.{◌==◌, ◌∷◌, ◌≡◌, Bool, List, None, false, if◌then◌else◌, true, unwrap_or, ℕ}
 use Rattle.std.proofs.Common.{◌∙◌, ap, refl, sym}
 use Rattle.std.proofs.lemmas.Bool.{eq-eqb, eqb-true}
-use Rattle.wt_session_spec.specs.SessionState.{StreamUse, Given, giving_begun, giving_failed, stream_use_after}
+use Rattle.wt_session_spec.specs.SessionState.{StreamUse, WasGiven, giving_begun, giving_failed, stream_use_after}
 use Rattle.wt_spec.specs.Handshake.{after_record, handshake_state, requested_stream, requested_by}
 use Rattle.wt_turn.specs.Log.{CallRecord, OpeningFailed, OpeningStarted, Polled, StreamAccepted, StreamGivenUp}
 use Rattle.wt_table.specs.Table.{HasNoted, HasSet, KeepsCalls, TableValue, use_as, use_now}
@@ -37,7 +37,7 @@ set-noted t u r id to s h q e o = record {
     at k true m = e ∙ ap (λ (j : ℕ). stream_use_after j r (use_as (use_now t j))) (eqb-true id k m)
     at k false m = sym (o k (use_as (use_now t k)) m)
 
-pub accepted_noted : (t u : TableValue) (id : ℕ) (to : table.StreamUse) → HasSet t u id to → use_as to ≡ record (use_as (use_now t id)) { giving = Given } → HasNoted t u (StreamAccepted id)
+pub accepted_noted : (t u : TableValue) (id : ℕ) (to : table.StreamUse) → HasSet t u id to → use_as to ≡ record (use_as (use_now t id)) { giving = WasGiven } → HasNoted t u (StreamAccepted id)
 accepted_noted t u id to s e = set-noted t u (StreamAccepted id) id to s refl refl (rw (eq-eqb id id refl) e) (λ k v m. rw m refl)
 
 pub started_noted : (t u : TableValue) (id session : ℕ) (to : table.StreamUse) → HasSet t u id to → use_as to ≡ record (use_as (use_now t id)) { giving = giving_begun (use_as (use_now t id)).giving } → HasNoted t u (OpeningStarted id session)

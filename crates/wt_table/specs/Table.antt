@@ -14,7 +14,7 @@ abbrev pub giving_as : Giving → session.Giving
 giving_as givings.NotGiven = session.NotGiven
 giving_as givings.Opening = session.Opening
 giving_as givings.Unopened = session.Unopened
-giving_as givings.Given = session.Given
+giving_as givings.WasGiven = session.WasGiven
 
 -- what the application has of a stream, in the definitions' words
 abbrev pub use_as : StreamUse → session.StreamUse

@@ -41,7 +41,7 @@ pub enum Giving {
     /// Its opening failed.
     Unopened,
     /// An accept gave it, or an opening that is through.
-    Given,
+    WasGiven,
 }
 
 /// What the application has of a stream.
@@ -78,7 +78,7 @@ impl StreamUse {
         ensures { use_as result ≡ record (use_as self) { giving = giving_failed (use_as self).giving } }
     {
         match self.giving {
-            Giving::Given => self,
+            Giving::WasGiven => self,
             _ => self.with(Giving::Unopened),
         }
     }
@@ -104,7 +104,7 @@ impl StreamUse {
     pub fn was_given(self) -> bool
         ensures { result ≡ was_given (use_as self).giving }
     {
-        matches!(self.giving, Giving::Given)
+        matches!(self.giving, Giving::WasGiven)
     }
 }
 
@@ -263,7 +263,7 @@ impl SessionTable {
     fn accept(&mut self, id: StreamId) -> Result<(), OutOfMemory>
         ensures { OnOk result (HasNoted self.old self.new (StreamAccepted id)) }
     {
-        let to = self.stream_use(id).with(Giving::Given);
+        let to = self.stream_use(id).with(Giving::WasGiven);
         self.set_use(id, to)
     }
 

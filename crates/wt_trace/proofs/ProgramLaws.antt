@@ -14,9 +14,9 @@ use Rattle.wt_run.proofs.LawsHold.{laws}
 of-script : (command : Command) (left_before left_now took_before took_now : Option (List ℕ)) (input : List ℕ) (b : Bool) (r : Result Script ScriptRefused) → command_script command input ≡ r
     → Consumes left_before left_now input → IsTrue (is_run_status (if b then too_long else script_outcome command r).status) → Appends took_before took_now (if b then too_long else script_outcome command r).text
     → AnswersKeepLaws command left_before left_now took_before took_now
-of-script command left_before left_now took_before took_now input true r e consumed told written = absurd (cc)
-of-script command left_before left_now took_before took_now input false (Err refused) e consumed told written = absurd (cc)
-of-script command left_before left_now took_before took_now input false (Ok script) e consumed told written = record {
+of-script command left_before left_now took_before took_now input true r e consumed reported written = absurd (cc)
+of-script command left_before left_now took_before took_now input false (Err refused) e consumed reported written = absurd (cc)
+of-script command left_before left_now took_before took_now input false (Ok script) e consumed reported written = record {
   input = input;
   consumed = consumed;
   script = script;
@@ -28,7 +28,7 @@ of-script command left_before left_now took_before took_now input false (Ok scri
 -- a status that tells of a run tells of the input of a command
 pub of-run : (command : Option Command) (left_before left_now took_before took_now : Option (List ℕ)) (status : ℕ) → IfSome command (λ c. AnswersInput c left_before left_now took_before took_now status)
     → IsTrue (is_run_status status) → IfSome command (λ c. AnswersKeepLaws c left_before left_now took_before took_now)
-of-run None left_before left_now took_before took_now status answers told = tt
-of-run (Some command) left_before left_now took_before took_now status answers told =
+of-run None left_before left_now took_before took_now status answers reported = tt
+of-run (Some command) left_before left_now took_before took_now status answers reported =
     of-script command left_before left_now took_before took_now answers.input (nat_lt script_limit (length answers.input)) (command_script command answers.input) refl answers.consumed
-    (subst (λ n. IsTrue (is_run_status n)) answers.answered told) answers.written
+    (subst (λ n. IsTrue (is_run_status n)) answers.answered reported) answers.written

@@ -32,7 +32,7 @@ pub fn answer_input<K: Sink>(
     ensures status { IfOk result (λ status. status ≡ (input_outcome command input.now).status) }
     ensures text { OnOk result (Appends (K.took sink.old) (K.took sink.new) (input_outcome command input.now).text) }
     ensures part { AppendsPart (K.took sink.old) (K.took sink.new) (input_outcome command input.now).text }
-    ensures told { IfOk result (λ status. IsTrue (is_input_status status)) }
+    ensures reported { IfOk result (λ status. IsTrue (is_input_status status)) }
     ensures within { IfOk result (λ status. IsTrue (is_script_status status) → length input.now ≤ script_limit) }
     ensures same { result ≢ Err cuts.SinkFailed → K.faults sink.new ≡ K.faults sink.old }
     ensures fault { result ≡ Err cuts.SinkFailed → Rose (K.faults sink.old) (K.faults sink.new) }
@@ -71,7 +71,7 @@ fn answer_script<K: Sink>(
     ensures status { IfOk result (λ status. status ≡ (run_outcome command.now (run script.now.side script.now.turns)).status) }
     ensures text { OnOk result (Appends (K.took sink.old) (K.took sink.new) (run_outcome command.now (run script.now.side script.now.turns)).text) }
     ensures part { AppendsPart (K.took sink.old) (K.took sink.new) (run_outcome command.now (run script.now.side script.now.turns)).text }
-    ensures told { IfOk result (λ status. IsTrue (is_script_status status)) }
+    ensures reported { IfOk result (λ status. IsTrue (is_script_status status)) }
     ensures same { result ≢ Err cuts.SinkFailed → K.faults sink.new ≡ K.faults sink.old }
     ensures fault { result ≡ Err cuts.SinkFailed → Rose (K.faults sink.old) (K.faults sink.new) }
     ensures causes { result ≢ Err cuts.SourceFailed }

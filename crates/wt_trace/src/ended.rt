@@ -44,8 +44,10 @@ pub fn run<S: Source, K: Sink>(
     source: &mut S,
     sink: &mut K,
 ) -> Ended
-    ensures status { is_cut_short result ≡ false → IfOk words (λ words. IfSome (S.left source.old) (λ input. result ≡ (outcome (map string_bytes words.items) input).status)) }
-    ensures text { is_cut_short result ≡ false → IfOk words (λ words. IfSome (S.left source.old) (λ input. Appends (K.took sink.old) (K.took sink.new) (outcome (map string_bytes words.items) input).text)) }
+    ensures status { is_cut_short result ≡ false
+        → IfOk words (λ words. IfSome (S.left source.old) (λ input. result ≡ (outcome (map string_bytes words.items) input).status)) }
+    ensures text { is_cut_short result ≡ false
+        → IfOk words (λ words. IfSome (S.left source.old) (λ input. Appends (K.took sink.old) (K.took sink.new) (outcome (map string_bytes words.items) input).text)) }
     ensures memory { IfErr words (λ error. error_kind error ≡ ErrorKind.OutOfMemory → result ≡ 6) }
     ensures unreadable { IfErr words (λ error. error_kind error ≢ ErrorKind.OutOfMemory → (result ≡ 1) ⊎ (result ≡ 5)) }
     ensures usage_text { result ≡ 1 → Appends (K.took sink.old) (K.took sink.new) usage.text }

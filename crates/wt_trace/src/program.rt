@@ -41,9 +41,12 @@ pub fn run_program<S: Source, K: Sink>(
     source: &mut S,
     sink: &mut K,
 ) -> u8
-    ensures status { is_cut_short result ≡ false → IfSome (S.left source.old) (λ input. result ≡ (outcome (map string_bytes words.now) input).status) }
-    ensures text { is_cut_short result ≡ false → IfSome (S.left source.old) (λ input. Appends (K.took sink.old) (K.took sink.new) (outcome (map string_bytes words.now) input).text) }
-    ensures input { is_cut_short result ≡ false → IfSome (command_of (map string_bytes words.now)) (λ command. AnswersInput command (S.left source.old) (S.left source.new) (K.took sink.old) (K.took sink.new) result) }
+    ensures status { is_cut_short result ≡ false
+        → IfSome (S.left source.old) (λ input. result ≡ (outcome (map string_bytes words.now) input).status) }
+    ensures text { is_cut_short result ≡ false
+        → IfSome (S.left source.old) (λ input. Appends (K.took sink.old) (K.took sink.new) (outcome (map string_bytes words.now) input).text) }
+    ensures input { is_cut_short result ≡ false
+        → IfSome (command_of (map string_bytes words.now)) (λ command. AnswersInput command (S.left source.old) (S.left source.new) (K.took sink.old) (K.took sink.new) result) }
     ensures reads { ReadsFew (S.left source.old) (S.left source.new) }
     ensures part { IfSome (S.left source.old) (λ input. AppendsPart (K.took sink.old) (K.took sink.new) (outcome (map string_bytes words.now) input).text) }
     ensures end { IsTrue (is_script_status result) → IsAtEnd (S.left source.new) }
@@ -55,7 +58,8 @@ pub fn run_program<S: Source, K: Sink>(
     ensures nothing { result ≡ 4 → K.took sink.new ≡ K.took sink.old }
     ensures source_same { result ≢ 4 → S.faults source.new ≡ S.faults source.old }
     ensures sink_same { result ≢ 5 → K.faults sink.new ≡ K.faults sink.old }
-    ensures laws { IsTrue (is_run_status result) → IfSome (command_of (map string_bytes words.now)) (λ command. AnswersKeepLaws command (S.left source.old) (S.left source.new) (K.took sink.old) (K.took sink.new)) }
+    ensures laws { IsTrue (is_run_status result)
+        → IfSome (command_of (map string_bytes words.now)) (λ command. AnswersKeepLaws command (S.left source.old) (S.left source.new) (K.took sink.old) (K.took sink.new)) }
 {
     run_command(alloc, read_command(words), source, sink)
 }
@@ -68,8 +72,10 @@ fn run_command<S: Source, K: Sink>(
     sink: &mut K,
 ) -> u8
     ensures status { is_cut_short result ≡ false → IfSome (S.left source.old) (λ input. result ≡ (asked_outcome command input).status) }
-    ensures text { is_cut_short result ≡ false → IfSome (S.left source.old) (λ input. Appends (K.took sink.old) (K.took sink.new) (asked_outcome command input).text) }
-    ensures input { is_cut_short result ≡ false → IfSome command (λ command. AnswersInput command (S.left source.old) (S.left source.new) (K.took sink.old) (K.took sink.new) result) }
+    ensures text { is_cut_short result ≡ false
+        → IfSome (S.left source.old) (λ input. Appends (K.took sink.old) (K.took sink.new) (asked_outcome command input).text) }
+    ensures input { is_cut_short result ≡ false
+        → IfSome command (λ command. AnswersInput command (S.left source.old) (S.left source.new) (K.took sink.old) (K.took sink.new) result) }
     ensures reads { ReadsFew (S.left source.old) (S.left source.new) }
     ensures part { IfSome (S.left source.old) (λ input. AppendsPart (K.took sink.old) (K.took sink.new) (asked_outcome command input).text) }
     ensures end { IsTrue (is_script_status result) → IsAtEnd (S.left source.new) }
@@ -81,7 +87,8 @@ fn run_command<S: Source, K: Sink>(
     ensures nothing { result ≡ 4 → K.took sink.new ≡ K.took sink.old }
     ensures source_same { result ≢ 4 → S.faults source.new ≡ S.faults source.old }
     ensures sink_same { result ≢ 5 → K.faults sink.new ≡ K.faults sink.old }
-    ensures laws { IsTrue (is_run_status result) → IfSome command (λ command. AnswersKeepLaws command (S.left source.old) (S.left source.new) (K.took sink.old) (K.took sink.new)) }
+    ensures laws { IsTrue (is_run_status result)
+        → IfSome command (λ command. AnswersKeepLaws command (S.left source.old) (S.left source.new) (K.took sink.old) (K.took sink.new)) }
 {
     match answer(alloc, command, source, sink) {
         Ok(status) => status,
@@ -103,9 +110,9 @@ fn answer<S: Source, K: Sink>(
     ensures reads { ReadsFew (S.left source.old) (S.left source.new) }
     ensures part { IfSome (S.left source.old) (λ input. AppendsPart (K.took sink.old) (K.took sink.new) (asked_outcome command input).text) }
     ensures end { IfOk result (λ status. IsTrue (is_script_status status) → IsAtEnd (S.left source.new)) }
-    ensures usage { command ≡ None → MatchResult result (λ status. status ≡ 1) (λ cut. cut ≡ cuts.SinkFailed) }
+    ensures usage { command ≡ None → MatchResult result (λ status. status ≡ 1) (λ failure. failure ≡ cuts.SinkFailed) }
     ensures usage_text { IfOk result (λ status. status ≡ 1 → Appends (K.took sink.old) (K.took sink.new) usage.text) }
-    ensures told { command ≢ None → IfOk result (λ status. IsTrue (is_input_status status)) }
+    ensures reported { command ≢ None → IfOk result (λ status. IsTrue (is_input_status status)) }
     ensures source_same { result ≢ Err cuts.SourceFailed → S.faults source.new ≡ S.faults source.old }
     ensures sink_same { result ≢ Err cuts.SinkFailed → K.faults sink.new ≡ K.faults sink.old }
     ensures read_fault { result ≡ Err cuts.SourceFailed → Rose (S.faults source.old) (S.faults source.new) }
@@ -124,7 +131,7 @@ fn answer_usage<K: Sink>(sink: &mut K) -> Result<u8, CutShort>
     ensures text { OnOk result (Appends (K.took sink.old) (K.took sink.new) usage.text) }
     ensures part { AppendsPart (K.took sink.old) (K.took sink.new) usage.text }
     ensures same { OnOk result (K.faults sink.new ≡ K.faults sink.old) }
-    ensures cause { IfErr result (λ cut. cut ≡ cuts.SinkFailed) }
+    ensures cause { IfErr result (λ failure. failure ≡ cuts.SinkFailed) }
     ensures fault { IsErr result → Rose (K.faults sink.old) (K.faults sink.new) }
 {
     write_all(sink, b"usage: trace | large <n>\n")?;
@@ -144,7 +151,7 @@ fn answer_command<S: Source, K: Sink>(
     ensures reads { ReadsFew (S.left source.old) (S.left source.new) }
     ensures part { IfSome (S.left source.old) (λ input. AppendsPart (K.took sink.old) (K.took sink.new) (input_outcome command input).text) }
     ensures end { IfOk result (λ status. IsTrue (is_script_status status) → IsAtEnd (S.left source.new)) }
-    ensures told { IfOk result (λ status. IsTrue (is_input_status status)) }
+    ensures reported { IfOk result (λ status. IsTrue (is_input_status status)) }
     ensures source_same { result ≢ Err cuts.SourceFailed → S.faults source.new ≡ S.faults source.old }
     ensures sink_same { result ≢ Err cuts.SinkFailed → K.faults sink.new ≡ K.faults sink.old }
     ensures read_fault { result ≡ Err cuts.SourceFailed → Rose (S.faults source.old) (S.faults source.new) }

@@ -99,8 +99,8 @@ calls_of log = filter_map record_in log
 
 -- the newest that tells something, and what it tells
 abbrev pub newest : {S T : Type 0} → (S → Option T) → List S → Option T
-newest tells [] = None
-newest tells (x ∷ xs) = option_or (tells x) (newest tells xs)
+newest says [] = None
+newest says (x ∷ xs) = option_or (says x) (newest says xs)
 
 -- the event ends the connection (RFC 9000, section 10)
 abbrev pub loses : Event → Bool

@@ -8,7 +8,8 @@ ghost use Rattle.wt_error.specs.declared.loss.LossReason.{LossReason};
 
 /// Entries that tell of an event, an action and a call, before and after the end.
 pub fn queries()
-    ensures events { (e : Event) (c : CallRecord) → events_of (Reported PeerUni ∷ ReportedLate e ∷ Called c ∷ Reported PeerBi ∷ []) ≡ PeerUni ∷ PeerBi ∷ [] }
+    ensures events { (e : Event) (c : CallRecord)
+        → events_of (Reported PeerUni ∷ ReportedLate e ∷ Called c ∷ Reported PeerBi ∷ []) ≡ PeerUni ∷ PeerBi ∷ [] }
     ensures all_events { (a : Action) → all_events_of (ReportedLate PeerUni ∷ Sent a ∷ Reported PeerBi ∷ []) ≡ PeerUni ∷ PeerBi ∷ [] }
     ensures actions { (a b : Action) (e : Event) → actions_of (Sent a ∷ Reported e ∷ Sent b ∷ []) ≡ a ∷ b ∷ [] }
     ensures calls { (a : Action) (c : CallRecord) → calls_of (Called Polled ∷ Sent a ∷ Received 2 0 ∷ Called c ∷ []) ≡ Polled ∷ c ∷ [] }

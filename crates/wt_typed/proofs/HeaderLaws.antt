@@ -25,7 +25,7 @@ unfolding header_at
 reader = header-reader with_session_id header_of_type header_with_type header-typed
 
 header-effect : IsEffect header_effect
-header-effect = record { takes = λ s n h. refl }
+header-effect = record { size_is = λ s n h. refl }
 
 pub header_steady : IsSteady header_decides
 unfolding header_decides

@@ -8,7 +8,7 @@ use Rattle.wt_wire.specs.Varint.{varint_at}
 use Rattle.wt_proto.specs.declared.walk.Step.{Step}
 use Rattle.wt_proto.specs.declared.walk.Step.TheVariants.{Cut, Goes, Stops}
 use Rattle.wt_proto.specs.FrameSteps.{step_of_item}
-use Rattle.wt_proto.specs.Progress.{Progress, progress_over}
+use Rattle.wt_proto.specs.WalkProgress.{WalkProgress, progress_over}
 use Rattle.wt_proto.specs.Steady.{size_of_step, IsSteady}
 use Rattle.wt_proto.specs.Walk.{step_on}
 use Rattle.wt_proto.proofs.FrameLaws.{IsEffect, frames-steady, session_id_ignored-on, varint-on}
@@ -21,13 +21,13 @@ skipped-taken true n kind = refl
 skipped-taken false n kind = refl
 
 pub frame-effect : IsEffect frame_effect
-frame-effect = record { takes = takes }
+frame-effect = record { size_is = size_is }
   where
-    takes : (s : FrameSource) (n : ℕ) (f : frames.Frame) → size_of_step (frame_effect s n f) ≡ Some n
-    takes Request n (frames.Skipped kind) = refl
-    takes Control n (frames.Skipped kind) = skipped-taken (frames.is_exercise kind) n kind
-    takes Other n (frames.Skipped kind) = refl
-    takes s n _ = refl
+    size_is : (s : FrameSource) (n : ℕ) (f : frames.Frame) → size_of_step (frame_effect s n f) ≡ Some n
+    size_is Request n (frames.Skipped kind) = refl
+    size_is Control n (frames.Skipped kind) = skipped-taken (frames.is_exercise kind) n kind
+    size_is Other n (frames.Skipped kind) = refl
+    size_is s n _ = refl
 
 with-id : IsSteady (λ (s : FrameSource) bytes. step_of_item (frame_effect s) (frames.frame_at varint_at bytes))
 with-id = frames-steady varint_at varint-on frame_effect frame-effect
@@ -79,7 +79,7 @@ goes-same : (s t : FrameSource) (xs : List ℕ) (n : ℕ) → frame_decides s xs
 unfolding frame_decides
 goes-same s t xs n e = decided-same s t n (frames.frame_at (id_at s) xs) e
 
-abbrev source_in : Progress FrameSource (Result FrameParts ErrorCode) → FrameSource
+abbrev source_in : WalkProgress FrameSource (Result FrameParts ErrorCode) → FrameSource
 source_in p = p.state
 
 led-same : (s : FrameSource) (b : ℕ) (xs : List ℕ) → ((t : FrameSource) (stop : Option (Result FrameParts ErrorCode)) (n : ℕ) → source_in (progress_over frame_decides t stop n xs) ≡ t)

@@ -6,7 +6,7 @@ use Rattle.std.proofs.lemmas.Bool.{cases_lt}
 use Rattle.std.proofs.lemmas.List.{append-nil, length-append, take-append-drop, take_all}
 use Rattle.wt_proto.specs.declared.walk.Step.{Step}
 use Rattle.wt_proto.specs.declared.walk.Step.TheVariants.{Cut, Goes, Stops}
-use Rattle.wt_proto.specs.Progress.{Progress, progress_over, progress_after, reached_in, reached_at, IsProper, Advances, progress_past}
+use Rattle.wt_proto.specs.WalkProgress.{WalkProgress, progress_over, progress_after, reached_in, reached_at, IsProper, Advances, progress_past}
 use Rattle.wt_proto.specs.Steady.{size_of_step, IsSteady}
 use Rattle.wt_proto.proofs.ProgressLaws.{progress-cut, progress-goes, progress-stops, fed-fed, kept-open}
 use Rattle.wt_streams.specs.Pieces.{first_piece}
@@ -33,10 +33,10 @@ module _ {S O : Type 0} (decide : S → List ℕ → Step S O) (steady : IsStead
   byte-passes items (Stops o m) is e = progress-stops decide steady s o m items e (byte-long items m is (ap (λ d. size_of_step d) e))
 
   not-yet : (k : ℕ) (later : List ℕ) → k < 1 → (reached_in (progress_over decide s None 0 (kept ++ take k (byte ∷ later)))).stop ≡ None
-  not-yet zero later lt = ap (λ (xs : List ℕ). (reached_in (progress_over decide s None 0 xs)).stop) (append-nil kept) ∙ (ap (λ (p : Progress S O). (reached_in p).stop) (progress-cut decide s kept waits) ∙ kept-open decide steady s kept)
+  not-yet zero later lt = ap (λ (xs : List ℕ). (reached_in (progress_over decide s None 0 xs)).stop) (append-nil kept) ∙ (ap (λ (p : WalkProgress S O). (reached_in p).stop) (progress-cut decide s kept waits) ∙ kept-open decide steady s kept)
   not-yet (suc k) later lt = absurd (omega arith)
 
-  byte-advances : (items : List ℕ) (new : Progress S O) → items ≡ kept ++ byte ∷ [] → new ≡ progress_past s (decide s items) (length items) items → (later : List ℕ) →
+  byte-advances : (items : List ℕ) (new : WalkProgress S O) → items ≡ kept ++ byte ∷ [] → new ≡ progress_past s (decide s items) (length items) items → (later : List ℕ) →
       Advances decide (record { state = s; stop = None; skip = 0; kept = kept }) new (byte ∷ later) 1
   byte-advances items new is e later = record {
     within = omega arith;
@@ -45,7 +45,7 @@ module _ {S O : Type 0} (decide : S → List ℕ → Step S O) (steady : IsStead
   }
 
 -- a byte that is kept, judged with those before it
-pub kept-byte : {S O : Type 0} (decide : S → List ℕ → Step S O) → IsSteady decide → (s : S) (stop : Option O) (skip : ℕ) (kept items : List ℕ) (byte : ℕ) (new : Progress S O) →
+pub kept-byte : {S O : Type 0} (decide : S → List ℕ → Step S O) → IsSteady decide → (s : S) (stop : Option O) (skip : ℕ) (kept items : List ℕ) (byte : ℕ) (new : WalkProgress S O) →
     IsProper decide (record { state = s; stop = stop; skip = skip; kept = kept }) → skip ≡ 0 → is_some stop ≡ false → items ≡ kept ++ byte ∷ [] →
     new ≡ progress_past s (decide s items) (length items) items → (later : List ℕ) →
     Advances decide (record { state = s; stop = stop; skip = skip; kept = kept }) new (byte ∷ later) 1
@@ -83,19 +83,19 @@ module _ {S O : Type 0} (decide : S → List ℕ → Step S O) (steady : IsStead
   over-stays s stop zero (b ∷ kept) more e = absurd cc
   over-stays s stop (suc skip) kept more e = absurd cc
 
-  pub took-all : (old new : Progress S O) (bytes : List ℕ) (n : ℕ) → new ≡ progress_after decide old (take n bytes) → n ≤ length bytes → (n < length bytes → is_some (reached_in new).stop ≡ true) → progress_after decide old bytes ≡ new
+  pub took-all : (old new : WalkProgress S O) (bytes : List ℕ) (n : ℕ) → new ≡ progress_after decide old (take n bytes) → n ≤ length bytes → (n < length bytes → is_some (reached_in new).stop ≡ true) → progress_after decide old bytes ≡ new
   took-all old new bytes n e le all =
       elim (cases_lt n (length bytes)) [
         | inl lt ↦
             ap (λ (xs : List ℕ). progress_after decide old xs) (sym (take-append-drop n bytes))
             ∙ (sym (fed-fed decide steady old (take n bytes) (drop n bytes))
-            ∙ (ap (λ (p : Progress S O). progress_after decide p (drop n bytes)) (sym e)
+            ∙ (ap (λ (p : WalkProgress S O). progress_after decide p (drop n bytes)) (sym e)
             ∙ over-stays new.state new.stop new.skip new.kept (drop n bytes) (all lt)))
         | inr whole ↦ ap (λ (xs : List ℕ). progress_after decide old xs) (sym (take_all n bytes whole)) ∙ sym e
       ]
 
 -- where memory ran out, the bytes in front of the one that wasn't kept are taken
-pub took-first : {S O : Type 0} (decide : S → List ℕ → Step S O) (old mid new : Progress S O) (t u : TransportState) (id n : ℕ) → Advances decide old mid (unread_now t id) n → new ≡ mid → u ≡ after_taking t id n → TookFirst decide old new t u id n
+pub took-first : {S O : Type 0} (decide : S → List ℕ → Step S O) (old mid new : WalkProgress S O) (t u : TransportState) (id n : ℕ) → Advances decide old mid (unread_now t id) n → new ≡ mid → u ≡ after_taking t id n → TookFirst decide old new t u id n
 took-first decide old mid new t u id n front same is = record { within = front.within; reading = same ∙ front.taken; running = front.running; state = is }
 
 -- the first byte of the first piece is the first of all

@@ -10,7 +10,7 @@ use Rattle.wt_wire.specs.Varint.{varint_at}
 use Rattle.wt_proto.specs.declared.walk.Step.{Step}
 use Rattle.wt_proto.specs.declared.walk.Step.TheVariants.{Goes, Stops}
 use Rattle.wt_proto.specs.FrameSteps.{step_of_item}
-use Rattle.wt_proto.specs.Progress.{Progress}
+use Rattle.wt_proto.specs.WalkProgress.{WalkProgress}
 use Rattle.wt_typed.specs.declared.next_frame.FrameSource.{FrameSource}
 use Rattle.wt_typed.specs.declared.next_frame.FrameSource.TheVariants.{Request, Control, Other}
 
@@ -59,6 +59,6 @@ is_signal_type None = false
 is_signal_type (Some t) = t.0 == frames.signal_type
 
 -- the reader of a request's frames goes on for the session's: a signal that waits for its id is a fault there
-abbrev pub session_reading : Progress FrameSource (Result FrameParts ErrorCode) → Progress FrameSource (Result FrameParts ErrorCode)
+abbrev pub session_reading : WalkProgress FrameSource (Result FrameParts ErrorCode) → WalkProgress FrameSource (Result FrameParts ErrorCode)
 session_reading p =
     if is_signal_type (varint_at p.kept) then record { state = Other; stop = Some (Err FrameUnexpected); skip = 0; kept = [] } else record p { state = Other }

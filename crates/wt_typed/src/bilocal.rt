@@ -1,6 +1,6 @@
 //! Bidirectional streams of this end.
 ghost use Rattle.std.specs.Prelude.{◌≡◌, ◌↔◌, ◌%◌, IfOk, IsTrue, OnErr, OnOk, false, true};
-ghost use Rattle.wt_proto.specs.Progress.{at_item};
+ghost use Rattle.wt_proto.specs.WalkProgress.{at_item};
 ghost use Rattle.wt_seam_spec.specs.Streams.{local_bi};
 ghost use Rattle.wt_seam.specs.Rules.{after_write, sending_half_now};
 ghost use Rattle.wt_seam.specs.Step.{after_opening, opened_id_now};
@@ -75,15 +75,18 @@ impl Stream<Pair, BiLocalH3> {
         requires unspent { self.old.stage.is_spent ≡ false }
         requires can { IsTrue (can_write_now t.old self.old.halves.0.id) }
         requires same { Continues self.old.stage.writing (signal_bytes session) }
-        ensures answer { IfOk result (λ a. a ≡ map_poll (λ through. record { halves = self.old.halves; stage = record {} }) (pending_answer t.old.is_open (sending_half_now t.old self.old.halves.0.id) (rest (write_of self.old.stage.writing (signal_bytes session))))) }
+        ensures answer { IfOk result (λ a. a
+            ≡ map_poll (λ through. record { halves = self.old.halves; stage = record {} }) (pending_answer t.old.is_open (sending_half_now t.old self.old.halves.0.id) (rest (write_of self.old.stage.writing (signal_bytes session))))) }
         ensures state { OnOk result (t.new ≡ after_write t.old self.old.halves.0.id (rest (write_of self.old.stage.writing (signal_bytes session)))) }
-        ensures goes_on { Continues self.new.stage.writing (signal_bytes session) }
+        ensures still_going { Continues self.new.stage.writing (signal_bytes session) }
         ensures prefix { OnOk result (WritesPrefix t.old.is_open (sending_half_now t.old self.old.halves.0.id) self.old.stage.writing self.new.stage.writing (signal_bytes session)) }
         ensures halves { self.new.halves ≡ self.old.halves }
-        ensures writing { OnOk result (self.new.stage.writing ≡ after_pending t.old.is_open (sending_half_now t.old self.old.halves.0.id) (write_of self.old.stage.writing (signal_bytes session))) }
+        ensures writing { OnOk result (self.new.stage.writing
+            ≡ after_pending t.old.is_open (sending_half_now t.old self.old.halves.0.id) (write_of self.old.stage.writing (signal_bytes session))) }
         ensures spent { IfOk result (λ a. self.new.stage.is_spent ≡ is_through a) }
         ensures err { OnErr result (t.new ≡ t.old) }
-        ensures kept { OnErr result (write_of self.new.stage.writing (signal_bytes session) ≡ write_of self.old.stage.writing (signal_bytes session)) }
+        ensures kept { OnErr result (write_of self.new.stage.writing (signal_bytes session)
+            ≡ write_of self.old.stage.writing (signal_bytes session)) }
         ensures unspent { OnErr result (self.new.stage.is_spent ≡ false) }
     {
         let id = self.halves.0.id;

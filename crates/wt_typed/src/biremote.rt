@@ -1,6 +1,6 @@
 //! Bidirectional streams that the peer opened.
 ghost use Rattle.std.specs.Prelude.{◌≡◌, ◌%◌, IfOk, IfSome, IsTrue, OnErr, OnOk, false, true};
-ghost use Rattle.wt_proto.specs.Progress.{at_item};
+ghost use Rattle.wt_proto.specs.WalkProgress.{at_item};
 ghost use Rattle.wt_seam.specs.Step.{can_receive_now};
 ghost use Rattle.wt_typed.specs.declared.next_frame.FrameSource.TheVariants as sources;
 ghost use Rattle.wt_typed.specs.Accepting.{accepted_bi, next_bi};

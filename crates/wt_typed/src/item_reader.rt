@@ -3,7 +3,7 @@ ghost use Rattle.std.specs.Prelude.{◌≡◌, ◌<◌, ◌≤◌, ◌&&◌, ◌
 ghost use Rattle.std.specs.Prelude.{Result};
 ghost use Rattle.wt_wire.specs.declared.error.ErrorCode.{ErrorCode};
 ghost use Rattle.wt_proto.specs.declared.walk.Step.{Step};
-ghost use Rattle.wt_proto.specs.Progress.{Advances, at_item, progress_over, reached_in};
+ghost use Rattle.wt_proto.specs.WalkProgress.{Advances, at_item, progress_over, reached_in};
 ghost use Rattle.wt_proto.specs.Steady.{IsSteady};
 ghost use Rattle.wt_seam.specs.Step.{can_receive_now, unread_now};
 ghost use Rattle.wt_typed.specs.Reading.{Took, after_read, answer_at_end, is_over, reached_answer};
@@ -19,33 +19,33 @@ use wt_wire::error::{ErrorCode, OutOfMemory};
 use wt_wire::ids::StreamId;
 use wt_wire::side::StreamEnd;
 
-/// What items stand on a stream, one behind the other. What the item at the front does is decided by the
+/// What items stand on a stream, one after the other. What the item at the front does is decided by the
 /// state that the items before it left and by its own bytes alone: it is skipped, or it stops the reader
 /// with what is given, or with a fault.
 pub trait Grammar {
     /// What the items before leave.
     type State: Drop;
     /// What is given.
-    type Given: Drop;
+    type Item: Drop;
 
     // what the item at the front does
-    ghost decides: { Self.State → List ℕ → Step Self.State (Result Self.Given ErrorCode) };
+    ghost decides: { Self.State → List ℕ → Step Self.State (Result Self.Item ErrorCode) };
 
     /// What the item at the front does.
     fn step(
         alloc: Global,
         state: &Self::State,
         bytes: &[u8],
-    ) -> Result<Step<Self::State, Result<Self::Given, ErrorCode>>, OutOfMemory>
+    ) -> Result<Step<Self::State, Result<Self::Item, ErrorCode>>, OutOfMemory>
         ensures { IfOk result (λ step. step ≡ decides state.now bytes.now) };
 }
 
-/// A reader of the items of a stream. It takes no byte behind the item that it gives, and keeps the bytes
+/// A reader of the items of a stream. It takes no byte after the item that it gives, and keeps the bytes
 /// of an item that isn't whole. Contracts see how far the walk over the items is.
 #[derive(Drop)]
 pub struct ItemReader<G: Grammar> {
     pub(crate) state: G::State,
-    pub(crate) stop: Option<Result<G::Given, ErrorCode>>,
+    pub(crate) stop: Option<Result<G::Item, ErrorCode>>,
     pub(crate) skip: u64,
     pub(crate) kept: Vec<u8>,
 }
@@ -53,10 +53,10 @@ pub struct ItemReader<G: Grammar> {
 impl<G: Grammar> Model for ItemReader<G> {
     ghost use Rattle.std.specs.Prelude.{Result};
     ghost use Rattle.wt_wire.specs.declared.error.ErrorCode.{ErrorCode};
-    ghost use Rattle.wt_proto.specs.Progress.{Progress};
+    ghost use Rattle.wt_proto.specs.WalkProgress.{WalkProgress};
     ghost use Rattle.wt_typed.specs.Reading.{IsReader};
 
-    ghost Value = { Progress G.State (Result G.Given ErrorCode) };
+    ghost Value = { WalkProgress G.State (Result G.Item ErrorCode) };
 
     ghost view = { λ r. record { state = r.state; stop = r.stop; skip = r.skip; kept = r.kept.items } };
 
@@ -181,7 +181,7 @@ impl<G: Grammar> ItemReader<G> {
     }
 
     /// What the reader has to give, and otherwise why it has nothing. What is given is handed out.
-    fn answer(&mut self, is_open: bool, end: StreamEnd) -> Poll<Result<G::Given, ProtoReadError>>
+    fn answer(&mut self, is_open: bool, end: StreamEnd) -> Poll<Result<G::Item, ProtoReadError>>
         ensures answer { result ≡ reached_answer is_open end (reached_in self.old) }
         ensures left { self.new ≡ after_read self.old }
     {
@@ -203,7 +203,7 @@ impl<G: Grammar> ItemReader<G> {
         &mut self,
         t: &mut Transport,
         id: StreamId,
-    ) -> Result<Poll<Result<G::Given, ProtoReadError>>, OutOfMemory>
+    ) -> Result<Poll<Result<G::Item, ProtoReadError>>, OutOfMemory>
         requires { IsTrue (can_receive_now t.old id) }
         ensures answer { ReadAnswers G.decides self.old t.old id result }
         ensures begun { (state : G.State) → ReadAnswersSince G.decides state self.old t.old id result }

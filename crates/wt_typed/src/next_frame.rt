@@ -4,7 +4,7 @@ ghost use Rattle.wt_wire.specs.Frames.{signal_with_id};
 ghost use Rattle.wt_wire.specs.Varint.{varint_at};
 ghost use Rattle.wt_proto.specs.FrameSteps.{step_of_item};
 ghost use Rattle.wt_wire.specs.declared.frame.FrameKind.TheVariants as kinds;
-ghost use Rattle.wt_proto.specs.Progress.{at_item};
+ghost use Rattle.wt_proto.specs.WalkProgress.{at_item};
 ghost use Rattle.wt_typed.specs.NextFrame.{frame_decides, frame_effect, given_frame, given_signal, id_at, is_signal_type, on_unknown_frame, session_reading};
 
 use crate::item_reader::{Grammar, ItemReader};
@@ -108,9 +108,9 @@ fn frame_step(alloc: Global, source: FrameSource, bytes: &[u8]) -> Result<FrameS
 impl Grammar for NextFrame {
     type State = FrameSource;
 
-    type Given = Frame;
+    type Item = Frame;
 
-    ghost use Rattle.wt_proto.specs.Progress.{at_item};
+    ghost use Rattle.wt_proto.specs.WalkProgress.{at_item};
     ghost use Rattle.wt_typed.specs.NextFrame.{frame_decides};
 
     ghost decides = { frame_decides };

@@ -133,10 +133,11 @@ impl Outgoing {
     ) -> Result<Poll<Result<(), ProtoWriteError>>, OutOfMemory>
         requires can { IsTrue (can_write_now t.old id) }
         requires same { Continues self.old (frame_bytes frame.now) }
-        ensures answer { IfOk result (λ a. a ≡ pending_answer t.old.is_open (sending_half_now t.old id) (rest (write_of self.old (frame_bytes frame.now)))) }
+        ensures answer { IfOk result (λ a. a
+            ≡ pending_answer t.old.is_open (sending_half_now t.old id) (rest (write_of self.old (frame_bytes frame.now)))) }
         ensures state { OnOk result (t.new ≡ after_write t.old id (rest (write_of self.old (frame_bytes frame.now)))) }
         ensures write { OnOk result (self.new ≡ after_pending t.old.is_open (sending_half_now t.old id) (write_of self.old (frame_bytes frame.now))) }
-        ensures goes_on { Continues self.new (frame_bytes frame.now) }
+        ensures still_going { Continues self.new (frame_bytes frame.now) }
         ensures prefix { OnOk result (WritesPrefix t.old.is_open (sending_half_now t.old id) self.old self.new (frame_bytes frame.now)) }
         ensures err { OnErr result (t.new ≡ t.old) }
         ensures kept { OnErr result (write_of self.new (frame_bytes frame.now) ≡ write_of self.old (frame_bytes frame.now)) }
@@ -154,10 +155,11 @@ impl Outgoing {
     ) -> Result<Poll<Result<(), ProtoWriteError>>, OutOfMemory>
         requires can { IsTrue (can_write_now t.old id) }
         requires same { Continues self.old (signal_bytes session) }
-        ensures answer { IfOk result (λ a. a ≡ pending_answer t.old.is_open (sending_half_now t.old id) (rest (write_of self.old (signal_bytes session)))) }
+        ensures answer { IfOk result (λ a. a
+            ≡ pending_answer t.old.is_open (sending_half_now t.old id) (rest (write_of self.old (signal_bytes session)))) }
         ensures state { OnOk result (t.new ≡ after_write t.old id (rest (write_of self.old (signal_bytes session)))) }
         ensures write { OnOk result (self.new ≡ after_pending t.old.is_open (sending_half_now t.old id) (write_of self.old (signal_bytes session))) }
-        ensures goes_on { Continues self.new (signal_bytes session) }
+        ensures still_going { Continues self.new (signal_bytes session) }
         ensures prefix { OnOk result (WritesPrefix t.old.is_open (sending_half_now t.old id) self.old self.new (signal_bytes session)) }
         ensures err { OnErr result (t.new ≡ t.old) }
         ensures kept { OnErr result (write_of self.new (signal_bytes session) ≡ write_of self.old (signal_bytes session)) }
@@ -175,10 +177,11 @@ impl Outgoing {
     ) -> Result<Poll<Result<(), ProtoWriteError>>, OutOfMemory>
         requires can { IsTrue (can_write_now t.old id) }
         requires same { Continues self.old (header_bytes header) }
-        ensures answer { IfOk result (λ a. a ≡ pending_answer t.old.is_open (sending_half_now t.old id) (rest (write_of self.old (header_bytes header)))) }
+        ensures answer { IfOk result (λ a. a
+            ≡ pending_answer t.old.is_open (sending_half_now t.old id) (rest (write_of self.old (header_bytes header)))) }
         ensures state { OnOk result (t.new ≡ after_write t.old id (rest (write_of self.old (header_bytes header)))) }
         ensures write { OnOk result (self.new ≡ after_pending t.old.is_open (sending_half_now t.old id) (write_of self.old (header_bytes header))) }
-        ensures goes_on { Continues self.new (header_bytes header) }
+        ensures still_going { Continues self.new (header_bytes header) }
         ensures prefix { OnOk result (WritesPrefix t.old.is_open (sending_half_now t.old id) self.old self.new (header_bytes header)) }
         ensures err { OnErr result (t.new ≡ t.old) }
         ensures kept { OnErr result (write_of self.new (header_bytes header) ≡ write_of self.old (header_bytes header)) }

@@ -53,14 +53,18 @@ impl Stream<Pair, Session> {
     ) -> Result<Poll<Result<(), ProtoWriteError>>, OutOfMemory>
         requires can { IsTrue (can_write_now t.old self.old.halves.0.id) }
         requires same { Continues self.old.stage.writing (frame_bytes frame.now) }
-        ensures answer { IfOk result (λ a. a ≡ pending_answer t.old.is_open (sending_half_now t.old self.old.halves.0.id) (rest (write_of self.old.stage.writing (frame_bytes frame.now)))) }
-        ensures state { OnOk result (t.new ≡ after_write t.old self.old.halves.0.id (rest (write_of self.old.stage.writing (frame_bytes frame.now)))) }
-        ensures goes_on { Continues self.new.stage.writing (frame_bytes frame.now) }
+        ensures answer { IfOk result (λ a. a
+            ≡ pending_answer t.old.is_open (sending_half_now t.old self.old.halves.0.id) (rest (write_of self.old.stage.writing (frame_bytes frame.now)))) }
+        ensures state { OnOk result (t.new
+            ≡ after_write t.old self.old.halves.0.id (rest (write_of self.old.stage.writing (frame_bytes frame.now)))) }
+        ensures still_going { Continues self.new.stage.writing (frame_bytes frame.now) }
         ensures prefix { OnOk result (WritesPrefix t.old.is_open (sending_half_now t.old self.old.halves.0.id) self.old.stage.writing self.new.stage.writing (frame_bytes frame.now)) }
-        ensures writing { OnOk result (self.new ≡ record self.old { stage = record self.old.stage { writing = after_pending t.old.is_open (sending_half_now t.old self.old.halves.0.id) (write_of self.old.stage.writing (frame_bytes frame.now)) } }) }
+        ensures writing { OnOk result (self.new
+            ≡ record self.old { stage = record self.old.stage { writing = after_pending t.old.is_open (sending_half_now t.old self.old.halves.0.id) (write_of self.old.stage.writing (frame_bytes frame.now)) } }) }
         ensures others { self.new ≡ record self.old { stage = record self.old.stage { writing = self.new.stage.writing } } }
         ensures err { OnErr result (t.new ≡ t.old) }
-        ensures kept { OnErr result (write_of self.new.stage.writing (frame_bytes frame.now) ≡ write_of self.old.stage.writing (frame_bytes frame.now)) }
+        ensures kept { OnErr result (write_of self.new.stage.writing (frame_bytes frame.now)
+            ≡ write_of self.old.stage.writing (frame_bytes frame.now)) }
     {
         self.stage.writing.poll_frame(t, self.halves.0.id, frame)
     }

@@ -54,7 +54,7 @@ pub type StreamBiLocalWT = Stream<Pair, BiLocalWT>;
 /// A unidirectional stream that the peer opened, whose header wasn't read.
 pub type StreamUniRemoteQuic = Stream<QuicRecvStream, UniRemoteQuic>;
 
-/// A unidirectional stream that the peer opened, behind its header.
+/// A unidirectional stream that the peer opened, after its header.
 pub type StreamUniRemoteH3 = Stream<QuicRecvStream, UniRemoteH3>;
 
 /// A unidirectional stream that the peer opened, of a session.
@@ -63,7 +63,7 @@ pub type StreamUniRemoteWT = Stream<QuicRecvStream, UniRemoteWT>;
 /// A unidirectional stream of this end, whose header isn't out.
 pub type StreamUniLocalQuic = Stream<QuicSendStream, UniLocalQuic>;
 
-/// A unidirectional stream of this end, behind its header.
+/// A unidirectional stream of this end, after its header.
 pub type StreamUniLocalH3 = Stream<QuicSendStream, UniLocalH3>;
 
 /// A unidirectional stream of this end, of a session.

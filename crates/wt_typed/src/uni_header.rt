@@ -1,7 +1,7 @@
 //! The header of a unidirectional stream that the peer opened.
 ghost use Rattle.std.specs.Prelude.{◌≡◌, ◌≤◌, Some};
 ghost use Rattle.wt_wire.specs.Varint.{varint_at};
-ghost use Rattle.wt_proto.specs.Progress.{at_item};
+ghost use Rattle.wt_proto.specs.WalkProgress.{at_item};
 ghost use Rattle.wt_typed.specs.UniHeader.{header_at, kind_of, session_header, with_session_id};
 
 use crate::item_reader::{Grammar, ItemReader};
@@ -53,7 +53,7 @@ fn of_session(id: VarInt) -> Result<UniHeader, ErrorCode>
     }
 }
 
-/// The id of a session, behind a type of so many bytes.
+/// The id of a session, after a type of so many bytes.
 fn with_session(bytes: &[u8], at: usize) -> Option<(Result<UniHeader, ErrorCode>, usize)>
     requires { at ≤ 8 }
     ensures { result ≡ with_session_id at (varint_at bytes.now) }
@@ -84,7 +84,7 @@ pub struct HeaderFront;
 impl Grammar for HeaderFront {
     type State = ();
 
-    type Given = UniHeader;
+    type Item = UniHeader;
 
     ghost use Rattle.wt_typed.specs.UniHeader.{header_decides};
 

@@ -27,7 +27,8 @@ impl Stream<QuicSendStream, UniLocalQuic> {
     /// Opens this end's next unidirectional stream; None exactly where the connection isn't open or no
     /// more may be opened.
     pub fn open_uni(alloc: Global, t: &mut Transport) -> Result<Option<Self>, OutOfMemory>
-        ensures stream { IfOk result (λ s. s ≡ in_stage (λ id. record { id = id }) (record { writing = nothing_begun; is_spent = false }) (opened_id_now t.old (local_uni t.old.side))) }
+        ensures stream { IfOk result (λ s. s
+            ≡ in_stage (λ id. record { id = id }) (record { writing = nothing_begun; is_spent = false }) (opened_id_now t.old (local_uni t.old.side))) }
         ensures state { OnOk result (t.new ≡ after_opening t.old (local_uni t.old.side)) }
         ensures err { OnErr result (t.new ≡ t.old) }
     {
@@ -54,12 +55,14 @@ impl Stream<QuicSendStream, UniLocalQuic> {
         requires unspent { self.old.stage.is_spent ≡ false }
         requires can { IsTrue (can_write_now t.old self.old.halves.id) }
         requires same { Continues self.old.stage.writing (header_bytes header) }
-        ensures answer { IfOk result (λ a. a ≡ map_poll (λ through. record { halves = self.old.halves; stage = record { kind = header_kind header; writing = nothing_begun } }) (pending_answer t.old.is_open (sending_half_now t.old self.old.halves.id) (rest (write_of self.old.stage.writing (header_bytes header))))) }
+        ensures answer { IfOk result (λ a. a
+            ≡ map_poll (λ through. record { halves = self.old.halves; stage = record { kind = header_kind header; writing = nothing_begun } }) (pending_answer t.old.is_open (sending_half_now t.old self.old.halves.id) (rest (write_of self.old.stage.writing (header_bytes header))))) }
         ensures state { OnOk result (t.new ≡ after_write t.old self.old.halves.id (rest (write_of self.old.stage.writing (header_bytes header)))) }
-        ensures goes_on { Continues self.new.stage.writing (header_bytes header) }
+        ensures still_going { Continues self.new.stage.writing (header_bytes header) }
         ensures prefix { OnOk result (WritesPrefix t.old.is_open (sending_half_now t.old self.old.halves.id) self.old.stage.writing self.new.stage.writing (header_bytes header)) }
         ensures halves { self.new.halves ≡ self.old.halves }
-        ensures writing { OnOk result (self.new.stage.writing ≡ after_pending t.old.is_open (sending_half_now t.old self.old.halves.id) (write_of self.old.stage.writing (header_bytes header))) }
+        ensures writing { OnOk result (self.new.stage.writing
+            ≡ after_pending t.old.is_open (sending_half_now t.old self.old.halves.id) (write_of self.old.stage.writing (header_bytes header))) }
         ensures spent { IfOk result (λ a. self.new.stage.is_spent ≡ is_through a) }
         ensures err { OnErr result (t.new ≡ t.old) }
         ensures kept { OnErr result (write_of self.new.stage.writing (header_bytes header) ≡ write_of self.old.stage.writing (header_bytes header)) }
@@ -130,14 +133,17 @@ impl Stream<QuicSendStream, UniLocalH3> {
     ) -> Result<Poll<Result<(), ProtoWriteError>>, OutOfMemory>
         requires can { IsTrue (can_write_now t.old self.old.halves.id) }
         requires same { Continues self.old.stage.writing (frame_bytes frame.now) }
-        ensures answer { IfOk result (λ a. a ≡ pending_answer t.old.is_open (sending_half_now t.old self.old.halves.id) (rest (write_of self.old.stage.writing (frame_bytes frame.now)))) }
+        ensures answer { IfOk result (λ a. a
+            ≡ pending_answer t.old.is_open (sending_half_now t.old self.old.halves.id) (rest (write_of self.old.stage.writing (frame_bytes frame.now)))) }
         ensures state { OnOk result (t.new ≡ after_write t.old self.old.halves.id (rest (write_of self.old.stage.writing (frame_bytes frame.now)))) }
-        ensures goes_on { Continues self.new.stage.writing (frame_bytes frame.now) }
+        ensures still_going { Continues self.new.stage.writing (frame_bytes frame.now) }
         ensures prefix { OnOk result (WritesPrefix t.old.is_open (sending_half_now t.old self.old.halves.id) self.old.stage.writing self.new.stage.writing (frame_bytes frame.now)) }
-        ensures writing { OnOk result (self.new ≡ record self.old { stage = record self.old.stage { writing = after_pending t.old.is_open (sending_half_now t.old self.old.halves.id) (write_of self.old.stage.writing (frame_bytes frame.now)) } }) }
+        ensures writing { OnOk result (self.new
+            ≡ record self.old { stage = record self.old.stage { writing = after_pending t.old.is_open (sending_half_now t.old self.old.halves.id) (write_of self.old.stage.writing (frame_bytes frame.now)) } }) }
         ensures others { self.new ≡ record self.old { stage = record self.old.stage { writing = self.new.stage.writing } } }
         ensures err { OnErr result (t.new ≡ t.old) }
-        ensures kept { OnErr result (write_of self.new.stage.writing (frame_bytes frame.now) ≡ write_of self.old.stage.writing (frame_bytes frame.now)) }
+        ensures kept { OnErr result (write_of self.new.stage.writing (frame_bytes frame.now)
+            ≡ write_of self.old.stage.writing (frame_bytes frame.now)) }
     {
         self.stage.writing.poll_frame(t, self.halves.id, frame)
     }

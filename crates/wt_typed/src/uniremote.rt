@@ -1,7 +1,7 @@
 //! Unidirectional streams that the peer opened.
 ghost use Rattle.std.specs.Prelude.{◌≡◌, ◌++◌, IfOk, IfSome, IsTrue, List, OnErr, false, true, ℕ};
 ghost use Rattle.std.specs.Borrow.{sem};
-ghost use Rattle.wt_proto.specs.Progress.{at_item, progress_after, reached_in};
+ghost use Rattle.wt_proto.specs.WalkProgress.{at_item, progress_after, reached_in};
 ghost use Rattle.wt_proto.specs.Walk.{whole_walk};
 ghost use Rattle.wt_proto.specs.declared.stream_header.StreamKind.TheVariants as kinds;
 ghost use Rattle.wt_seam.specs.Step.{can_receive_now, end_now, unread_now};
@@ -39,7 +39,7 @@ fn source_of(header: &UniHeader) -> FrameSource
     }
 }
 
-/// The stream behind this header.
+/// The stream after this header.
 fn behind_header(alloc: Global, id: StreamId, header: UniHeader) -> StreamUniRemoteH3
     ensures { result ≡ record { halves = record { id = id }; stage = record { header = header; frames = at_item (source_of header) } } }
 {
@@ -65,7 +65,8 @@ impl Stream<QuicRecvStream, UniRemoteQuic> {
     /// The peer's next unidirectional stream that wasn't accepted; None where each was.
     #[tactic(auto, using(crate::proofs::AcceptLaws::uni_there))]
     pub fn accept_uni(alloc: Global, accepted: &mut Accepted, t: &mut Transport) -> Option<Self>
-        ensures stream { result ≡ in_stage (λ id. record { id = id }) (record { header = at_item tt; is_spent = false }) (next_uni t.old accepted.old) }
+        ensures stream { result
+            ≡ in_stage (λ id. record { id = id }) (record { header = at_item tt; is_spent = false }) (next_uni t.old accepted.old) }
         ensures exists { IfSome result (λ s. IsTrue (can_receive_now t.new s.halves.id)) }
         ensures count { accepted.new ≡ accepted_uni t.old accepted.old }
         ensures unchanged { t.new ≡ t.old }
@@ -80,7 +81,7 @@ impl Stream<QuicRecvStream, UniRemoteQuic> {
         })
     }
 
-    /// Reads the header, and no byte behind it, and hands the upgraded stream out once it is whole; this
+    /// Reads the header, and no byte after it, and hands the upgraded stream out once it is whole; this
     /// one is spent then. A type that is neither known nor reserved is answered by `H3(StreamCreation)`,
     /// a session's id that isn't a multiple of 4 by `H3(Id)`, an end before the header by
     /// `IO(ImmediateFin)`, one inside it by `IO(UnexpectedFin)`, a reset by `IO(Reset)`, and a header
@@ -91,8 +92,11 @@ impl Stream<QuicRecvStream, UniRemoteQuic> {
     ) -> Result<Poll<Result<StreamUniRemoteH3, ProtoReadError>>, OutOfMemory>
         requires unspent { self.old.stage.is_spent ≡ false }
         requires can { IsTrue (can_receive_now t.old self.old.halves.id) }
-        ensures answer { IfOk result (λ a. a ≡ map_poll (λ header. record { halves = self.old.halves; stage = record { header = header; frames = at_item (source_of header) } }) (reached_answer t.old.is_open (end_now t.old self.old.halves.id) (reached_in (progress_after header_decides self.old.stage.header (unread_now t.old self.old.halves.id))))) }
-        ensures header { (bytes : List ℕ) → HasBegun header_decides tt self.old.stage.header bytes → IfOk result (λ a. a ≡ map_poll (λ header. record { halves = self.old.halves; stage = record { header = header; frames = at_item (source_of header) } }) (reached_answer t.old.is_open (end_now t.old self.old.halves.id) (whole_walk header_decides tt (bytes ++ unread_now t.old self.old.halves.id)))) }
+        ensures answer { IfOk result (λ a. a
+            ≡ map_poll (λ header. record { halves = self.old.halves; stage = record { header = header; frames = at_item (source_of header) } }) (reached_answer t.old.is_open (end_now t.old self.old.halves.id) (reached_in (progress_after header_decides self.old.stage.header (unread_now t.old self.old.halves.id))))) }
+        ensures header { (bytes : List ℕ) → HasBegun header_decides tt self.old.stage.header bytes
+            → IfOk result (λ a. a
+            ≡ map_poll (λ header. record { halves = self.old.halves; stage = record { header = header; frames = at_item (source_of header) } }) (reached_answer t.old.is_open (end_now t.old self.old.halves.id) (whole_walk header_decides tt (bytes ++ unread_now t.old self.old.halves.id)))) }
         ensures begun { ReadLeavesBegun header_decides tt self.old.stage.header self.new.stage.header t.old self.old.halves.id result }
         ensures halves { self.new.halves ≡ self.old.halves }
         ensures left { ReadLeaves header_decides self.old.stage.header self.new.stage.header t.old self.old.halves.id result }

@@ -166,7 +166,8 @@ impl Frame {
     #[tactic(auto, using(crate::proofs::FrameAgain::frame_again))]
     pub fn write(&self, out: &mut Vec<u8>) -> Result<(), OutOfMemory>
         ensures bytes { OnOk result (out.new.items ≡ out.old.items ++ frame_bytes self.now) }
-        ensures again { OnOk result (IsReadable self.now → (more : List ℕ) → frame_at varint_at (frame_bytes self.now ++ more) ≡ Some (frame_of self.now, length (frame_bytes self.now))) }
+        ensures again { OnOk result (IsReadable self.now → (more : List ℕ)
+            → frame_at varint_at (frame_bytes self.now ++ more) ≡ Some (frame_of self.now, length (frame_bytes self.now))) }
     {
         write_varint(self.kind.number(), out)?;
         match self.session {

@@ -80,7 +80,7 @@ fn copy_fields(alloc: Global, fields: &[(Text, Text)]) -> Result<Vec<(Text, Text
     Ok(copied)
 }
 
-fn put(fields: &mut Vec<(Text, Text)>, name: &str, value: &str) -> Result<(), OutOfMemory>
+fn set_field(fields: &mut Vec<(Text, Text)>, name: &str, value: &str) -> Result<(), OutOfMemory>
     requires ordered { IsHeaderList fields.old.items }
     ensures ok { OnOk result (fields.new.items ≡ with_field name.now value.now fields.old.items) }
     ensures err { OnErr result (fields.new.items ≡ fields.old.items) }
@@ -144,7 +144,7 @@ impl HeaderList {
         ensures others { (other : List ℕ) → bytes_eq other name.now ≡ false → OnOk result (value_of other self.new ≡ value_of other self.old) }
         ensures err { OnErr result (self.new ≡ self.old) }
     {
-        put(&mut self.fields, name, value)?;
+        set_field(&mut self.fields, name, value)?;
         Ok(())
     }
 

@@ -3,7 +3,7 @@ ghost use Rattle.std.specs.Prelude.{◌≡◌, IfOk};
 ghost use Rattle.wt_plan.specs.DriverAnswers.{error_now};
 ghost use Rattle.wt_driver_spec.specs.DriverState.{requests_now};
 ghost use Rattle.wt_dispatch.specs.Requests.{first_request};
-ghost use Rattle.wt_call_plans.specs.Kept.{OnSessionStream};
+ghost use Rattle.wt_call_plans.specs.StreamsThere.{OnSessionStream};
 ghost use Rattle.wt_call_plans.specs.MayPlan.{FirstIsRequest};
 
 use super::in_session::Established;

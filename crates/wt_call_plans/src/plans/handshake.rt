@@ -4,10 +4,10 @@ ghost use Rattle.wt_plan.specs.DriverAnswers.{answers_now};
 ghost use Rattle.wt_driver_spec.specs.DriverState.{requests_now};
 ghost use Rattle.wt_plan.specs.FactsNow.{DriverAnswers, facts_now};
 ghost use Rattle.wt_plan.specs.Planned.{defined_plan};
-ghost use Rattle.wt_plan.specs.Tells.{session_of_table};
+ghost use Rattle.wt_plan.specs.PlansAgree.{session_of_table};
 ghost use Rattle.wt_seam_spec.specs.Streams.{local_bi};
 ghost use Rattle.wt_proto.specs.declared.response_walk.ResponseWalk.{ResponseWalk};
-ghost use Rattle.wt_call_plans.specs.Kept.{IsSessionStream};
+ghost use Rattle.wt_call_plans.specs.StreamsThere.{IsSessionStream};
 ghost use Rattle.wt_call_plans.specs.MayPlan.{FirstIsRequest, HandshakeFits};
 ghost use Rattle.wt_session_spec.specs.HandshakePlans.{wait_plan, continued_connect, request_plan, request_unless, response_plan, start_plan};
 ghost use Rattle.wt_session_spec.specs.Plans.{plan_of};
@@ -48,7 +48,8 @@ pub fn respond(
     head: &[u8],
     waiting: Record,
 ) -> Result<Plan, OutOfMemory>
-    ensures { (d : DriverAnswers) → d.request_end ≡ s.now.request_end → IsSessionStream s.now.requested → IfOk result (λ p. defined_plan p ≡ response_plan (facts_now t.now d) (session_of_table s.now) accepts head.now (record_of waiting)) }
+    ensures { (d : DriverAnswers) → d.request_end ≡ s.now.request_end → IsSessionStream s.now.requested
+        → IfOk result (λ p. defined_plan p ≡ response_plan (facts_now t.now d) (session_of_table s.now) accepts head.now (record_of waiting)) }
 {
     let (id, end) = s.requested();
     match SessionId::try_from_session_stream(id) {
@@ -65,7 +66,8 @@ fn start(
     accepts: bool,
     head: Piece,
 ) -> Result<Plan, OutOfMemory>
-    ensures { (d : DriverAnswers) → d.request_end ≡ s.now.request_end → IsSessionStream s.now.requested → IfOk result (λ p. defined_plan p ≡ start_plan (facts_now t.now d) (session_of_table s.now) accepts head) }
+    ensures { (d : DriverAnswers) → d.request_end ≡ s.now.request_end → IsSessionStream s.now.requested
+        → IfOk result (λ p. defined_plan p ≡ start_plan (facts_now t.now d) (session_of_table s.now) accepts head) }
 {
     let begun = Record::ResponseStarted(accepts, head.copy()?);
     respond(alloc, t, s, accepts, head.as_slice(), begun)
@@ -79,7 +81,8 @@ pub fn accept(
     s: &SessionTable,
     headers: &HeaderList,
 ) -> Result<Plan, OutOfMemory>
-    ensures { (d : DriverAnswers) → d.request_end ≡ s.now.request_end → IsSessionStream s.now.requested → IfOk result (λ p. defined_plan p ≡ plan_of (facts_now t.now d) (session_of_table s.now) (calls.Accept headers.now)) }
+    ensures { (d : DriverAnswers) → d.request_end ≡ s.now.request_end → IsSessionStream s.now.requested
+        → IfOk result (λ p. defined_plan p ≡ plan_of (facts_now t.now d) (session_of_table s.now) (calls.Accept headers.now)) }
 {
     start(alloc, t, s, true, heads::accepting(alloc, headers)?)
 }
@@ -87,7 +90,8 @@ pub fn accept(
 /// The request is rejected, by status 403.
 #[tactic(auto, unfolding(wt_session_spec::specs::Plans::plan_of))]
 pub fn forbid(alloc: Global, t: &Transport, s: &SessionTable) -> Result<Plan, OutOfMemory>
-    ensures { (d : DriverAnswers) → d.request_end ≡ s.now.request_end → IsSessionStream s.now.requested → IfOk result (λ p. defined_plan p ≡ plan_of (facts_now t.now d) (session_of_table s.now) calls.Forbidden) }
+    ensures { (d : DriverAnswers) → d.request_end ≡ s.now.request_end → IsSessionStream s.now.requested
+        → IfOk result (λ p. defined_plan p ≡ plan_of (facts_now t.now d) (session_of_table s.now) calls.Forbidden) }
 {
     start(alloc, t, s, false, heads::forbidding(alloc)?)
 }
@@ -95,7 +99,8 @@ pub fn forbid(alloc: Global, t: &Transport, s: &SessionTable) -> Result<Plan, Ou
 /// The request is rejected, by status 404.
 #[tactic(auto, unfolding(wt_session_spec::specs::Plans::plan_of))]
 pub fn find_nothing(alloc: Global, t: &Transport, s: &SessionTable) -> Result<Plan, OutOfMemory>
-    ensures { (d : DriverAnswers) → d.request_end ≡ s.now.request_end → IsSessionStream s.now.requested → IfOk result (λ p. defined_plan p ≡ plan_of (facts_now t.now d) (session_of_table s.now) calls.NotFound) }
+    ensures { (d : DriverAnswers) → d.request_end ≡ s.now.request_end → IsSessionStream s.now.requested
+        → IfOk result (λ p. defined_plan p ≡ plan_of (facts_now t.now d) (session_of_table s.now) calls.NotFound) }
 {
     start(alloc, t, s, false, heads::not_found(alloc)?)
 }
@@ -103,7 +108,8 @@ pub fn find_nothing(alloc: Global, t: &Transport, s: &SessionTable) -> Result<Pl
 /// The request is rejected, by status 429.
 #[tactic(auto, unfolding(wt_session_spec::specs::Plans::plan_of))]
 pub fn refuse_for_now(alloc: Global, t: &Transport, s: &SessionTable) -> Result<Plan, OutOfMemory>
-    ensures { (d : DriverAnswers) → d.request_end ≡ s.now.request_end → IsSessionStream s.now.requested → IfOk result (λ p. defined_plan p ≡ plan_of (facts_now t.now d) (session_of_table s.now) calls.TooManyRequests) }
+    ensures { (d : DriverAnswers) → d.request_end ≡ s.now.request_end → IsSessionStream s.now.requested
+        → IfOk result (λ p. defined_plan p ≡ plan_of (facts_now t.now d) (session_of_table s.now) calls.TooManyRequests) }
 {
     start(alloc, t, s, false, heads::too_many_requests(alloc)?)
 }
@@ -129,7 +135,8 @@ fn request(
     walk: ResponseWalk,
     error: ConnectionError,
 ) -> Result<Plan, OutOfMemory>
-    ensures { (d : DriverAnswers) → t.now.side ≡ sides.Client → d.driver_error ≡ error → d.response ≡ walk → IfOk result (λ p. defined_plan p ≡ request_plan (facts_now t.now d) (local_bi t.now.side) head.now) }
+    ensures { (d : DriverAnswers) → t.now.side ≡ sides.Client → d.driver_error ≡ error → d.response ≡ walk
+        → IfOk result (λ p. defined_plan p ≡ request_plan (facts_now t.now d) (local_bi t.now.side) head.now) }
 {
     match request_session(t.side()) {
         Some(id) => handshake_plans::request(alloc, t, id, head, walk, error),
@@ -146,7 +153,8 @@ fn request_unless(
     walk: ResponseWalk,
     error: ConnectionError,
 ) -> Result<Plan, OutOfMemory>
-    ensures { (d : DriverAnswers) → t.now.side ≡ sides.Client → d.driver_error ≡ error → d.response ≡ walk → IfOk result (λ p. defined_plan p ≡ request_unless (facts_now t.now d) reserved.now head.now) }
+    ensures { (d : DriverAnswers) → t.now.side ≡ sides.Client → d.driver_error ≡ error → d.response ≡ walk
+        → IfOk result (λ p. defined_plan p ≡ request_unless (facts_now t.now d) reserved.now head.now) }
 {
     match reserved {
         Some(name) => handshake_plans::reserved(alloc, t, name),
@@ -164,7 +172,10 @@ fn connected(
     walk: ResponseWalk,
     error: ConnectionError,
 ) -> Result<Plan, OutOfMemory>
-    ensures { (d : DriverAnswers) → t.now.side ≡ sides.Client → d.settings_came ≡ have_settings_come → d.driver_error ≡ error → d.response ≡ walk → IfOk result (λ p. defined_plan p ≡ (if d.settings_came then request_unless (facts_now t.now d) reserved.now head.now else wait_plan (facts_now t.now d) d.driver_error)) }
+    ensures { (d : DriverAnswers) → t.now.side ≡ sides.Client → d.settings_came ≡ have_settings_come → d.driver_error ≡ error
+        → d.response ≡ walk
+        → IfOk result (λ p. defined_plan p
+        ≡ (if d.settings_came then request_unless (facts_now t.now d) reserved.now head.now else wait_plan (facts_now t.now d) d.driver_error)) }
 {
     if have_settings_come {
         request_unless(alloc, t, reserved, head, walk, error)
@@ -183,7 +194,8 @@ pub fn connect(
     walk: ResponseWalk,
     error: ConnectionError,
 ) -> Result<Plan, OutOfMemory>
-    ensures { (d : DriverAnswers) → t.now.side ≡ sides.Client → d.settings_came ≡ have_settings_come → d.driver_error ≡ error → d.response ≡ walk → IfOk result (λ p. defined_plan p ≡ continued_connect (facts_now t.now d) reserved.now head.now) }
+    ensures { (d : DriverAnswers) → t.now.side ≡ sides.Client → d.settings_came ≡ have_settings_come → d.driver_error ≡ error
+        → d.response ≡ walk → IfOk result (λ p. defined_plan p ≡ continued_connect (facts_now t.now d) reserved.now head.now) }
 {
     match t.datagram_fact() {
         Some(_) => connected(alloc, t, reserved, head, have_settings_come, walk, error),
@@ -199,7 +211,8 @@ pub fn connect(
 /// A server's call for a request: the queued one is delivered, once the peer's SETTINGS came.
 #[tactic(auto, unfolding(wt_session_spec::specs::Plans::plan_of))]
 pub fn incoming(alloc: Global, t: &Transport, d: &Driver) -> Result<Plan, OutOfMemory>
-    ensures { (first : Bool) (end : ℕ) (walk : ResponseWalk) (s : SessionState) → FirstIsRequest (requests_now d.now.state) → IfOk result (λ p. defined_plan p ≡ plan_of (facts_now t.now (answers_now t.now d.now.state first end walk)) s calls.Incoming) }
+    ensures { (first : Bool) (end : ℕ) (walk : ResponseWalk) (s : SessionState) → FirstIsRequest (requests_now d.now.state)
+        → IfOk result (λ p. defined_plan p ≡ plan_of (facts_now t.now (answers_now t.now d.now.state first end walk)) s calls.Incoming) }
 {
     match next_request(d)? {
         Some((id, headers, _)) => Ok(handshake_plans::delivered(alloc, id, headers)),
@@ -219,7 +232,9 @@ pub fn go_on(
     s: &SessionTable,
     walk: ResponseWalk,
 ) -> Result<Plan, OutOfMemory>
-    ensures { (first : Bool) → HandshakeFits t.now.side s.now → IfOk result (λ p. defined_plan p ≡ plan_of (facts_now t.now (answers_now t.now d.now.state first s.now.request_end walk)) (session_of_table s.now) calls.Handshake) }
+    ensures { (first : Bool) → HandshakeFits t.now.side s.now
+        → IfOk result (λ p. defined_plan p
+        ≡ plan_of (facts_now t.now (answers_now t.now d.now.state first s.now.request_end walk)) (session_of_table s.now) calls.Handshake) }
 {
     match s.handshake() {
         Handshake::Responding(accepts, head) => {

@@ -2,7 +2,7 @@
 ghost use Rattle.std.specs.Prelude.{◌≡◌, IfOk};
 ghost use Rattle.wt_plan.specs.FactsNow.{DriverAnswers, facts_now};
 ghost use Rattle.wt_plan.specs.Planned.{defined_plan};
-ghost use Rattle.wt_plan.specs.Tells.{session_of_table};
+ghost use Rattle.wt_plan.specs.PlansAgree.{session_of_table};
 ghost use Rattle.wt_seam.specs.State.{TransportState};
 ghost use Rattle.wt_session_spec.specs.ConnectionPlans.{poll_plan};
 ghost use Rattle.wt_session_spec.specs.Plans.{plan_of};
@@ -27,7 +27,8 @@ pub type Established = Option<(SessionId, usize)>;
 /// The session's next unidirectional stream of the peer is given.
 #[tactic(auto, unfolding(wt_session_spec::specs::Plans::plan_of))]
 pub fn accept_uni(alloc: Global, session: Established) -> Plan
-    ensures { (t : TransportState) (d : DriverAnswers) (s : SessionState) → d.session ≡ session → defined_plan result ≡ plan_of (facts_now t d) s calls.AcceptUni }
+    ensures { (t : TransportState) (d : DriverAnswers) (s : SessionState) → d.session ≡ session
+        → defined_plan result ≡ plan_of (facts_now t d) s calls.AcceptUni }
 {
     match session {
         Some((session, _)) => Plan::AcceptUni(session),
@@ -38,7 +39,8 @@ pub fn accept_uni(alloc: Global, session: Established) -> Plan
 /// The session's next bidirectional stream of the peer is given.
 #[tactic(auto, unfolding(wt_session_spec::specs::Plans::plan_of))]
 pub fn accept_bi(alloc: Global, session: Established) -> Plan
-    ensures { (t : TransportState) (d : DriverAnswers) (s : SessionState) → d.session ≡ session → defined_plan result ≡ plan_of (facts_now t d) s calls.AcceptBi }
+    ensures { (t : TransportState) (d : DriverAnswers) (s : SessionState) → d.session ≡ session
+        → defined_plan result ≡ plan_of (facts_now t d) s calls.AcceptBi }
 {
     match session {
         Some((session, _)) => Plan::AcceptBi(session),
@@ -49,7 +51,8 @@ pub fn accept_bi(alloc: Global, session: Established) -> Plan
 /// The session's next datagram is given.
 #[tactic(auto, unfolding(wt_session_spec::specs::Plans::plan_of))]
 pub fn receive_datagram(alloc: Global, session: Established) -> Plan
-    ensures { (t : TransportState) (d : DriverAnswers) (s : SessionState) → d.session ≡ session → defined_plan result ≡ plan_of (facts_now t d) s calls.ReceiveDatagram }
+    ensures { (t : TransportState) (d : DriverAnswers) (s : SessionState) → d.session ≡ session
+        → defined_plan result ≡ plan_of (facts_now t d) s calls.ReceiveDatagram }
 {
     match session {
         Some((session, _)) => Plan::Receive(session),
@@ -60,7 +63,8 @@ pub fn receive_datagram(alloc: Global, session: Established) -> Plan
 /// The session's id is told.
 #[tactic(auto, unfolding(wt_session_spec::specs::Plans::plan_of))]
 pub fn session_id(alloc: Global, session: Established) -> Plan
-    ensures { (t : TransportState) (d : DriverAnswers) (s : SessionState) → d.session ≡ session → defined_plan result ≡ plan_of (facts_now t d) s calls.SessionId }
+    ensures { (t : TransportState) (d : DriverAnswers) (s : SessionState) → d.session ≡ session
+        → defined_plan result ≡ plan_of (facts_now t d) s calls.SessionId }
 {
     match session {
         Some((session, _)) => Plan::only_reply(alloc, Reply::Id(session)),
@@ -71,7 +75,8 @@ pub fn session_id(alloc: Global, session: Established) -> Plan
 /// The greatest payload of a datagram is told.
 #[tactic(auto, unfolding(wt_session_spec::specs::Plans::plan_of))]
 pub fn max_datagram_size(alloc: Global, t: &Transport, session: Established) -> Plan
-    ensures { (d : DriverAnswers) (s : SessionState) → d.session ≡ session → defined_plan result ≡ plan_of (facts_now t.now d) s calls.MaxDatagramSize }
+    ensures { (d : DriverAnswers) (s : SessionState) → d.session ≡ session
+        → defined_plan result ≡ plan_of (facts_now t.now d) s calls.MaxDatagramSize }
 {
     match session {
         Some((session, _)) => {
@@ -85,7 +90,8 @@ pub fn max_datagram_size(alloc: Global, t: &Transport, session: Established) -> 
 /// The next unidirectional stream of the session begins.
 #[tactic(auto, unfolding(wt_session_spec::specs::Plans::plan_of))]
 pub fn open_uni(alloc: Global, t: &Transport, session: Established) -> Result<Plan, OutOfMemory>
-    ensures { (d : DriverAnswers) (s : SessionState) → d.session ≡ session → IfOk result (λ p. defined_plan p ≡ plan_of (facts_now t.now d) s calls.OpenUni) }
+    ensures { (d : DriverAnswers) (s : SessionState) → d.session ≡ session
+        → IfOk result (λ p. defined_plan p ≡ plan_of (facts_now t.now d) s calls.OpenUni) }
 {
     match session {
         Some((session, _)) => connection_plans::open_uni(alloc, t, session),
@@ -96,7 +102,8 @@ pub fn open_uni(alloc: Global, t: &Transport, session: Established) -> Result<Pl
 /// The next bidirectional stream of the session begins.
 #[tactic(auto, unfolding(wt_session_spec::specs::Plans::plan_of))]
 pub fn open_bi(alloc: Global, t: &Transport, session: Established) -> Result<Plan, OutOfMemory>
-    ensures { (d : DriverAnswers) (s : SessionState) → d.session ≡ session → IfOk result (λ p. defined_plan p ≡ plan_of (facts_now t.now d) s calls.OpenBi) }
+    ensures { (d : DriverAnswers) (s : SessionState) → d.session ≡ session
+        → IfOk result (λ p. defined_plan p ≡ plan_of (facts_now t.now d) s calls.OpenBi) }
 {
     match session {
         Some((session, _)) => connection_plans::open_bi(alloc, t, session),
@@ -112,7 +119,8 @@ pub fn send_datagram(
     session: Established,
     payload: &Piece,
 ) -> Result<Plan, OutOfMemory>
-    ensures { (d : DriverAnswers) (s : SessionState) → d.session ≡ session → IfOk result (λ p. defined_plan p ≡ plan_of (facts_now t.now d) s (calls.SendDatagram payload.now)) }
+    ensures { (d : DriverAnswers) (s : SessionState) → d.session ≡ session
+        → IfOk result (λ p. defined_plan p ≡ plan_of (facts_now t.now d) s (calls.SendDatagram payload.now)) }
 {
     match session {
         Some((session, _)) => connection_plans::datagram(alloc, t, payload.as_slice(), session),
@@ -129,7 +137,8 @@ pub fn close(
     code: VarInt,
     reason: &Piece,
 ) -> Result<Plan, OutOfMemory>
-    ensures { (d : DriverAnswers) (s : SessionState) → d.session ≡ session → IfOk result (λ p. defined_plan p ≡ plan_of (facts_now t.now d) s (calls.Close code reason.now)) }
+    ensures { (d : DriverAnswers) (s : SessionState) → d.session ≡ session
+        → IfOk result (λ p. defined_plan p ≡ plan_of (facts_now t.now d) s (calls.Close code reason.now)) }
 {
     match session {
         Some((session, _)) => connection_plans::close(alloc, t, code, reason),
@@ -140,7 +149,8 @@ pub fn close(
 /// Whether and how the connection ended.
 #[tactic(auto, unfolding(wt_session_spec::specs::Plans::plan_of))]
 pub fn closed(alloc: Global, t: &Transport, session: Established) -> Result<Plan, OutOfMemory>
-    ensures { (d : DriverAnswers) (s : SessionState) → d.session ≡ session → IfOk result (λ p. defined_plan p ≡ plan_of (facts_now t.now d) s calls.Closed) }
+    ensures { (d : DriverAnswers) (s : SessionState) → d.session ≡ session
+        → IfOk result (λ p. defined_plan p ≡ plan_of (facts_now t.now d) s calls.Closed) }
 {
     match session {
         Some((session, _)) => connection_plans::closed(alloc, t),
@@ -172,7 +182,8 @@ pub fn poll_opening(
     session: Established,
     id: StreamId,
 ) -> Result<Plan, OutOfMemory>
-    ensures { (d : DriverAnswers) → d.session ≡ session → IfOk result (λ p. defined_plan p ≡ plan_of (facts_now t.now d) (session_of_table s.now) (calls.PollOpening id)) }
+    ensures { (d : DriverAnswers) → d.session ≡ session
+        → IfOk result (λ p. defined_plan p ≡ plan_of (facts_now t.now d) (session_of_table s.now) (calls.PollOpening id)) }
 {
     match session {
         Some((session, _)) => poll_open(alloc, t, s, id, session),

@@ -2,7 +2,7 @@
 ghost use Rattle.std.specs.Prelude.{◌≡◌, IfOk};
 ghost use Rattle.wt_plan.specs.FactsNow.{DriverAnswers, facts_now};
 ghost use Rattle.wt_plan.specs.Planned.{defined_plan};
-ghost use Rattle.wt_plan.specs.Tells.{session_of_table};
+ghost use Rattle.wt_plan.specs.PlansAgree.{session_of_table};
 ghost use Rattle.wt_session_spec.specs.Plans.{plan_of};
 ghost use Rattle.wt_turn.specs.declared.call.Call.TheVariants as calls;
 
@@ -43,7 +43,8 @@ pub fn read_exact(
     id: StreamId,
     size: u64,
 ) -> Result<Plan, OutOfMemory>
-    ensures { (d : DriverAnswers) → IfOk result (λ p. defined_plan p ≡ plan_of (facts_now t.now d) (session_of_table s.now) (calls.ReadExact id size)) }
+    ensures { (d : DriverAnswers)
+        → IfOk result (λ p. defined_plan p ≡ plan_of (facts_now t.now d) (session_of_table s.now) (calls.ReadExact id size)) }
 {
     if !has_receiving(s, t.side(), id) {
         return Ok(Plan::only_reply(alloc, Reply::NoStream));
@@ -60,7 +61,8 @@ pub fn stop(
     id: StreamId,
     code: VarInt,
 ) -> Result<Plan, OutOfMemory>
-    ensures { (d : DriverAnswers) → IfOk result (λ p. defined_plan p ≡ plan_of (facts_now t.now d) (session_of_table s.now) (calls.StopRecv id code)) }
+    ensures { (d : DriverAnswers)
+        → IfOk result (λ p. defined_plan p ≡ plan_of (facts_now t.now d) (session_of_table s.now) (calls.StopRecv id code)) }
 {
     if !has_receiving(s, t.side(), id) {
         return Ok(Plan::only_reply(alloc, Reply::NoStream));

@@ -2,9 +2,9 @@
 ghost use Rattle.std.specs.Prelude.{◌≡◌, IfOk, true};
 ghost use Rattle.wt_plan.specs.FactsNow.{DriverAnswers, facts_now};
 ghost use Rattle.wt_plan.specs.Planned.{defined_plan};
-ghost use Rattle.wt_plan.specs.Tells.{session_of_table};
+ghost use Rattle.wt_plan.specs.PlansAgree.{session_of_table};
 ghost use Rattle.wt_seam.specs.Step.{can_send_now};
-ghost use Rattle.wt_call_plans.specs.Kept.{SendingThere};
+ghost use Rattle.wt_call_plans.specs.StreamsThere.{SendingThere};
 ghost use Rattle.wt_session_spec.specs.Plans.{plan_of};
 ghost use Rattle.wt_session_spec.specs.SessionState.{has_sending_now};
 ghost use Rattle.wt_turn.specs.declared.call.Call.TheVariants as calls;
@@ -38,7 +38,8 @@ pub fn write(
     id: StreamId,
     bytes: &Piece,
 ) -> Result<Plan, OutOfMemory>
-    ensures { (d : DriverAnswers) → SendingThere t.now s.now → IfOk result (λ p. defined_plan p ≡ plan_of (facts_now t.now d) (session_of_table s.now) (calls.Write id bytes.now)) }
+    ensures { (d : DriverAnswers) → SendingThere t.now s.now
+        → IfOk result (λ p. defined_plan p ≡ plan_of (facts_now t.now d) (session_of_table s.now) (calls.Write id bytes.now)) }
 {
     if !may_send(t, s, id) {
         return Ok(Plan::only_reply(alloc, Reply::NoStream));
@@ -55,7 +56,8 @@ pub fn write_all(
     id: StreamId,
     bytes: &Piece,
 ) -> Result<Plan, OutOfMemory>
-    ensures { (d : DriverAnswers) → SendingThere t.now s.now → IfOk result (λ p. defined_plan p ≡ plan_of (facts_now t.now d) (session_of_table s.now) (calls.WriteAll id bytes.now)) }
+    ensures { (d : DriverAnswers) → SendingThere t.now s.now
+        → IfOk result (λ p. defined_plan p ≡ plan_of (facts_now t.now d) (session_of_table s.now) (calls.WriteAll id bytes.now)) }
 {
     if !may_send(t, s, id) {
         return Ok(Plan::only_reply(alloc, Reply::NoStream));
@@ -71,7 +73,8 @@ pub fn finish(
     s: &SessionTable,
     id: StreamId,
 ) -> Result<Plan, OutOfMemory>
-    ensures { (d : DriverAnswers) → SendingThere t.now s.now → IfOk result (λ p. defined_plan p ≡ plan_of (facts_now t.now d) (session_of_table s.now) (calls.Finish id)) }
+    ensures { (d : DriverAnswers) → SendingThere t.now s.now
+        → IfOk result (λ p. defined_plan p ≡ plan_of (facts_now t.now d) (session_of_table s.now) (calls.Finish id)) }
 {
     if !may_send(t, s, id) {
         return Ok(Plan::only_reply(alloc, Reply::NoStream));
@@ -82,7 +85,8 @@ pub fn finish(
 /// Whether the peer stopped the sending half, or has all of it.
 #[tactic(auto, unfolding(wt_session_spec::specs::Plans::plan_of))]
 pub fn stopped(alloc: Global, t: &Transport, s: &SessionTable, id: StreamId) -> Plan
-    ensures { (d : DriverAnswers) → SendingThere t.now s.now → defined_plan result ≡ plan_of (facts_now t.now d) (session_of_table s.now) (calls.Stopped id) }
+    ensures { (d : DriverAnswers) → SendingThere t.now s.now
+        → defined_plan result ≡ plan_of (facts_now t.now d) (session_of_table s.now) (calls.Stopped id) }
 {
     if !may_send(t, s, id) {
         return Plan::only_reply(alloc, Reply::NoStream);
@@ -93,7 +97,8 @@ pub fn stopped(alloc: Global, t: &Transport, s: &SessionTable, id: StreamId) -> 
 /// The priority of the sending half.
 #[tactic(auto, unfolding(wt_session_spec::specs::Plans::plan_of))]
 pub fn priority(alloc: Global, t: &Transport, s: &SessionTable, id: StreamId) -> Plan
-    ensures { (d : DriverAnswers) → SendingThere t.now s.now → defined_plan result ≡ plan_of (facts_now t.now d) (session_of_table s.now) (calls.Priority id) }
+    ensures { (d : DriverAnswers) → SendingThere t.now s.now
+        → defined_plan result ≡ plan_of (facts_now t.now d) (session_of_table s.now) (calls.Priority id) }
 {
     if !may_send(t, s, id) {
         return Plan::only_reply(alloc, Reply::NoStream);
@@ -110,7 +115,8 @@ pub fn set_priority(
     id: StreamId,
     priority: i32,
 ) -> Plan
-    ensures { (d : DriverAnswers) → SendingThere t.now s.now → defined_plan result ≡ plan_of (facts_now t.now d) (session_of_table s.now) (calls.SetPriority id priority) }
+    ensures { (d : DriverAnswers) → SendingThere t.now s.now
+        → defined_plan result ≡ plan_of (facts_now t.now d) (session_of_table s.now) (calls.SetPriority id priority) }
 {
     if !may_send(t, s, id) {
         return Plan::only_reply(alloc, Reply::NoStream);
@@ -127,7 +133,8 @@ pub fn reset(
     id: StreamId,
     code: VarInt,
 ) -> Result<Plan, OutOfMemory>
-    ensures { (d : DriverAnswers) → SendingThere t.now s.now → IfOk result (λ p. defined_plan p ≡ plan_of (facts_now t.now d) (session_of_table s.now) (calls.ResetSend id code)) }
+    ensures { (d : DriverAnswers) → SendingThere t.now s.now
+        → IfOk result (λ p. defined_plan p ≡ plan_of (facts_now t.now d) (session_of_table s.now) (calls.ResetSend id code)) }
 {
     if !may_send(t, s, id) {
         return Ok(Plan::only_reply(alloc, Reply::NoStream));

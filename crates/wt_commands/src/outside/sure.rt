@@ -8,7 +8,7 @@ use std::marker::Model;
 #[derive(Debug, Drop)]
 pub struct SureSource {
     bytes: Vec<u8>,
-    at: usize,
+    offset: usize,
 }
 
 impl Model for SureSource {
@@ -16,9 +16,9 @@ impl Model for SureSource {
 
     ghost Value = { List ℕ };
 
-    ghost view = { λ s. drop s.at s.bytes.items };
+    ghost view = { λ s. drop s.offset s.bytes.items };
 
-    ghost invariant = { λ s. s.at ≤ length s.bytes.items };
+    ghost invariant = { λ s. s.offset ≤ length s.bytes.items };
 }
 
 impl SureSource {
@@ -26,7 +26,7 @@ impl SureSource {
     pub fn new(bytes: Vec<u8>) -> SureSource
         ensures { result ≡ bytes.items }
     {
-        SureSource { bytes, at: 0 }
+        SureSource { bytes, offset: 0 }
     }
 }
 
@@ -38,10 +38,10 @@ impl Source for SureSource {
     ghost faults = { λ _. 0 };
 
     fn read(&mut self, buf: &mut [u8]) -> Result<usize, Failed> {
-        let count = buf.len().min(self.bytes.len() - self.at);
-        let end = self.at + count;
-        buf[..count].copy_from_slice(&self.bytes[self.at..end]);
-        self.at = end;
+        let count = buf.len().min(self.bytes.len() - self.offset);
+        let end = self.offset + count;
+        buf[..count].copy_from_slice(&self.bytes[self.offset..end]);
+        self.offset = end;
         Ok(count)
     }
 }

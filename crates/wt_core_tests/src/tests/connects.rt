@@ -39,7 +39,7 @@ fn add_refusal(rt: &impl Abort, alloc: Global, out: &mut String, error: Connecti
     add_answer(rt, alloc, out, &Answer { reply, actions });
 }
 
-/// The answer of the call, and behind a dial the authority and the path of the request.
+/// The answer of the call, and after a dial the authority and the path of the request.
 fn add_row(
     rt: &impl Abort,
     alloc: Global,

@@ -3,7 +3,7 @@ ghost use Rattle.std.specs.Prelude.{◌≡◌, ◌∷◌, IfOk, List, None, OnOk
 ghost use Rattle.wt_driver_state.specs.OfLog.{FollowsIfOk, OfEachLog, Tells};
 ghost use Rattle.wt_driver_state.specs.DriverValue.{IsAmong, with_state, without_first};
 ghost use Rattle.wt_dispatch.specs.Found.{due_as};
-ghost use Rattle.wt_driver_state.specs.Given.{ended_or_pending, given_by, is_own, next_datagram_now, payload_by, payload_in};
+ghost use Rattle.wt_driver_state.specs.PollResults.{ended_or_pending, given_by, is_own, next_datagram_now, payload_by, payload_in};
 ghost use Rattle.wt_driver_state.specs.Moving.{front_of};
 ghost use Rattle.wt_driver_state.specs.Results.{result_of};
 ghost use Rattle.wt_scan.specs.Scanning.{unless_given_up};
@@ -63,7 +63,8 @@ impl Driver {
 
     /// An accept gave the stream, or passed it.
     pub(super) fn release(&mut self, id: StreamId)
-        ensures release { IsAmong 4 id self.old.state.unis → IsAmong 1 id self.old.state.bis → self.new ≡ with_state self.old (release id self.old.state) }
+        ensures release { IsAmong 4 id self.old.state.unis → IsAmong 1 id self.old.state.bis
+            → self.new ≡ with_state self.old (release id self.old.state) }
         ensures inbox { self.new.inbox ≡ self.old.inbox }
         ensures queue { self.new.queue ≡ self.old.queue }
         ensures settings { self.new.settings ≡ self.old.settings }
@@ -76,7 +77,8 @@ impl Driver {
 
     /// Nothing of a stream is read any more, where it can receive: its bytes are let go.
     pub(super) fn give_up(&mut self, id: StreamId)
-        ensures log { (side : Side) (log : Log) (stage : ℕ → Stage) (untaken : List Action) → Refines side self.old.inbox log stage untaken → Refines side self.new.inbox log (with_stage stage id (unless_given_up (can_receive side log id) (stage id))) untaken }
+        ensures log { (side : Side) (log : Log) (stage : ℕ → Stage) (untaken : List Action) → Refines side self.old.inbox log stage untaken
+            → Refines side self.new.inbox log (with_stage stage id (unless_given_up (can_receive side log id) (stage id))) untaken }
         ensures state { self.new.state ≡ record self.old.state { is_open = self.new.inbox.transport.is_open } }
         ensures queue { self.new.queue ≡ self.old.queue }
         ensures settings { self.new.settings ≡ self.old.settings }
@@ -89,8 +91,10 @@ impl Driver {
 
     /// An accept passed the stream: its bytes are let go.
     pub(super) fn pass(&mut self, id: StreamId)
-        ensures log { (side : Side) (log : Log) (stage : ℕ → Stage) (untaken : List Action) → Refines side self.old.inbox log stage untaken → Refines side self.new.inbox log (with_stage stage id (unless_given_up (can_receive side log id) (stage id))) untaken }
-        ensures state { IsAmong 4 id self.old.state.unis → IsAmong 1 id self.old.state.bis → self.new.state ≡ record (release id self.old.state) { is_open = self.new.inbox.transport.is_open } }
+        ensures log { (side : Side) (log : Log) (stage : ℕ → Stage) (untaken : List Action) → Refines side self.old.inbox log stage untaken
+            → Refines side self.new.inbox log (with_stage stage id (unless_given_up (can_receive side log id) (stage id))) untaken }
+        ensures state { IsAmong 4 id self.old.state.unis → IsAmong 1 id self.old.state.bis
+            → self.new.state ≡ record (release id self.old.state) { is_open = self.new.inbox.transport.is_open } }
         ensures queue { self.new.queue ≡ self.old.queue }
         ensures settings { self.new.settings ≡ self.old.settings }
         ensures has_given { self.new.has_given_settings ≡ self.old.has_given_settings }
@@ -101,22 +105,24 @@ impl Driver {
 
     /// A stream of another session is stopped and passed, and the work of that moment is done.
     fn pass_stream(&mut self, id: StreamId) -> Result<(), OutOfMemory>
-        ensures log { OfEachLog self.old (λ side log taken. MayAct side log (passing_stop id) → MayBeCalled side (Sent (passing_stop id) ∷ log) (StreamPassed id)
+        ensures log { OfEachLog self.old (λ side log taken. MayAct side log (passing_stop id)
+            → MayBeCalled side (Sent (passing_stop id) ∷ log) (StreamPassed id)
             → OnOk result (Follows side self.new (pass_stream side log id) taken)) }
         ensures has_given { OnOk result (self.new.has_given_settings ≡ self.old.has_given_settings) }
     {
         let code = ErrorCode::BufferedStreamRejected.to_code();
         self.act(Action::StopOut { id, code })?;
-        self.called(&Record::StreamPassed(id))
+        self.record_call(&Record::StreamPassed(id))
     }
 
     /// A stream of the session is given, and the work of that moment is done.
     fn give_stream(&mut self, id: StreamId) -> Result<(), OutOfMemory>
-        ensures log { OfEachLog self.old (λ side log taken. MayBeCalled side log (StreamAccepted id) → OnOk result (Follows side self.new (log_and_flush side log (Called (StreamAccepted id))) taken)) }
+        ensures log { OfEachLog self.old (λ side log taken. MayBeCalled side log (StreamAccepted id)
+            → OnOk result (Follows side self.new (log_and_flush side log (Called (StreamAccepted id))) taken)) }
         ensures has_given { OnOk result (self.new.has_given_settings ≡ self.old.has_given_settings) }
     {
         self.release(id);
-        self.work()
+        self.scan_and_flush()
     }
 
     fn next_due(&self, kind: u64, session: SessionId) -> Option<(StreamId, bool)>
@@ -127,7 +133,7 @@ impl Driver {
     }
 
     /// The session's next stream of the kind with these low two bits: streams of other sessions in
-    /// front of it are passed, and behind each it looks again, at most so many times.
+    /// front of it are passed, and after each it looks again, at most so many times.
     fn accept(
         &mut self,
         kind: u64,
@@ -175,8 +181,10 @@ impl Driver {
         looks: u64,
     ) -> Result<Poll<Result<StreamId, DriverError>>, OutOfMemory>
         ensures log { FollowsIfOk result self.old self.new (λ side log. (take_due (log_streams side kind session) (suc looks) log).state) }
-        ensures given { Tells self.old (λ side log. IfOk result (λ p. given_by p ≡ (take_due (log_streams side kind session) (suc looks) log).given)) }
-        ensures nothing { IfOk result (λ p. given_by p ≡ None → p ≡ ended_or_pending (result_of self.new.state.is_open self.new.state.progress.ending)) }
+        ensures given { Tells self.old (λ side log. IfOk result (λ p. given_by p
+            ≡ (take_due (log_streams side kind session) (suc looks) log).given)) }
+        ensures nothing { IfOk result (λ p. given_by p ≡ None
+            → p ≡ ended_or_pending (result_of self.new.state.is_open self.new.state.progress.ending)) }
         ensures has_given { OnOk result (self.new.has_given_settings ≡ self.old.has_given_settings) }
     {
         match self.accept(kind, session, looks)? {
@@ -192,7 +200,8 @@ impl Driver {
     ) -> Result<Poll<Result<StreamId, DriverError>>, OutOfMemory>
         ensures log { FollowsIfOk result self.old self.new (λ side log. (accept_outcome side (peer_uni side) log session).state) }
         ensures given { Tells self.old (λ side log. IfOk result (λ p. given_by p ≡ (accept_outcome side (peer_uni side) log session).given)) }
-        ensures nothing { IfOk result (λ p. given_by p ≡ None → p ≡ ended_or_pending (result_of self.new.state.is_open self.new.state.progress.ending)) }
+        ensures nothing { IfOk result (λ p. given_by p ≡ None
+            → p ≡ ended_or_pending (result_of self.new.state.is_open self.new.state.progress.ending)) }
         ensures has_given { OnOk result (self.new.has_given_settings ≡ self.old.has_given_settings) }
     {
         let kind = peer_uni(self.inbox.side());
@@ -207,7 +216,8 @@ impl Driver {
     ) -> Result<Poll<Result<StreamId, DriverError>>, OutOfMemory>
         ensures log { FollowsIfOk result self.old self.new (λ side log. (accept_outcome side (peer_bi side) log session).state) }
         ensures given { Tells self.old (λ side log. IfOk result (λ p. given_by p ≡ (accept_outcome side (peer_bi side) log session).given)) }
-        ensures nothing { IfOk result (λ p. given_by p ≡ None → p ≡ ended_or_pending (result_of self.new.state.is_open self.new.state.progress.ending)) }
+        ensures nothing { IfOk result (λ p. given_by p ≡ None
+            → p ≡ ended_or_pending (result_of self.new.state.is_open self.new.state.progress.ending)) }
         ensures has_given { OnOk result (self.new.has_given_settings ≡ self.old.has_given_settings) }
     {
         let kind = peer_bi(self.inbox.side());
@@ -221,7 +231,7 @@ impl Driver {
     fn next_datagram(&self, session: SessionId) -> Option<bool>
         ensures { result ≡ is_own session (next_datagram_now self.now) }
     {
-        if self.settled >= self.progress.datagrams() {
+        if self.settled_datagrams >= self.progress.datagrams() {
             return None;
         }
         match self.queue.front() {
@@ -232,7 +242,8 @@ impl Driver {
 
     /// The datagram in front is received or passed.
     pub(super) fn settle_datagram(&mut self) -> Result<(), OutOfMemory>
-        ensures { OnOk result (self.new ≡ record self.old { state = record self.old.state { datagrams = suc self.old.state.datagrams }; queue = without_first self.old.queue }) }
+        ensures { OnOk result (self.new
+            ≡ record self.old { state = record self.old.state { datagrams = suc self.old.state.datagrams }; queue = without_first self.old.queue }) }
     {
         let _piece = self.take_front()?;
         Ok(())
@@ -240,12 +251,13 @@ impl Driver {
 
     fn take_front(&mut self) -> Result<Option<Piece>, OutOfMemory>
         ensures piece { IfOk result (λ piece. piece ≡ front_of self.old.queue) }
-        ensures settled { OnOk result (self.new ≡ record self.old { state = record self.old.state { datagrams = suc self.old.state.datagrams }; queue = without_first self.old.queue }) }
+        ensures advanced { OnOk result (self.new
+            ≡ record self.old { state = record self.old.state { datagrams = suc self.old.state.datagrams }; queue = without_first self.old.queue }) }
     {
-        match self.settled.checked_add(1) {
+        match self.settled_datagrams.checked_add(1) {
             None => Err(OutOfMemory),
-            Some(settled) => {
-                self.settled = settled;
+            Some(settled_datagrams) => {
+                self.settled_datagrams = settled_datagrams;
                 Ok(self.queue.pop_front())
             }
         }
@@ -254,19 +266,21 @@ impl Driver {
     /// The same, with the work of that moment; the datagram is given.
     fn take_datagram(&mut self) -> Result<Option<Piece>, OutOfMemory>
         ensures piece { IfOk result (λ piece. piece ≡ front_of self.old.queue) }
-        ensures log { (side : Side) (log : Log) (taken : ℕ) (r : CallRecord) → Follows side self.old log taken → settles_datagram r ≡ true → MayBeCalled side log r
+        ensures log { (side : Side) (log : Log) (taken : ℕ) (r : CallRecord) → Follows side self.old log taken → settles_datagram r ≡ true
+            → MayBeCalled side log r
             → OnOk result (Follows side self.new (log_and_flush side log (Called r)) taken) }
         ensures has_given { OnOk result (self.new.has_given_settings ≡ self.old.has_given_settings) }
     {
         let piece = self.take_front()?;
-        self.work()?;
+        self.scan_and_flush()?;
         Ok(piece)
     }
 
     /// The session's next datagram, whole: those of other sessions in front of it are passed.
     fn receive(&mut self, session: SessionId) -> Result<Option<Piece>, OutOfMemory>
         ensures log { FollowsIfOk result self.old self.new (λ side log. (receive_outcome side log session).state) }
-        ensures given { Tells self.old (λ side log. IfOk result (λ piece. payload_in (read_datagram piece) ≡ (receive_outcome side log session).given)) }
+        ensures given { Tells self.old (λ side log. IfOk result (λ piece. payload_in (read_datagram piece)
+            ≡ (receive_outcome side log session).given)) }
         ensures nothing { IfOk result (λ piece. payload_in (read_datagram piece) ≡ None → piece ≡ None) }
         ensures own { IfOk result (λ given. (piece : List ℕ) → given ≡ Some piece → is_own session (read_datagram given) ≡ Some true) }
         ensures has_given { OnOk result (self.new.has_given_settings ≡ self.old.has_given_settings) }
@@ -294,7 +308,8 @@ impl Driver {
     ) -> Result<Poll<Result<Piece, DriverError>>, OutOfMemory>
         ensures log { FollowsIfOk result self.old self.new (λ side log. (receive_outcome side log session).state) }
         ensures given { Tells self.old (λ side log. IfOk result (λ p. payload_by p ≡ (receive_outcome side log session).given)) }
-        ensures nothing { IfOk result (λ p. payload_by p ≡ None → p ≡ ended_or_pending (result_of self.new.state.is_open self.new.state.progress.ending)) }
+        ensures nothing { IfOk result (λ p. payload_by p ≡ None
+            → p ≡ ended_or_pending (result_of self.new.state.is_open self.new.state.progress.ending)) }
         ensures own { IfOk result (λ p. (piece : List ℕ) → given_by p ≡ Some piece → is_own session (read_datagram (given_by p)) ≡ Some true) }
         ensures has_given { OnOk result (self.new.has_given_settings ≡ self.old.has_given_settings) }
     {

@@ -64,7 +64,8 @@ impl Driver {
 
     /// The peer opened its next unidirectional stream.
     fn open_peer_uni(&mut self) -> Result<(), OutOfMemory>
-        ensures { OnOk result (self.new ≡ with_state self.old (record self.old.state { unis = self.old.state.unis ++ new_slot (4 * peer_unis_now self.old.inbox.transport + peer_uni self.old.inbox.transport.side) ∷ [] })) }
+        ensures { OnOk result (self.new
+            ≡ with_state self.old (record self.old.state { unis = self.old.state.unis ++ new_slot (4 * peer_unis_now self.old.inbox.transport + peer_uni self.old.inbox.transport.side) ∷ [] })) }
     {
         let id = self.next_peer_uni()?;
         self.unis.push_back(Slot::arrived(id))?;
@@ -73,7 +74,8 @@ impl Driver {
 
     /// The peer opened its next bidirectional stream.
     fn open_peer_bi(&mut self) -> Result<(), OutOfMemory>
-        ensures { OnOk result (self.new ≡ with_state self.old (record self.old.state { bis = self.old.state.bis ++ new_slot (4 * peer_bis_now self.old.inbox.transport + peer_bi self.old.inbox.transport.side) ∷ [] })) }
+        ensures { OnOk result (self.new
+            ≡ with_state self.old (record self.old.state { bis = self.old.state.bis ++ new_slot (4 * peer_bis_now self.old.inbox.transport + peer_bi self.old.inbox.transport.side) ∷ [] })) }
     {
         let id = self.next_peer_bi()?;
         self.bis.push_back(Slot::arrived(id))?;
@@ -91,7 +93,8 @@ impl Driver {
     /// What came while the connection is open, but for bytes.
     fn note_arrival(&mut self, turn: &Turn) -> Result<(), OutOfMemory>
         ensures inbox { OnOk result (self.new.inbox ≡ self.old.inbox) }
-        ensures log { (side : Side) (log : Log) (stage : ℕ → Stage) (untaken : List Action) → Refines side self.old.inbox log stage untaken → is_open log ≡ true
+        ensures log { (side : Side) (log : Log) (stage : ℕ → Stage) (untaken : List Action) → Refines side self.old.inbox log stage untaken
+            → is_open log ≡ true
             → OnOk result (self.new ≡ after_arrival (transport_view side log) (event_of turn.now) self.old) }
         ensures has_given { OnOk result (self.new.has_given_settings ≡ self.old.has_given_settings) }
     {
@@ -105,7 +108,8 @@ impl Driver {
 
     fn note_arrival_while_open(&mut self, turn: &Turn) -> Result<(), OutOfMemory>
         ensures inbox { OnOk result (self.new.inbox ≡ self.old.inbox) }
-        ensures log { (side : Side) (log : Log) (stage : ℕ → Stage) (untaken : List Action) → Refines side self.old.inbox log stage untaken → is_open log ≡ true
+        ensures log { (side : Side) (log : Log) (stage : ℕ → Stage) (untaken : List Action) → Refines side self.old.inbox log stage untaken
+            → is_open log ≡ true
             → OnOk result (self.new ≡ after_arrival (transport_view side log) (event_of turn.now) self.old) }
         ensures late { OnOk result (self.old.state.is_open ≡ false → self.new ≡ self.old) }
         ensures has_given { OnOk result (self.new.has_given_settings ≡ self.old.has_given_settings) }
@@ -131,7 +135,8 @@ impl Driver {
     /// Takes in what the transport tells, but for bytes.
     fn note_turn(&mut self, turn: &Turn) -> Result<(), OutOfMemory>
         requires { IsTrue (fits_now self.old.inbox.transport turn.now) }
-        ensures log { (side : Side) (log : Log) (taken : ℕ) (e : Event) → Follows side self.old log taken → event_of turn.now ≡ Some e → OnOk result (EventTaken side log e self.new taken) }
+        ensures log { (side : Side) (log : Log) (taken : ℕ) (e : Event) → Follows side self.old log taken → event_of turn.now ≡ Some e
+            → OnOk result (EventTaken side log e self.new taken) }
         ensures has_given { OnOk result (self.new.has_given_settings ≡ self.old.has_given_settings) }
     {
         self.note_arrival_while_open(turn)?;
@@ -141,16 +146,18 @@ impl Driver {
     /// Takes in an event, and does the work of its moment.
     fn take_event(&mut self, turn: &Turn) -> Result<(), OutOfMemory>
         requires { IsTrue (fits_now self.old.inbox.transport turn.now) }
-        ensures log { (side : Side) (log : Log) (taken : ℕ) (e : Event) → Follows side self.old log taken → event_of turn.now ≡ Some e → OnOk result (Follows side self.new (log_after side log turn.now) taken) }
+        ensures log { (side : Side) (log : Log) (taken : ℕ) (e : Event) → Follows side self.old log taken → event_of turn.now ≡ Some e
+            → OnOk result (Follows side self.new (log_after side log turn.now) taken) }
         ensures has_given { OnOk result (self.new.has_given_settings ≡ self.old.has_given_settings) }
     {
         self.note_turn(turn)?;
-        self.work()
+        self.scan_and_flush()
     }
 
     /// Takes in one byte of a stream.
     fn note_byte(&mut self, id: StreamId, byte: u8) -> Result<(), OutOfMemory>
-        ensures log { (side : Side) (log : Log) (stage : ℕ → Stage) (untaken : List Action) → Refines side self.old.inbox log stage untaken → fits side log (turns.Bytes id (byte ∷ [])) ≡ true
+        ensures log { (side : Side) (log : Log) (stage : ℕ → Stage) (untaken : List Action) → Refines side self.old.inbox log stage untaken
+            → fits side log (turns.Bytes id (byte ∷ [])) ≡ true
             → OnOk result (Refines side self.new.inbox (log_turn log (turns.Bytes id (byte ∷ []))) stage untaken) }
         ensures state { OnOk result (self.new.state ≡ record self.old.state { is_open = self.new.inbox.transport.is_open }) }
         ensures queue { OnOk result (self.new.queue ≡ self.old.queue) }
@@ -165,16 +172,18 @@ impl Driver {
 
     /// One byte of a stream, with the work of its moment.
     fn take_byte(&mut self, id: StreamId, byte: u8) -> Result<(), OutOfMemory>
-        ensures log { OfEachLog self.old (λ side log taken. fits side log (turns.Bytes id (byte ∷ [])) ≡ true → OnOk result (Follows side self.new (receive side log id (byte ∷ [])) taken)) }
+        ensures log { OfEachLog self.old (λ side log taken. fits side log (turns.Bytes id (byte ∷ [])) ≡ true
+            → OnOk result (Follows side self.new (receive side log id (byte ∷ [])) taken)) }
         ensures has_given { OnOk result (self.new.has_given_settings ≡ self.old.has_given_settings) }
     {
         self.note_byte(id, byte)?;
-        self.work()
+        self.scan_and_flush()
     }
 
     /// Bytes of a stream, one after another.
     fn take_bytes(&mut self, id: StreamId, bytes: &[u8]) -> Result<(), OutOfMemory>
-        ensures log { OfEachLog self.old (λ side log taken. fits side log (turns.Bytes id bytes.now) ≡ true → OnOk result (Follows side self.new (receive side log id bytes.now) taken)) }
+        ensures log { OfEachLog self.old (λ side log taken. fits side log (turns.Bytes id bytes.now) ≡ true
+            → OnOk result (Follows side self.new (receive side log id bytes.now) taken)) }
         ensures has_given { OnOk result (self.new.has_given_settings ≡ self.old.has_given_settings) }
     {
         let mut at = 0;
@@ -188,7 +197,8 @@ impl Driver {
     /// Takes a turn of the transport, and does the work of its moments: bytes come one after another.
     pub fn turn(&mut self, turn: &Turn) -> Result<(), OutOfMemory>
         requires { IsTrue (fits_now self.old.inbox.transport turn.now) }
-        ensures log { OfEachLog self.old (λ side log taken. is_call turn.now ≡ false → OnOk result (Follows side self.new (log_after side log turn.now) taken)) }
+        ensures log { OfEachLog self.old (λ side log taken. is_call turn.now ≡ false
+            → OnOk result (Follows side self.new (log_after side log turn.now) taken)) }
         ensures has_given { OnOk result (self.new.has_given_settings ≡ self.old.has_given_settings) }
     {
         match turn {

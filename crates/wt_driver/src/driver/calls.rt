@@ -88,7 +88,7 @@ impl Driver {
         ensures has_given { OnOk result (self.new.has_given_settings ≡ self.old.has_given_settings) }
     {
         self.close_if_open(code, reason)?;
-        self.called(&Record::Polled)
+        self.record_call(&Record::Polled)
     }
 
     /// A close goes out where the connection is open; the moment of the call comes after it.
@@ -123,7 +123,8 @@ impl Driver {
 
     /// Takes in what a call did.
     fn note_call(&mut self, call: &Record) -> Result<(), OutOfMemory>
-        ensures log { OfEachLog self.old (λ side log taken. MayBeCalled side log (record_of call.now) → OnOk result (TakenIn side log (Called (record_of call.now)) self.new taken)) }
+        ensures log { OfEachLog self.old (λ side log taken. MayBeCalled side log (record_of call.now)
+            → OnOk result (TakenIn side log (Called (record_of call.now)) self.new taken)) }
         ensures has_given { OnOk result (self.new.has_given_settings ≡ self.old.has_given_settings) }
     {
         match call {
@@ -143,7 +144,8 @@ impl Driver {
     /// Takes in what a call did of which no work comes: bytes that were read, a priority, or what isn't
     /// kept here.
     fn note_reading(&mut self, call: &Record)
-        ensures log { OfEachLog self.old (λ side log taken. MayBeCalled side log (record_of call.now) → leaves_at_rest (record_of call.now) ≡ true → TakenIn side log (Called (record_of call.now)) self.new taken) }
+        ensures log { OfEachLog self.old (λ side log taken. MayBeCalled side log (record_of call.now)
+            → leaves_at_rest (record_of call.now) ≡ true → TakenIn side log (Called (record_of call.now)) self.new taken) }
         ensures has_given { self.new.has_given_settings ≡ self.old.has_given_settings }
     {
         match call {
@@ -155,7 +157,8 @@ impl Driver {
 
     /// A reset after the end: it counts, and nothing goes out.
     fn reset_unsent(&mut self, id: StreamId, code: VarInt) -> Result<(), OutOfMemory>
-        ensures log { (side : Side) (log : Log) (stage : ℕ → Stage) (untaken : List Action) → Refines side self.old.inbox log stage untaken → is_open log ≡ false → can_send side log id ≡ true
+        ensures log { (side : Side) (log : Log) (stage : ℕ → Stage) (untaken : List Action) → Refines side self.old.inbox log stage untaken
+            → is_open log ≡ false → can_send side log id ≡ true
             → OnOk result (Refines side self.new.inbox (Called (ResetUnsent id code) ∷ log) stage untaken) }
         ensures state { OnOk result (self.new.state ≡ record self.old.state { is_open = self.new.inbox.transport.is_open }) }
         ensures queue { OnOk result (self.new.queue ≡ self.old.queue) }
@@ -167,7 +170,8 @@ impl Driver {
 
     /// So many unread bytes of a stream are read.
     fn consume(&mut self, id: StreamId, count: usize)
-        ensures log { (side : Side) (log : Log) (stage : ℕ → Stage) (untaken : List Action) (offset : ℕ) → Refines side self.old.inbox log stage untaken → body_offset (stage id) ≡ Some offset
+        ensures log { (side : Side) (log : Log) (stage : ℕ → Stage) (untaken : List Action) (offset : ℕ)
+            → Refines side self.old.inbox log stage untaken → body_offset (stage id) ≡ Some offset
             → count ≤ length (drop offset (contents log id)) → Refines side self.new.inbox log (with_stage stage id (Body (offset + count))) untaken }
         ensures state { self.new.state ≡ record self.old.state { is_open = self.new.inbox.transport.is_open } }
         ensures queue { self.new.queue ≡ self.old.queue }
@@ -185,11 +189,14 @@ impl Driver {
         self.dispatched.deliver(id);
     }
 
-    /// A client lets its response go, and reads on behind it.
+    /// A client lets its response go, and reads on after it.
     fn pass_response(&mut self, id: StreamId) -> Result<(), OutOfMemory>
-        ensures client { (log : Log) (stage : ℕ → Stage) (untaken : List Action) (at : ℕ) → Refines Client self.old.inbox log stage untaken → awaits_response (stage id) ≡ true
-            → response_offset (response_walk_of (contents log id) (end_of (events_of log) id)) ≡ Some at → OnOk result (Refines Client self.new.inbox log (with_stage stage id (Body at)) untaken) }
-        ensures server { (log : Log) (stage : ℕ → Stage) (untaken : List Action) → Refines Server self.old.inbox log stage untaken → OnOk result (Refines Server self.new.inbox log stage untaken) }
+        ensures client { (log : Log) (stage : ℕ → Stage) (untaken : List Action) (at : ℕ) → Refines Client self.old.inbox log stage untaken
+            → awaits_response (stage id) ≡ true
+            → response_offset (response_walk_of (contents log id) (end_of (events_of log) id)) ≡ Some at
+            → OnOk result (Refines Client self.new.inbox log (with_stage stage id (Body at)) untaken) }
+        ensures server { (log : Log) (stage : ℕ → Stage) (untaken : List Action) → Refines Server self.old.inbox log stage untaken
+            → OnOk result (Refines Server self.new.inbox log stage untaken) }
         ensures state { OnOk result (self.new.state ≡ record self.old.state { is_open = self.new.inbox.transport.is_open }) }
         ensures queue { OnOk result (self.new.queue ≡ self.old.queue) }
         ensures settings { OnOk result (self.new.settings ≡ self.old.settings) }
@@ -209,9 +216,12 @@ impl Driver {
 
     /// The session is established: its part of the stream begins at this offset.
     fn establish(&mut self, id: StreamId, at: usize) -> Result<(), OutOfMemory>
-        ensures client { (log : Log) (stage : ℕ → Stage) (untaken : List Action) → Refines Client self.old.inbox log stage untaken → awaits_response (stage id) ≡ true
-            → response_offset (response_walk_of (contents log id) (end_of (events_of log) id)) ≡ Some at → OnOk result (Refines Client self.new.inbox log (with_stage stage id (Body at)) untaken) }
-        ensures server { (log : Log) (stage : ℕ → Stage) (untaken : List Action) → Refines Server self.old.inbox log stage untaken → OnOk result (Refines Server self.new.inbox log stage untaken) }
+        ensures client { (log : Log) (stage : ℕ → Stage) (untaken : List Action) → Refines Client self.old.inbox log stage untaken
+            → awaits_response (stage id) ≡ true
+            → response_offset (response_walk_of (contents log id) (end_of (events_of log) id)) ≡ Some at
+            → OnOk result (Refines Client self.new.inbox log (with_stage stage id (Body at)) untaken) }
+        ensures server { (log : Log) (stage : ℕ → Stage) (untaken : List Action) → Refines Server self.old.inbox log stage untaken
+            → OnOk result (Refines Server self.new.inbox log stage untaken) }
         ensures state { OnOk result (self.new.state ≡ record self.old.state { session = Some (id, at); is_open = self.new.inbox.transport.is_open }) }
         ensures queue { OnOk result (self.new.queue ≡ self.old.queue) }
         ensures settings { OnOk result (self.new.settings ≡ self.old.settings) }
@@ -223,7 +233,8 @@ impl Driver {
     }
 
     fn set_priority(&mut self, id: StreamId, priority: i32)
-        ensures log { (side : Side) (log : Log) (stage : ℕ → Stage) (untaken : List Action) → Refines side self.old.inbox log stage untaken → can_send side log id ≡ true
+        ensures log { (side : Side) (log : Log) (stage : ℕ → Stage) (untaken : List Action) → Refines side self.old.inbox log stage untaken
+            → can_send side log id ≡ true
             → Refines side self.new.inbox (Called (PrioritySet id priority) ∷ log) stage untaken }
         ensures state { self.new.state ≡ record self.old.state { is_open = self.new.inbox.transport.is_open } }
         ensures queue { self.new.queue ≡ self.old.queue }
@@ -237,18 +248,20 @@ impl Driver {
 
     /// Takes in what a call did, and does the work of its moment. What the call sent of its own is put
     /// out before.
-    pub fn called(&mut self, call: &Record) -> Result<(), OutOfMemory>
-        ensures log { OfEachLog self.old (λ side log taken. MayBeCalled side log (record_of call.now) → OnOk result (Follows side self.new (log_and_flush side log (Called (record_of call.now))) taken)) }
+    pub fn record_call(&mut self, call: &Record) -> Result<(), OutOfMemory>
+        ensures log { OfEachLog self.old (λ side log taken. MayBeCalled side log (record_of call.now)
+            → OnOk result (Follows side self.new (log_and_flush side log (Called (record_of call.now))) taken)) }
         ensures has_given { OnOk result (self.new.has_given_settings ≡ self.old.has_given_settings) }
     {
         self.note_call(call)?;
-        self.work()
+        self.scan_and_flush()
     }
 
     /// Takes in what a call did of which no work comes: a driver at rest stays so. It takes no memory.
     pub fn note_at_rest(&mut self, call: &Record)
         requires { leaves_at_rest (record_of call.now) ≡ true }
-        ensures log { OfEachLog self.old (λ side log taken. MayBeCalled side log (record_of call.now) → Follows side self.new (log_and_flush side log (Called (record_of call.now))) taken) }
+        ensures log { OfEachLog self.old (λ side log taken. MayBeCalled side log (record_of call.now)
+            → Follows side self.new (log_and_flush side log (Called (record_of call.now))) taken) }
         ensures has_given { self.new.has_given_settings ≡ self.old.has_given_settings }
     {
         self.note_reading(call);
@@ -258,7 +271,8 @@ impl Driver {
     // ---- what calls send
 
     fn put_out(&mut self, action: Action) -> Result<(), OutOfMemory>
-        ensures log { (side : Side) (log : Log) (stage : ℕ → Stage) (untaken : List Action) → Refines side self.old.inbox log stage untaken → MayAct side log action
+        ensures log { (side : Side) (log : Log) (stage : ℕ → Stage) (untaken : List Action) → Refines side self.old.inbox log stage untaken
+            → MayAct side log action
             → OnOk result (Refines side self.new.inbox (Sent action ∷ log) stage (action ∷ untaken)) }
         ensures state { OnOk result (self.new.state ≡ record self.old.state { is_open = self.new.inbox.transport.is_open }) }
         ensures queue { OnOk result (self.new.queue ≡ self.old.queue) }
@@ -270,7 +284,8 @@ impl Driver {
 
     /// An action of a call goes out.
     pub fn act(&mut self, action: Action) -> Result<(), OutOfMemory>
-        ensures log { OfEachLog self.old (λ side log taken. MayAct side log action → SparesControl side log action → OnOk result (Follows side self.new (Sent action ∷ log) taken)) }
+        ensures log { OfEachLog self.old (λ side log taken. MayAct side log action → SparesControl side log action
+            → OnOk result (Follows side self.new (Sent action ∷ log) taken)) }
         ensures has_given { OnOk result (self.new.has_given_settings ≡ self.old.has_given_settings) }
     {
         self.put_out(action)
@@ -279,9 +294,11 @@ impl Driver {
     // ---- the handshake
 
     fn read_response(&mut self, id: StreamId) -> Result<ResponseWalk, OutOfMemory>
-        ensures answer { (side : Side) (log : Log) (stage : ℕ → Stage) (untaken : List Action) → Refines side self.old.inbox log stage untaken → awaits_response (stage id) ≡ true
+        ensures answer { (side : Side) (log : Log) (stage : ℕ → Stage) (untaken : List Action)
+            → Refines side self.old.inbox log stage untaken → awaits_response (stage id) ≡ true
             → IfOk result (λ walk. walk ≡ response_walk_of (contents log id) (end_of (events_of log) id)) }
-        ensures log { (side : Side) (log : Log) (stage : ℕ → Stage) (untaken : List Action) → Refines side self.old.inbox log stage untaken → awaits_response (stage id) ≡ true
+        ensures log { (side : Side) (log : Log) (stage : ℕ → Stage) (untaken : List Action) → Refines side self.old.inbox log stage untaken
+            → awaits_response (stage id) ≡ true
             → OnOk result (Refines side self.new.inbox log (with_stage stage id ResponseHead) untaken) }
         ensures state { OnOk result (self.new.state ≡ self.old.state) }
         ensures queue { OnOk result (self.new.queue ≡ self.old.queue) }
@@ -294,7 +311,8 @@ impl Driver {
     /// The response on a client's request stream, as far as it came. Nothing of it is let go.
     pub fn response(&mut self, id: StreamId) -> Result<ResponseWalk, OutOfMemory>
         ensures log { OfEachLog self.old (λ side log taken. AwaitsResponse side log id → OnOk result (Follows side self.new log taken)) }
-        ensures answer { Tells self.old (λ side log. AwaitsResponse side log id → IfOk result (λ walk. walk ≡ response_walk_of (contents log id) (end_of (events_of log) id))) }
+        ensures answer { Tells self.old (λ side log. AwaitsResponse side log id
+            → IfOk result (λ walk. walk ≡ response_walk_of (contents log id) (end_of (events_of log) id))) }
         ensures state { OnOk result (self.new.state ≡ self.old.state) }
         ensures queue { OnOk result (self.new.queue ≡ self.old.queue) }
         ensures settings { OnOk result (self.new.settings ≡ self.old.settings) }
@@ -343,8 +361,10 @@ impl Driver {
 
     /// Gives the SETTINGS that are due.
     fn give_settings(&mut self) -> Result<Poll<Result<Settings, DriverError>>, OutOfMemory>
-        ensures answer { IfOk result (λ p. p ≡ settings_or (due_settings self.old) (result_of self.old.state.is_open self.old.state.progress.ending)) }
-        ensures value { OnOk result (self.new ≡ record self.old { has_given_settings = is_some (due_settings self.old) || self.old.has_given_settings }) }
+        ensures answer { IfOk result (λ p. p
+            ≡ settings_or (due_settings self.old) (result_of self.old.state.is_open self.old.state.progress.ending)) }
+        ensures value { OnOk result (self.new
+            ≡ record self.old { has_given_settings = is_some (due_settings self.old) || self.old.has_given_settings }) }
         ensures log { FollowsIfOk result self.old self.new (λ side log. log) }
     {
         let due = self.due_settings();
@@ -354,10 +374,13 @@ impl Driver {
 
     /// The peer's SETTINGS, once; later, or without them, the result or Pending.
     pub fn accept_settings(&mut self) -> Result<Poll<Result<Settings, DriverError>>, OutOfMemory>
-        ensures answer { IfOk result (λ p. p ≡ settings_or (due_settings self.old) (result_of self.old.state.is_open self.old.state.progress.ending)) }
+        ensures answer { IfOk result (λ p. p
+            ≡ settings_or (due_settings self.old) (result_of self.old.state.is_open self.old.state.progress.ending)) }
         ensures given { (side : Side) (log : Log) (taken : ℕ) → Follows side self.old log taken
-            → IfOk result (λ p. p ≡ settings_or (unless_given self.old.has_given_settings (peer_settings side log)) (result_of self.old.state.is_open self.old.state.progress.ending)) }
-        ensures value { OnOk result (self.new ≡ record self.old { has_given_settings = is_some (due_settings self.old) || self.old.has_given_settings }) }
+            → IfOk result (λ p. p
+            ≡ settings_or (unless_given self.old.has_given_settings (peer_settings side log)) (result_of self.old.state.is_open self.old.state.progress.ending)) }
+        ensures value { OnOk result (self.new
+            ≡ record self.old { has_given_settings = is_some (due_settings self.old) || self.old.has_given_settings }) }
         ensures log { FollowsIfOk result self.old self.new (λ side log. log) }
     {
         self.give_settings()
@@ -372,7 +395,7 @@ impl Driver {
         None
     }
 
-    /// The request that is queued, once SETTINGS came: its stream, the request, and the offset behind it.
+    /// The request that is queued, once SETTINGS came: its stream, the request, and the offset after it.
     pub fn next_request(&self) -> Option<(StreamId, &SessionRequest, usize)>
         ensures now { request_as result ≡ first_request (requests_now self.now.state) }
         ensures none { Tells self.now (λ side log. result ≡ None → requests_now self.now.state ≡ []) }

@@ -3,7 +3,7 @@
 ghost use Rattle.std.specs.Prelude.{◌≡◌, IfOk, List, None, OnOk, false, is_some, true, ℕ};
 ghost use Rattle.wt_dispatch.specs.Requests.{first_request};
 ghost use Rattle.wt_driver_state.specs.OfLog.{FollowsIfOk, OfEachLog, Tells};
-ghost use Rattle.wt_driver_state.specs.Given.{ended_or_pending, given_by};
+ghost use Rattle.wt_driver_state.specs.PollResults.{ended_or_pending, given_by};
 ghost use Rattle.wt_driver_state.specs.Results.{result_of};
 ghost use Rattle.wt_driver_state.specs.Sessions.{first_given, may_register, opened_answer, waiting_requests, log_once_registered, registered_answer};
 ghost use Rattle.wt_driver_state.specs.Tie.{Follows};
@@ -27,32 +27,33 @@ use wt_wire::ids::StreamId;
 impl Driver {
     // ---- a server's request
 
-    /// A copy of the queued request: its stream, its fields, and the offset behind it.
+    /// A copy of the queued request: its stream, its fields, and the offset after it.
     fn copied_request(&self) -> Result<Option<(StreamId, HeaderList, usize)>, OutOfMemory>
-        ensures { IfOk result (λ told. told ≡ first_request self.now.state.dispatched.requests) }
+        ensures { IfOk result (λ reported. reported ≡ first_request self.now.state.dispatched.requests) }
     {
         match self.dispatched.first_request() {
-            Some((id, request, at)) => {
+            Some((id, request, offset)) => {
                 let fields = request.headers().copy()?;
-                Ok(Some((id, fields, at)))
+                Ok(Some((id, fields, offset)))
             }
             None => Ok(None),
         }
     }
 
-    /// Gives the queued request: its stream, its fields, and the offset behind it. It is queued no more.
+    /// Gives the queued request: its stream, its fields, and the offset after it. It is queued no more.
     /// Without one, the result of the connection or Pending.
     pub fn accept_session(
         &mut self,
     ) -> Result<Poll<Result<(StreamId, HeaderList, usize), DriverError>>, OutOfMemory>
         ensures given { IfOk result (λ p. given_by p ≡ first_request self.old.state.dispatched.requests) }
-        ensures nothing { IfOk result (λ p. given_by p ≡ None → p ≡ ended_or_pending (result_of self.old.state.is_open self.old.state.progress.ending)) }
+        ensures nothing { IfOk result (λ p. given_by p ≡ None
+            → p ≡ ended_or_pending (result_of self.old.state.is_open self.old.state.progress.ending)) }
         ensures log { FollowsIfOk result self.old self.new (λ side log. first_given side log (waiting_requests side log)) }
         ensures has_given { OnOk result (self.new.has_given_settings ≡ self.old.has_given_settings) }
     {
         match self.copied_request()? {
             Some(asked) => {
-                self.called(&Record::RequestDelivered(asked.0))?;
+                self.record_call(&Record::RequestDelivered(asked.0))?;
                 Ok(Poll::Ready(Ok(asked)))
             }
             None => self.nothing_left(),
@@ -62,7 +63,8 @@ impl Driver {
     // ---- a client's stream
 
     fn open_bi(&mut self) -> Result<Option<StreamId>, OutOfMemory>
-        ensures id { (side : Side) (log : Log) (stage : ℕ → Stage) (untaken : List Action) → Refines side self.old.inbox log stage untaken → IfOk result (λ id. id ≡ opened_id side log (local_bi side)) }
+        ensures id { (side : Side) (log : Log) (stage : ℕ → Stage) (untaken : List Action) → Refines side self.old.inbox log stage untaken
+            → IfOk result (λ id. id ≡ opened_id side log (local_bi side)) }
         ensures log { (side : Side) (log : Log) (stage : ℕ → Stage) (untaken : List Action) → Refines side self.old.inbox log stage untaken
             → OnOk result (Refines side self.new.inbox (with_actions (actions_to_open side log (local_bi side)) log) stage (newest_first (actions_to_open side log (local_bi side)) untaken)) }
         ensures state { OnOk result (self.new.state ≡ record self.old.state { is_open = self.new.inbox.transport.is_open }) }
@@ -92,14 +94,15 @@ impl Driver {
     // ---- the session
 
     /// Registers a session where none was registered.
-    fn register(&mut self, id: StreamId, at: usize) -> Result<(), OutOfMemory>
-        ensures log { OfEachLog self.old (λ side log taken. is_open log ≡ true → (may_register log ≡ true → MayBeCalled side log (SessionEstablished id at))
-            → OnOk result (Follows side self.new (log_once_registered side log id at) taken)) }
+    fn register(&mut self, id: StreamId, offset: usize) -> Result<(), OutOfMemory>
+        ensures log { OfEachLog self.old (λ side log taken. is_open log ≡ true
+            → (may_register log ≡ true → MayBeCalled side log (SessionEstablished id offset))
+            → OnOk result (Follows side self.new (log_once_registered side log id offset) taken)) }
         ensures further { OnOk result (is_some self.old.state.session ≡ true → self.new ≡ self.old) }
         ensures has_given { OnOk result (self.new.has_given_settings ≡ self.old.has_given_settings) }
     {
         match self.session() {
-            None => self.called(&Record::SessionEstablished(id, at)),
+            None => self.record_call(&Record::SessionEstablished(id, offset)),
             Some(_) => Ok(()),
         }
     }
@@ -109,10 +112,11 @@ impl Driver {
     pub fn register_session(
         &mut self,
         id: StreamId,
-        at: usize,
+        offset: usize,
     ) -> Result<Result<(), DriverError>, OutOfMemory>
         ensures answer { IfOk result (λ r. r ≡ registered_answer (result_of self.old.state.is_open self.old.state.progress.ending)) }
-        ensures log { OfEachLog self.old (λ side log taken. (may_register log ≡ true → MayBeCalled side log (SessionEstablished id at)) → OnOk result (Follows side self.new (log_once_registered side log id at) taken)) }
+        ensures log { OfEachLog self.old (λ side log taken. (may_register log ≡ true → MayBeCalled side log (SessionEstablished id offset))
+            → OnOk result (Follows side self.new (log_once_registered side log id offset) taken)) }
         ensures further { OnOk result (is_some self.old.state.session ≡ true → self.new ≡ self.old) }
         ensures late { OnOk result (self.old.state.is_open ≡ false → self.new ≡ self.old) }
         ensures has_given { OnOk result (self.new.has_given_settings ≡ self.old.has_given_settings) }
@@ -120,7 +124,7 @@ impl Driver {
         match self.result()? {
             Some(error) => Ok(Err(error)),
             None => {
-                self.register(id, at)?;
+                self.register(id, offset)?;
                 Ok(Ok(()))
             }
         }

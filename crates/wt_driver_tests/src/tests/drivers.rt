@@ -52,8 +52,8 @@ pub fn actions(driver: &mut Driver) -> Actions {
     driver.take_actions()
 }
 
-pub fn called(rt: &impl Abort, driver: &mut Driver, record: &Record) -> Reply {
-    driver.called(record).expect(rt, "no memory");
+pub fn record_call(rt: &impl Abort, driver: &mut Driver, record: &Record) -> Reply {
+    driver.record_call(record).expect(rt, "no memory");
     Reply::Done
 }
 
@@ -145,7 +145,7 @@ pub fn register(rt: &impl Abort, driver: &mut Driver, id: StreamId, at: usize) -
 /// How many bytes the response has, where it is there; a stream that ended without one is told as a rejection.
 pub fn response(rt: &impl Abort, driver: &mut Driver) -> Reply {
     match driver.response(stream(0)).expect(rt, "no memory") {
-        ResponseWalk::Waiting => Reply::Pending,
+        ResponseWalk::Incomplete => Reply::Pending,
         ResponseWalk::Response(_, at) => Reply::Count(at as u64),
         ResponseWalk::Ended => Reply::Rejected,
         ResponseWalk::Fault(code) => Reply::Failed(ended(DriverError::Proto(code))),

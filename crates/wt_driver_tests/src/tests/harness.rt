@@ -2,7 +2,7 @@
 //!
 //! A script has the lines of docs/FORMATS.md, "Scripts", without that of the side, and the further words of
 //! [`super::words`]; blanks around a line are left out. After a line may stand what it answers, as docs/FORMATS.md,
-//! "Printed lines", has it, behind `> `. A line without that answers `done`, and nothing goes out. For REQUEST stand
+//! "Printed lines", has it, after `> `. A line without that answers `done`, and nothing goes out. For REQUEST stand
 //! the bytes of [`REQUEST`]. A `~` stands between cases, each of which has a connection of its own.
 use super::drivers::{actions, new_driver};
 use super::words::reply;
@@ -105,14 +105,14 @@ fn printed(rt: &impl Abort, alloc: Global, reply: Reply, actions: Actions) -> Te
     print_answer(alloc, &Answer { reply, actions }).expect(rt, "no memory")
 }
 
-/// Runs a case behind the lines in front of it.
+/// Runs a case after the lines in front of it.
 fn run_case(rt: &impl Abort, alloc: Global, side: Side, front: &str, case: &str, is_whole: bool) {
     let mut run = Run::new(rt, alloc, side, is_whole);
     run.take_lines(rt, front);
     run.take_lines(rt, case);
 }
 
-/// Runs each case behind the lines in front of all, whole and byte by byte.
+/// Runs each case after the lines in front of all, whole and byte by byte.
 pub fn runs(rt: &impl Abort, alloc: Global, side: Side, front: &str, cases: &str) {
     for case in cases.split('~') {
         run_case(rt, alloc, side, front, case, true);

@@ -183,7 +183,7 @@ fn what_a_request_stream_brings(rt: HostRuntime) {
 #[test]
 fn a_critical_stream_must_not_end(rt: HostRuntime) {
     let cases = "
-        # The control stream, behind its SETTINGS.
+        # The control stream, after its SETTINGS.
         peer_uni
         bytes 2 000400
         end 2

@@ -14,8 +14,8 @@
 //! | `established ID AT` | a client's session is established |
 //! | `dial`, `open_request` | a client dials, and opens the stream of its request |
 use super::drivers::{
-    accept_bi, accept_session, accept_settings, accept_uni, act, called, close, dial, error,
-    has_request, open_session, receive_datagram, register, response, result, stream, take,
+    accept_bi, accept_session, accept_settings, accept_uni, act, close, dial, error, has_request,
+    open_session, receive_datagram, record_call, register, response, result, stream, take,
     take_each, unread,
 };
 use std::alloc::Global;
@@ -100,16 +100,16 @@ fn is_word(name: &str, word: &str) -> bool {
     name == word
 }
 
-fn told(is_so: bool) -> Reply {
+fn yes_or_no(is_so: bool) -> Reply {
     if is_so { Reply::Done } else { Reply::Pending }
 }
 
 fn bare_reply(rt: &impl Abort, alloc: Global, driver: &mut Driver, name: &str) -> Reply {
     if is_word(name, "is_open") {
-        return told(driver.is_open());
+        return yes_or_no(driver.is_open());
     }
     if is_word(name, "have_settings_come") {
-        return told(driver.have_settings_come());
+        return yes_or_no(driver.have_settings_come());
     }
     if is_word(name, "readers") {
         return Reply::Count(driver.readers() as u64);
@@ -139,23 +139,23 @@ fn id_and_number(rt: &impl Abort, fields: &str) -> (StreamId, usize) {
 fn numbered_reply(rt: &impl Abort, driver: &mut Driver, name: &str, fields: &str) -> Reply {
     let (id, number) = id_and_number(rt, fields);
     if is_word(name, "next_request") {
-        return told(has_request(driver, id, number));
+        return yes_or_no(has_request(driver, id, number));
     }
     if is_word(name, "session") {
-        return told(driver.session() == Some((id, number)));
+        return yes_or_no(driver.session() == Some((id, number)));
     }
     if is_word(name, "unread") {
-        return told(unread(driver, id) == number as u64);
+        return yes_or_no(unread(driver, id) == number as u64);
     }
     if is_word(name, "register") {
         return register(rt, driver, id, number);
     }
     if is_word(name, "establish") {
-        called(rt, driver, &Record::RequestDelivered(id));
-        return called(rt, driver, &Record::SessionEstablished(id, number));
+        record_call(rt, driver, &Record::RequestDelivered(id));
+        return record_call(rt, driver, &Record::SessionEstablished(id, number));
     }
     if is_word(name, "established") {
-        return called(rt, driver, &Record::SessionEstablished(id, number));
+        return record_call(rt, driver, &Record::SessionEstablished(id, number));
     }
     panic!(rt; "no such word: {name}")
 }

@@ -14,7 +14,7 @@ use wt_proto::steps::Steps;
 use wt_proto::walk::Walk;
 use wt_wire::side::StreamEnd;
 
-fn counted<W: Walk, L: Ledger>(
+fn feed_counting<W: Walk, L: Ledger>(
     rt: &impl Abort,
     reader: &mut StreamReader<W>,
     piece: &[u8],
@@ -33,13 +33,13 @@ fn counted<W: Walk, L: Ledger>(
 
 /// How many bytes the reader takes of the piece.
 fn fed<W: Walk>(rt: &impl Abort, reader: &mut StreamReader<W>, piece: &[u8]) -> usize {
-    counted::<W, Brand>(rt, reader, piece, Blank::new(1))
+    feed_counting::<W, Brand>(rt, reader, piece, Blank::new(1))
 }
 
 /// A piece, how many of its bytes are taken, and how many bytes are kept then.
 type Piece<'a> = (&'a [u8], usize, usize);
 
-fn takes<W: Walk>(rt: &impl Abort, reader: &mut StreamReader<W>, pieces: &[Piece]) {
+fn feed_pieces<W: Walk>(rt: &impl Abort, reader: &mut StreamReader<W>, pieces: &[Piece]) {
     for (piece, taken, kept) in pieces {
         assert_eq!(rt; fed(rt, reader, piece), *taken);
         assert_eq!(rt; reader.kept(), *kept);
@@ -58,7 +58,7 @@ fn reads<W: Walk>(
 where
     W::Outcome: Debug,
 {
-    takes(rt, &mut reader, pieces);
+    feed_pieces(rt, &mut reader, pieces);
     reader.end(end);
     shows(rt, alloc, reader.into_outcome(), shown);
 }
@@ -86,7 +86,7 @@ const SETTINGS: [Piece; 4] = [
     (b"\x01", 1, 0),
 ];
 
-/// The walk over these settings, behind which the stream ends.
+/// The walk over these settings, after which the stream ends.
 const SETTINGS_SHOWN: &str =
     "ControlWalk { settings: Some(Settings { qpack_max_table_capacity: None, max_field_section_size: None, qpack_blocked_streams: None, enable_connect_protocol: Some(VarInt { value: 1 }), h3_datagram: None, enable_webtransport: None, webtransport_max_sessions: None }), fault: Some(ClosedCriticalStream) }";
 
@@ -119,7 +119,7 @@ fn a_skipped_frame_is_not_kept(rt: HostRuntime) {
     reads(&rt, alloc, reader, &SKIPPED, StreamEnd::Running, shown);
 }
 
-/// The header of a stream of session 4, and a byte behind it.
+/// The header of a stream of session 4, and a byte after it.
 const HEADER: [Piece; 2] = [(b"\x40\x54", 2, 2), (b"\x04a", 1, 0)];
 
 #[test]
@@ -136,7 +136,7 @@ fn a_header_is_read_in_twos(rt: HostRuntime) {
     );
 }
 
-/// A frame with a capsule that closes a session, cut behind the capsule's length, and a byte behind it.
+/// A frame with a capsule that closes a session, cut after the capsule's length, and a byte after it.
 const CLOSE: [Piece; 2] = [
     (b"\x00\x0a\x68\x43\x07", 5, 5),
     (b"\x00\x00\x00\x07byeb", 7, 0),

@@ -177,7 +177,8 @@ impl Inbox {
         ensures now { self.new ≡ with_transport self.old (after_consume self.old.transport id count) }
         ensures others { (k : ℕ) → (id == k) ≡ false → SameAt self.old self.new k }
         ensures quiet { quiet self.new.transport ≡ quiet self.old.transport }
-        ensures log { OfEachLog self.old (λ side log stage untaken. (offset : ℕ) → body_offset (stage id) ≡ Some offset → Refines side self.new log (with_stage stage id (Stage.Body (offset + count))) untaken) }
+        ensures log { OfEachLog self.old (λ side log stage untaken. (offset : ℕ) → body_offset (stage id) ≡ Some offset
+            → Refines side self.new log (with_stage stage id (Stage.Body (offset + count))) untaken) }
     {
         self.transport.consume(id, count);
     }

@@ -117,7 +117,8 @@ impl Inbox {
     /// How many bytes of a stream are unread.
     pub fn unread(&self, id: StreamId) -> u64
         ensures now { result ≡ length (unread_now self.now.transport id) }
-        ensures log { TellsAt self.now (λ side log stage. (offset : ℕ) → body_offset (stage id) ≡ Some offset → result ≡ length (drop offset (contents log id))) }
+        ensures log { TellsAt self.now (λ side log stage. (offset : ℕ) → body_offset (stage id) ≡ Some offset
+            → result ≡ length (drop offset (contents log id))) }
     {
         self.transport.unread(id)
     }
@@ -191,7 +192,9 @@ impl Inbox {
     /// the type and the SETTINGS of this end's control stream.
     pub fn is_ready(&self) -> bool
         ensures now { result ≡ ready_now self.now.transport }
-        ensures log { Tells self.now (λ side log. is_open log ≡ true → result ≡ (is_connected (events_of log) && nat_lt 0 (unis_allowed (events_of log)) && not (nat_lt (credit (events_of log) (local_uni side)) (length local_control_bytes)))) }
+        ensures log { Tells self.now (λ side log. is_open log ≡ true
+            → result ≡ (is_connected (events_of log) && nat_lt 0 (unis_allowed (events_of log))
+            && not (nat_lt (credit (events_of log) (local_uni side)) (length local_control_bytes)))) }
     {
         is_ready_by(
             self.is_connected(),

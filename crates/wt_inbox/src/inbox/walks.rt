@@ -12,7 +12,7 @@ ghost use Rattle.wt_seam_spec.specs.Streams.{contents};
 ghost use Rattle.wt_seam_spec.specs.Reports.{end_of};
 ghost use Rattle.wt_seam.specs.Step.{unread_now};
 ghost use Rattle.wt_inbox.specs.OfLog.{OfEachLog, TellsAt};
-ghost use Rattle.wt_inbox.specs.Kept.{is_kept, reading_of};
+ghost use Rattle.wt_inbox.specs.KeptReaders.{is_kept, reading_of};
 ghost use Rattle.wt_inbox.specs.Moves.{BiPulled, BiTaken, ControlPulled, ResponsePulled, ResponseTaken, SessionPulled, SessionTaken, UniPulled, UniTaken};
 ghost use Rattle.wt_inbox.specs.Quiet.{quiet};
 ghost use Rattle.wt_inbox.specs.State.{SameAt, bi_verdict_now, control_now, is_over_by_bytes, readers_now, response_now, session_now, uni_verdict_now};
@@ -43,8 +43,10 @@ impl Inbox {
         ensures read { IfOk result (λ so. so ≡ false → unread_now self.new.transport id ≡ []) }
         ensures kept { OnOk result (is_kept self.new.unis id ≡ true) }
         ensures readers { OnOk result (readers_now self.new ≡ (if is_kept self.old.unis id then readers_now self.old else readers_now self.old + 1)) }
-        ensures log_answer { TellsAt self.old (λ side log stage. awaits_uni (stage id) ≡ true → IfOk result (λ so. so ≡ is_final (uni_verdict_of (contents log id) (end_of (events_of log) id)))) }
-        ensures log { OfEachLog self.old (λ side log stage untaken. awaits_uni (stage id) ≡ true → OnOk result (Refines side self.new log (with_stage stage id Stage.UniHeader) untaken)) }
+        ensures log_answer { TellsAt self.old (λ side log stage. awaits_uni (stage id) ≡ true
+            → IfOk result (λ so. so ≡ is_final (uni_verdict_of (contents log id) (end_of (events_of log) id)))) }
+        ensures log { OfEachLog self.old (λ side log stage untaken. awaits_uni (stage id) ≡ true
+            → OnOk result (Refines side self.new log (with_stage stage id Stage.UniHeader) untaken)) }
     {
         self.pull_uni(id)?;
         Ok(self.is_uni_final(id))
@@ -58,7 +60,8 @@ impl Inbox {
         ensures quiet { OnOk result (quiet self.new.transport ≡ quiet self.old.transport) }
         ensures gone { OnOk result (is_kept self.new.unis id ≡ false) }
         ensures readers { OnOk result (readers_now self.new ≡ (if is_kept self.old.unis id then readers_now self.old - 1 else readers_now self.old)) }
-        ensures log_answer { TellsAt self.old (λ side log stage. awaits_uni (stage id) ≡ true → IfOk result (λ outcome. outcome ≡ uni_verdict_of (contents log id) (end_of (events_of log) id))) }
+        ensures log_answer { TellsAt self.old (λ side log stage. awaits_uni (stage id) ≡ true
+            → IfOk result (λ outcome. outcome ≡ uni_verdict_of (contents log id) (end_of (events_of log) id))) }
         ensures log { OfEachLog self.old (λ side log stage untaken. awaits_uni (stage id) ≡ true
             → OnOk result (Refines side self.new log (with_stage stage id (stage_from (verdict_offset (uni_verdict_of (contents log id) (end_of (events_of log) id))))) untaken)) }
     {
@@ -77,8 +80,10 @@ impl Inbox {
         ensures read { IfOk result (λ so. so ≡ false → unread_now self.new.transport id ≡ []) }
         ensures kept { OnOk result (is_kept self.new.bis id ≡ true) }
         ensures readers { OnOk result (readers_now self.new ≡ (if is_kept self.old.bis id then readers_now self.old else readers_now self.old + 1)) }
-        ensures log_answer { TellsAt self.old (λ side log stage. awaits_bi (stage id) ≡ true → IfOk result (λ so. so ≡ is_final (bi_verdict_of (contents log id) (end_of (events_of log) id)))) }
-        ensures log { OfEachLog self.old (λ side log stage untaken. awaits_bi (stage id) ≡ true → OnOk result (Refines side self.new log (with_stage stage id Stage.BiHeader) untaken)) }
+        ensures log_answer { TellsAt self.old (λ side log stage. awaits_bi (stage id) ≡ true
+            → IfOk result (λ so. so ≡ is_final (bi_verdict_of (contents log id) (end_of (events_of log) id)))) }
+        ensures log { OfEachLog self.old (λ side log stage untaken. awaits_bi (stage id) ≡ true
+            → OnOk result (Refines side self.new log (with_stage stage id Stage.BiHeader) untaken)) }
     {
         self.pull_bi(id)?;
         Ok(self.is_bi_final(id))
@@ -92,7 +97,8 @@ impl Inbox {
         ensures quiet { OnOk result (quiet self.new.transport ≡ quiet self.old.transport) }
         ensures gone { OnOk result (is_kept self.new.bis id ≡ false) }
         ensures readers { OnOk result (readers_now self.new ≡ (if is_kept self.old.bis id then readers_now self.old - 1 else readers_now self.old)) }
-        ensures log_answer { TellsAt self.old (λ side log stage. awaits_bi (stage id) ≡ true → IfOk result (λ outcome. outcome ≡ bi_verdict_of (contents log id) (end_of (events_of log) id))) }
+        ensures log_answer { TellsAt self.old (λ side log stage. awaits_bi (stage id) ≡ true
+            → IfOk result (λ outcome. outcome ≡ bi_verdict_of (contents log id) (end_of (events_of log) id))) }
         ensures log { OfEachLog self.old (λ side log stage untaken. awaits_bi (stage id) ≡ true
             → OnOk result (Refines side self.new log (with_stage stage id (stage_from (verdict_offset (bi_verdict_of (contents log id) (end_of (events_of log) id))))) untaken)) }
     {
@@ -110,9 +116,12 @@ impl Inbox {
         ensures quiet { OnOk result (quiet self.new.transport ≡ quiet self.old.transport) }
         ensures read { IfOk result (λ so. so ≡ false → unread_now self.new.transport id ≡ []) }
         ensures kept { OnOk result (is_kept self.new.responses id ≡ true) }
-        ensures readers { OnOk result (readers_now self.new ≡ (if is_kept self.old.responses id then readers_now self.old else readers_now self.old + 1)) }
-        ensures log_answer { TellsAt self.old (λ side log stage. awaits_response (stage id) ≡ true → IfOk result (λ so. so ≡ is_answered (response_walk_of (contents log id) (end_of (events_of log) id)))) }
-        ensures log { OfEachLog self.old (λ side log stage untaken. awaits_response (stage id) ≡ true → OnOk result (Refines side self.new log (with_stage stage id Stage.ResponseHead) untaken)) }
+        ensures readers { OnOk result (readers_now self.new
+            ≡ (if is_kept self.old.responses id then readers_now self.old else readers_now self.old + 1)) }
+        ensures log_answer { TellsAt self.old (λ side log stage. awaits_response (stage id) ≡ true
+            → IfOk result (λ so. so ≡ is_answered (response_walk_of (contents log id) (end_of (events_of log) id)))) }
+        ensures log { OfEachLog self.old (λ side log stage untaken. awaits_response (stage id) ≡ true
+            → OnOk result (Refines side self.new log (with_stage stage id Stage.ResponseHead) untaken)) }
     {
         self.pull_response(id)?;
         Ok(self.is_response_there(id))
@@ -127,9 +136,12 @@ impl Inbox {
         ensures quiet { OnOk result (quiet self.new.transport ≡ quiet self.old.transport) }
         ensures read { IfOk result (λ outcome. is_answered outcome ≡ false → unread_now self.new.transport id ≡ []) }
         ensures kept { OnOk result (is_kept self.new.responses id ≡ true) }
-        ensures readers { OnOk result (readers_now self.new ≡ (if is_kept self.old.responses id then readers_now self.old else readers_now self.old + 1)) }
-        ensures log_answer { TellsAt self.old (λ side log stage. awaits_response (stage id) ≡ true → IfOk result (λ outcome. outcome ≡ response_walk_of (contents log id) (end_of (events_of log) id))) }
-        ensures log { OfEachLog self.old (λ side log stage untaken. awaits_response (stage id) ≡ true → OnOk result (Refines side self.new log (with_stage stage id Stage.ResponseHead) untaken)) }
+        ensures readers { OnOk result (readers_now self.new
+            ≡ (if is_kept self.old.responses id then readers_now self.old else readers_now self.old + 1)) }
+        ensures log_answer { TellsAt self.old (λ side log stage. awaits_response (stage id) ≡ true
+            → IfOk result (λ outcome. outcome ≡ response_walk_of (contents log id) (end_of (events_of log) id))) }
+        ensures log { OfEachLog self.old (λ side log stage untaken. awaits_response (stage id) ≡ true
+            → OnOk result (Refines side self.new log (with_stage stage id Stage.ResponseHead) untaken)) }
     {
         self.pull_response(id)?;
         self.response_outcome(id)
@@ -142,8 +154,10 @@ impl Inbox {
         ensures others { OnOk result ((k : ℕ) → (id == k) ≡ false → SameAt self.old self.new k) }
         ensures quiet { OnOk result (quiet self.new.transport ≡ quiet self.old.transport) }
         ensures gone { OnOk result (is_kept self.new.responses id ≡ false) }
-        ensures readers { OnOk result (readers_now self.new ≡ (if is_kept self.old.responses id then readers_now self.old - 1 else readers_now self.old)) }
-        ensures log_answer { TellsAt self.old (λ side log stage. awaits_response (stage id) ≡ true → IfOk result (λ outcome. outcome ≡ response_walk_of (contents log id) (end_of (events_of log) id))) }
+        ensures readers { OnOk result (readers_now self.new
+            ≡ (if is_kept self.old.responses id then readers_now self.old - 1 else readers_now self.old)) }
+        ensures log_answer { TellsAt self.old (λ side log stage. awaits_response (stage id) ≡ true
+            → IfOk result (λ outcome. outcome ≡ response_walk_of (contents log id) (end_of (events_of log) id))) }
         ensures log { OfEachLog self.old (λ side log stage untaken. awaits_response (stage id) ≡ true
             → OnOk result (Refines side self.new log (with_stage stage id (stage_from (response_offset (response_walk_of (contents log id) (end_of (events_of log) id))))) untaken)) }
     {
@@ -153,7 +167,7 @@ impl Inbox {
 
     // ---- the control stream
 
-    /// Reads the peer's control stream on behind its type, and tells its settings and its fault.
+    /// Reads the peer's control stream on after its type, and tells its settings and its fault.
     pub fn control_walk(&mut self, id: StreamId) -> Result<ControlWalk, OutOfMemory>
         ensures now { IfOk result (λ walk. walk ≡ control_now self.old id) }
         ensures same { OnOk result ((k : ℕ) → control_now self.new k ≡ control_now self.old k) }
@@ -161,9 +175,12 @@ impl Inbox {
         ensures quiet { OnOk result (quiet self.new.transport ≡ quiet self.old.transport) }
         ensures read { IfOk result (λ walk. is_some walk.fault ≡ false → unread_now self.new.transport id ≡ []) }
         ensures kept { OnOk result (is_kept self.new.controls id ≡ true) }
-        ensures readers { OnOk result (readers_now self.new ≡ (if is_kept self.old.controls id then readers_now self.old else readers_now self.old + 1)) }
-        ensures log_answer { TellsAt self.old (λ side log stage. (at : ℕ) → control_offset (stage id) ≡ Some at → IfOk result (λ walk. walk ≡ control_walk_of (drop at (contents log id)) (end_of (events_of log) id))) }
-        ensures log { OfEachLog self.old (λ side log stage untaken. (at : ℕ) → control_offset (stage id) ≡ Some at → OnOk result (Refines side self.new log (with_stage stage id (Stage.ControlBody at)) untaken)) }
+        ensures readers { OnOk result (readers_now self.new
+            ≡ (if is_kept self.old.controls id then readers_now self.old else readers_now self.old + 1)) }
+        ensures log_answer { TellsAt self.old (λ side log stage. (at : ℕ) → control_offset (stage id) ≡ Some at
+            → IfOk result (λ walk. walk ≡ control_walk_of (drop at (contents log id)) (end_of (events_of log) id))) }
+        ensures log { OfEachLog self.old (λ side log stage untaken. (at : ℕ) → control_offset (stage id) ≡ Some at
+            → OnOk result (Refines side self.new log (with_stage stage id (Stage.ControlBody at)) untaken)) }
     {
         self.pull_control(id)?;
         Ok(self.control_outcome(id))
@@ -180,10 +197,12 @@ impl Inbox {
         ensures quiet { OnOk result (quiet self.new.transport ≡ quiet self.old.transport) }
         ensures read { OnOk result (is_over_by_bytes self.old id ≡ false → unread_now self.new.transport id ≡ []) }
         ensures kept { OnOk result (is_kept self.new.sessions id ≡ true) }
-        ensures readers { OnOk result (readers_now self.new ≡ (if is_kept self.old.sessions id then readers_now self.old else readers_now self.old + 1)) }
+        ensures readers { OnOk result (readers_now self.new
+            ≡ (if is_kept self.old.sessions id then readers_now self.old else readers_now self.old + 1)) }
         ensures log_answer { TellsAt self.old (λ side log stage. (at : ℕ) → session_offset (stage id) ≡ Some at
             → IfOk result (λ so. so ≡ is_over (session_walk_of (drop at (contents log id)) (end_of (events_of log) id)))) }
-        ensures log { OfEachLog self.old (λ side log stage untaken. (at : ℕ) → session_offset (stage id) ≡ Some at → OnOk result (Refines side self.new log (with_stage stage id (Stage.SessionBody at)) untaken)) }
+        ensures log { OfEachLog self.old (λ side log stage untaken. (at : ℕ) → session_offset (stage id) ≡ Some at
+            → OnOk result (Refines side self.new log (with_stage stage id (Stage.SessionBody at)) untaken)) }
     {
         self.pull_session(id)?;
         Ok(self.is_session_final(id))
@@ -195,10 +214,13 @@ impl Inbox {
         ensures others { OnOk result ((k : ℕ) → (id == k) ≡ false → SameAt self.old self.new k) }
         ensures quiet { OnOk result (quiet self.new.transport ≡ quiet self.old.transport) }
         ensures gone { OnOk result (is_kept self.new.sessions id ≡ false) }
-        ensures readers { OnOk result (readers_now self.new ≡ (if is_kept self.old.sessions id then readers_now self.old - 1 else readers_now self.old)) }
+        ensures readers { OnOk result (readers_now self.new
+            ≡ (if is_kept self.old.sessions id then readers_now self.old - 1 else readers_now self.old)) }
         ensures log_answer { TellsAt self.old (λ side log stage. (at : ℕ) → session_offset (stage id) ≡ Some at
-            → IfOk result (λ end. (end.0 ≡ session_walk_of (drop at (contents log id)) (end_of (events_of log) id)) × (end.1 ≡ is_over (session_walk_of (drop at (contents log id)) Running)))) }
-        ensures log { OfEachLog self.old (λ side log stage untaken. (at : ℕ) → session_offset (stage id) ≡ Some at → OnOk result (Refines side self.new log (with_stage stage id Stage.Anywhere) untaken)) }
+            → IfOk result (λ end. (end.0 ≡ session_walk_of (drop at (contents log id)) (end_of (events_of log) id))
+            × (end.1 ≡ is_over (session_walk_of (drop at (contents log id)) Running)))) }
+        ensures log { OfEachLog self.old (λ side log stage untaken. (at : ℕ) → session_offset (stage id) ≡ Some at
+            → OnOk result (Refines side self.new log (with_stage stage id Stage.Anywhere) untaken)) }
     {
         let by_bytes = self.pull_session(id)?;
         Ok((self.take_session(id), by_bytes))
@@ -276,7 +298,7 @@ impl Inbox {
     {
         match self.responses.outcome(id) {
             Some(outcome) => copy_walk(self.alloc, outcome),
-            None => Ok(ResponseWalk::Waiting),
+            None => Ok(ResponseWalk::Incomplete),
         }
     }
 
@@ -340,5 +362,5 @@ impl Inbox {
 fn is_answered(walk: &ResponseWalk) -> bool
     ensures { result ≡ is_answered walk.now }
 {
-    !matches!(walk, ResponseWalk::Waiting)
+    !matches!(walk, ResponseWalk::Incomplete)
 }

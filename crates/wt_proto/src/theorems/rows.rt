@@ -20,7 +20,7 @@ ghost use Rattle.wt_proto.specs.declared.verdict.Verdict.TheVariants as verdicts
 
 /// Verdicts of unidirectional streams.
 pub fn uni_rows()
-    ensures cut { uni_verdict_of (0x40 ∷ []) Running ≡ verdicts.Incomplete }
+    ensures incomplete { uni_verdict_of (0x40 ∷ []) Running ≡ verdicts.Incomplete }
     ensures cut_by_end { uni_verdict_of (0x40 ∷ []) Fin ≡ verdicts.Dropped }
     ensures session { uni_verdict_of (0x40 ∷ 0x54 ∷ 0x00 ∷ []) Running ≡ verdicts.WebTransport 0 3 }
     ensures no_session { uni_verdict_of (0x40 ∷ 0x54 ∷ 0x01 ∷ []) Running ≡ verdicts.Fault errors.Id }
@@ -49,7 +49,7 @@ pub fn control_rows()
 pub fn session_rows()
     ensures closed { session_walk_of (0x00 ∷ 0x0a ∷ 0x68 ∷ 0x43 ∷ 0x07 ∷ 0x00 ∷ 0x00 ∷ 0x00 ∷ 0x07 ∷ 0x62 ∷ 0x79 ∷ 0x65 ∷ []) Running ≡ sessions.Closed 7 (codes "bye") }
     ensures ended { session_walk_of (0x21 ∷ 0x00 ∷ []) Fin ≡ sessions.Closed 0 [] }
-    ensures cut { session_walk_of (0x21 ∷ []) Fin ≡ sessions.Fault errors.ClosedCriticalStream }
+    ensures incomplete { session_walk_of (0x21 ∷ []) Fin ≡ sessions.Fault errors.ClosedCriticalStream }
 {}
 
 /// Walks up to a response.

@@ -45,7 +45,7 @@ impl<'a> Parts<'a> {
         ensures { MatchOption result (self.now ≡ []) (λ p. self.now ≡ p.0.now ∷ p.1) }
     {
         let bytes = self.rest?;
-        let (part, rest) = cut(self.separator, bytes);
+        let (part, rest) = split_at_separator(self.separator, bytes);
         Some((
             part,
             Parts {
@@ -92,7 +92,7 @@ impl<'a> Parts<'a> {
 }
 
 /// The first part, and what stands after the separator that ends it.
-fn cut(separator: u8, bytes: &[u8]) -> (&[u8], Option<&[u8]>)
+fn split_at_separator(separator: u8, bytes: &[u8]) -> (&[u8], Option<&[u8]>)
     ensures { result.0.now ∷ parts_after separator (option_map (λ r. r.now) result.1) ≡ parts separator bytes.now }
 {
     for (at, byte) in bytes.iter().enumerate() {

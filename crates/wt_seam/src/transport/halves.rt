@@ -127,14 +127,15 @@ impl Transport {
         buffer: &mut [u8],
     ) -> Poll<Result<Option<usize>, StreamReadError>>
         ensures answer { result ≡ read_answer self.old.is_open (receiving_half_now self.old id) (length buffer.old) }
-        ensures bytes { buffer.new ≡ take (read_count (receiving_half_now self.old id) (length buffer.old)) (unread_now self.old id) ++ drop (read_count (receiving_half_now self.old id) (length buffer.old)) buffer.old }
+        ensures bytes { buffer.new
+            ≡ take (read_count (receiving_half_now self.old id) (length buffer.old)) (unread_now self.old id) ++ drop (read_count (receiving_half_now self.old id) (length buffer.old)) buffer.old }
         ensures state { self.new ≡ after_consume self.old id (read_count (receiving_half_now self.old id) (length buffer.old)) }
     {
         let unread = self.unread_count(id);
         let end = self.end_now(id);
         let answer = half_answers::read_answer(self.is_open, unread, &end, buffer.len());
         let count = buffer.len().min(unread);
-        self.read_front(id, buffer, count);
+        self.read_unread(id, buffer, count);
         answer
     }
 
@@ -144,14 +145,15 @@ impl Transport {
         buffer: &mut [u8],
     ) -> Poll<Result<(), StreamReadExactError>>
         ensures answer { result ≡ read_exact_answer self.old.is_open (receiving_half_now self.old id) (length buffer.old) }
-        ensures bytes { buffer.new ≡ take (read_exact_count (receiving_half_now self.old id) (length buffer.old)) (unread_now self.old id) ++ drop (read_exact_count (receiving_half_now self.old id) (length buffer.old)) buffer.old }
+        ensures bytes { buffer.new
+            ≡ take (read_exact_count (receiving_half_now self.old id) (length buffer.old)) (unread_now self.old id) ++ drop (read_exact_count (receiving_half_now self.old id) (length buffer.old)) buffer.old }
         ensures state { self.new ≡ after_consume self.old id (read_exact_count (receiving_half_now self.old id) (length buffer.old)) }
     {
         let unread = self.unread_count(id);
         let end = self.end_now(id);
         let answer = half_answers::read_exact_answer(self.is_open, unread, &end, buffer.len());
         let count = half_answers::read_exact_count(unread, &end, buffer.len());
-        self.read_front(id, buffer, count);
+        self.read_unread(id, buffer, count);
         answer
     }
 
@@ -163,7 +165,7 @@ impl Transport {
     }
 
     /// Reads so many bytes into the buffer's front.
-    fn read_front(&mut self, id: StreamId, buffer: &mut [u8], count: usize)
+    fn read_unread(&mut self, id: StreamId, buffer: &mut [u8], count: usize)
         requires unread { count ≤ length (unread_now self.old id) }
         requires fits { count ≤ length buffer.old }
         ensures bytes { buffer.new ≡ take count (unread_now self.old id) ++ drop count buffer.old }

@@ -1,5 +1,5 @@
 //! Worked bytes of the streams on which a connection rests, as they come and go out.
-use super::rows::{Asked, debugged, rows, says, server};
+use super::rows::{Subject, debugged, rows, says, server};
 use super::typed::{behind_header, into_session, local_control, request};
 use std::alloc::Global;
 use std::process::Abort;
@@ -20,7 +20,7 @@ fn control_of(rt: &impl Abort, alloc: Global, stream: StreamUniRemoteH3) -> Remo
     s
 }
 
-impl Asked for RemoteSettingsStream {
+impl Subject for RemoteSettingsStream {
     fn ask(&mut self, rt: &impl Abort, alloc: Global, t: &mut Transport) -> String {
         let answer = self.run(t).expect(rt, "no memory");
         debugged(rt, alloc, &answer)
@@ -35,7 +35,7 @@ fn encoder_of(rt: &impl Abort, alloc: Global, stream: StreamUniRemoteH3) -> Remo
     s
 }
 
-impl Asked for RemoteQPackEncStream {
+impl Subject for RemoteQPackEncStream {
     fn ask(&mut self, rt: &impl Abort, alloc: Global, t: &mut Transport) -> String {
         let answer = self.run(t).expect(rt, "no memory");
         debugged(rt, alloc, &answer)
@@ -50,7 +50,7 @@ fn decoder_of(rt: &impl Abort, alloc: Global, stream: StreamUniRemoteH3) -> Remo
     s
 }
 
-impl Asked for RemoteQPackDecStream {
+impl Subject for RemoteQPackDecStream {
     fn ask(&mut self, rt: &impl Abort, alloc: Global, t: &mut Transport) -> String {
         let answer = self.run(t).expect(rt, "no memory");
         debugged(rt, alloc, &answer)
@@ -65,7 +65,7 @@ fn local_of(rt: &impl Abort, alloc: Global, stream: StreamUniLocalH3) -> LocalSe
     s
 }
 
-impl Asked for LocalSettingsStream {
+impl Subject for LocalSettingsStream {
     fn ask(&mut self, rt: &impl Abort, alloc: Global, t: &mut Transport) -> String {
         let can_send = self.can_send(t);
         let continues = self.continues().expect(rt, "no memory");
@@ -81,7 +81,7 @@ fn connect_of(rt: &impl Abort, alloc: Global, stream: StreamSession) -> ConnectS
     s
 }
 
-impl Asked for ConnectStream {
+impl Subject for ConnectStream {
     fn ask(&mut self, rt: &impl Abort, alloc: Global, t: &mut Transport) -> String {
         let answer = self.run(t).expect(rt, "no memory");
         debugged(rt, alloc, &answer)

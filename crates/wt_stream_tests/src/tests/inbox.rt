@@ -139,7 +139,7 @@ fn rows(rt: &impl Abort, alloc: Global, inbox: &mut Inbox, text: &str) {
 }
 
 /// The inbox of a server to which the peer opened both streams, after these lines.
-fn after(rt: &impl Abort, alloc: Global, text: &str) -> Inbox {
+fn inbox_after(rt: &impl Abort, alloc: Global, text: &str) -> Inbox {
     let mut inbox = Inbox::new(alloc, Side::Server);
     let opening = "connected 3 3 100 1200\npeer_uni\npeer_bi";
     rows(rt, alloc, &mut inbox, opening);
@@ -172,9 +172,9 @@ const CUT: &str = "bytes 2 40\n\
 
 #[test]
 fn headers_are_read_whole_in_pieces_and_to_an_end(rt: HostRuntime) {
-    after(&rt, rt.alloc(), WHOLE);
-    after(&rt, rt.alloc(), SINGLE_BYTES);
-    after(&rt, rt.alloc(), CUT);
+    inbox_after(&rt, rt.alloc(), WHOLE);
+    inbox_after(&rt, rt.alloc(), SINGLE_BYTES);
+    inbox_after(&rt, rt.alloc(), CUT);
 }
 
 #[test]
@@ -192,13 +192,13 @@ fn a_control_stream_is_walked_byte_by_byte(rt: HostRuntime) {
         kept > (0, 0, 1)\n\
         end 2\n\
         control > (true, Some(ClosedCriticalStream))";
-    after(&rt, rt.alloc(), text);
+    inbox_after(&rt, rt.alloc(), text);
 }
 
 #[test]
 fn a_long_skipped_frame_is_let_go_as_it_comes(rt: HostRuntime) {
     let alloc = rt.alloc();
-    let mut inbox = after(&rt, alloc, "bytes 0 215388");
+    let mut inbox = inbox_after(&rt, alloc, "bytes 0 215388");
     for _ in 0..5 {
         take_bytes(&rt, &mut inbox, &[7; 1000]);
         rows(&rt, alloc, &mut inbox, "bi > false\nkept > (0, 0, 1)");
@@ -221,8 +221,8 @@ const BY_END: &str = "session > false\n\
 
 #[test]
 fn a_session_ends_by_its_bytes_or_its_end(rt: HostRuntime) {
-    after(&rt, rt.alloc(), BY_BYTES);
-    after(&rt, rt.alloc(), BY_END);
+    inbox_after(&rt, rt.alloc(), BY_BYTES);
+    inbox_after(&rt, rt.alloc(), BY_END);
 }
 
 #[test]
@@ -236,5 +236,5 @@ fn a_response_is_read_up_to_its_last_byte(rt: HostRuntime) {
         response > Response(SessionResponse { headers: Headers { list: HeaderList { fields: \
         [(Text { text: \":status\" }, Text { text: \"200\" })] } } }, 17)\n\
         kept > (0, 2, 0)";
-    after(&rt, rt.alloc(), text);
+    inbox_after(&rt, rt.alloc(), text);
 }

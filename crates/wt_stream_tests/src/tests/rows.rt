@@ -20,7 +20,7 @@ use wt_wire::side::Side;
 use wt_wire::varint::VarInt;
 
 /// What is asked again and again, and answers by the transport.
-pub trait Asked {
+pub trait Subject {
     /// Asks once more.
     fn ask(&mut self, rt: &impl Abort, alloc: Global, t: &mut Transport) -> String;
 }
@@ -78,7 +78,7 @@ pub fn acts(rt: &impl Abort, alloc: Global, t: &mut Transport, line: &str) {
     assert_eq!(rt; text.as_str(), line);
 }
 
-fn row(rt: &impl Abort, alloc: Global, t: &mut Transport, asked: &mut impl Asked, line: &str) {
+fn row(rt: &impl Abort, alloc: Global, t: &mut Transport, asked: &mut impl Subject, line: &str) {
     if let Some(answer) = line.strip_prefix("> ") {
         let said = asked.ask(rt, alloc, t);
         assert_eq!(rt; said.as_str(), answer);
@@ -92,7 +92,13 @@ fn row(rt: &impl Abort, alloc: Global, t: &mut Transport, asked: &mut impl Asked
 }
 
 /// Goes through the lines of a worked case.
-pub fn rows(rt: &impl Abort, alloc: Global, t: &mut Transport, asked: &mut impl Asked, text: &str) {
+pub fn rows(
+    rt: &impl Abort,
+    alloc: Global,
+    t: &mut Transport,
+    asked: &mut impl Subject,
+    text: &str,
+) {
     for line in text.lines() {
         row(rt, alloc, t, asked, line);
     }

@@ -1,5 +1,5 @@
 //! Headers, frames, stops and ends of typed streams.
-use super::rows::{Asked, acts, debugged, rows, says, server, stream, unread};
+use super::rows::{Subject, acts, debugged, rows, says, server, stream, unread};
 use std::alloc::Global;
 use std::fmt::Debug;
 use std::process::Abort;
@@ -16,7 +16,7 @@ use wt_wire::frame::Frame;
 use wt_wire::ids::SessionId;
 use wt_wire::varint::VarInt;
 
-/// A header of this end, as it goes out, and the stream behind it.
+/// A header of this end, as it goes out, and the stream after it.
 #[derive(Drop)]
 struct HeaderOut {
     quic: StreamUniLocalQuic,
@@ -24,7 +24,7 @@ struct HeaderOut {
     http: Option<StreamUniLocalH3>,
 }
 
-/// A header of the peer's, as it comes, and the stream behind it.
+/// A header of the peer's, as it comes, and the stream after it.
 #[derive(Drop)]
 struct HeaderIn {
     quic: StreamUniRemoteQuic,
@@ -64,7 +64,7 @@ fn open_uni(rt: &impl Abort, alloc: Global, t: &mut Transport, header: StreamHea
     }
 }
 
-impl Asked for HeaderOut {
+impl Subject for HeaderOut {
     fn ask(&mut self, rt: &impl Abort, alloc: Global, t: &mut Transport) -> String {
         let header = self.header;
         let continues = self.quic.continues(header).expect(rt, "no memory");
@@ -75,7 +75,7 @@ impl Asked for HeaderOut {
     }
 }
 
-/// This end's control stream, behind its header.
+/// This end's control stream, after its header.
 pub fn local_control(rt: &impl Abort, alloc: Global, t: &mut Transport) -> StreamUniLocalH3 {
     let mut out = open_uni(rt, alloc, t, StreamHeader::new_control());
     rows(rt, alloc, t, &mut out, "> Ready(Ok(()))");
@@ -109,7 +109,7 @@ fn accept_uni(rt: &impl Abort, alloc: Global, t: &mut Transport) -> HeaderIn {
     HeaderIn { quic, http: None }
 }
 
-impl Asked for HeaderIn {
+impl Subject for HeaderIn {
     fn ask(&mut self, rt: &impl Abort, alloc: Global, t: &mut Transport) -> String {
         let can_receive = t.can_receive(self.quic.id());
         assert!(rt; can_receive && !self.quic.is_spent());
@@ -122,7 +122,7 @@ impl Asked for HeaderIn {
     }
 }
 
-/// The peer's first unidirectional stream, behind the header that comes in these lines.
+/// The peer's first unidirectional stream, after the header that comes in these lines.
 pub fn behind_header(
     rt: &impl Abort,
     alloc: Global,
@@ -135,7 +135,7 @@ pub fn behind_header(
     http.expect(rt, "no header")
 }
 
-impl Asked for StreamUniRemoteH3 {
+impl Subject for StreamUniRemoteH3 {
     fn ask(&mut self, rt: &impl Abort, alloc: Global, t: &mut Transport) -> String {
         let half = self.stream_mut().id();
         let can_receive = t.can_receive(half);
@@ -152,7 +152,7 @@ pub fn request(rt: &impl Abort, alloc: Global, t: &mut Transport) -> StreamBiRem
     answer.expect(rt, "no stream").upgrade(alloc)
 }
 
-impl Asked for StreamBiRemoteH3 {
+impl Subject for StreamBiRemoteH3 {
     fn ask(&mut self, rt: &impl Abort, alloc: Global, t: &mut Transport) -> String {
         let can_receive = t.can_receive(self.id());
         assert!(rt; can_receive);
@@ -169,7 +169,7 @@ pub fn into_session(rt: &impl Abort, alloc: Global, stream: StreamBiRemoteH3) ->
     stream.into_session(request)
 }
 
-impl Asked for StreamSession {
+impl Subject for StreamSession {
     fn ask(&mut self, rt: &impl Abort, alloc: Global, t: &mut Transport) -> String {
         let can_receive = t.can_receive(self.id());
         assert!(rt; can_receive);

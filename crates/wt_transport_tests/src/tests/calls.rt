@@ -12,7 +12,7 @@ use wt_wire::ids::StreamId;
 use wt_wire::varint::VarInt;
 
 /// Makes a call of the transport, or of a half of one of its streams.
-pub fn called(rt: &impl Abort, alloc: Global, transport: &mut Transport, call: &Call) -> Reply {
+pub fn make_call(rt: &impl Abort, alloc: Global, transport: &mut Transport, call: &Call) -> Reply {
     match call {
         Call::OpenUni => open_uni(rt, transport),
         Call::OpenBi => open_bi(rt, transport),

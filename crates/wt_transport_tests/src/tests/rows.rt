@@ -1,5 +1,5 @@
 //! Rows of a transport: a turn as a script spells it, and the line of its answer.
-use crate::tests::calls::called;
+use crate::tests::calls::make_call;
 use std::alloc::Global;
 use std::process::Abort;
 use wt_print::print::print_answer;
@@ -40,22 +40,22 @@ pub fn repeats(rt: &impl Abort, alloc: Global, transport: &mut Transport, times:
 
 fn plays_row(rt: &impl Abort, alloc: Global, transport: &mut Transport, row: &str) {
     let (turn, answer) = row.split_once(": ").expect(rt, "a row has an answer");
-    let line = told(rt, alloc, transport, turn);
+    let line = line_of(rt, alloc, transport, turn);
     assert_eq!(rt; line.as_str(), answer, "{turn}");
 }
 
 /// The line of the answer. The word `actions` takes what is to go out.
-fn told(rt: &impl Abort, alloc: Global, transport: &mut Transport, turn: &str) -> Text {
+fn line_of(rt: &impl Abort, alloc: Global, transport: &mut Transport, turn: &str) -> Text {
     if turn == "actions" {
         return printed(rt, alloc, Reply::Done, taken_actions(transport));
     }
     match turn_of(rt, alloc, turn) {
         Turn::Call(call) => {
-            let reply = called(rt, alloc, transport, &call);
+            let reply = make_call(rt, alloc, transport, &call);
             printed(rt, alloc, reply, Actions::new(alloc))
         }
         event => {
-            let line = taken(rt, transport, &event);
+            let line = taken_line(rt, transport, &event);
             Text::from_text(alloc, line).expect(rt, "no memory")
         }
     }
@@ -75,7 +75,7 @@ fn printed(rt: &impl Abort, alloc: Global, reply: Reply, actions: Actions) -> Te
 }
 
 /// Takes an event where it fits.
-fn taken(rt: &impl Abort, transport: &mut Transport, event: &Turn) -> &'static str {
+fn taken_line(rt: &impl Abort, transport: &mut Transport, event: &Turn) -> &'static str {
     if !transport.fits(event) {
         return "unlawful";
     }

@@ -23,5 +23,5 @@ pub fn integer_rows()
     ensures eight_most { varint_bytes (2 ^ 62 - 1) ≡ 0xff ∷ 0xff ∷ 0xff ∷ 0xff ∷ 0xff ∷ 0xff ∷ 0xff ∷ 0xff ∷ [] }
     ensures longer { varint_at (0x40 ∷ 0x25 ∷ []) ≡ Some (37, 2) }
     ensures eight { varint_at (0xc2 ∷ 0x19 ∷ 0x7c ∷ 0x5e ∷ 0xff ∷ 0x14 ∷ 0xe8 ∷ 0x8c ∷ []) ≡ Some (151288809941952652, 8) }
-    ensures cut { varint_at (0x9d ∷ 0x7f ∷ 0x3e ∷ []) ≡ None }
+    ensures incomplete { varint_at (0x9d ∷ 0x7f ∷ 0x3e ∷ []) ≡ None }
 {}

@@ -6,6 +6,6 @@ use Rattle.wt_turn.specs.Log.{Polled, SessionEstablished, calls_of}
 
 pub returns-clause-session : goal.returns-clause-session
 returns-clause-session c = λ side log k.
-    establish_calls side log c.args.own.items (SessionEstablished c.args.id c.args.at) c.note-2.new.self
-    (subst (λ i. KeepsCalls c.note-2.new.self (Polled ∷ SessionEstablished i c.args.at ∷ calls_of log)) c.session_stream.ensures.stream
-    (c.in_ok-note-2.ensures.log (SessionEstablished c.session_stream.result c.args.at ∷ calls_of log) (c.in_ok-note.ensures.log (calls_of log) k)))
+    establish_calls side log c.args.own.items (SessionEstablished c.args.id c.args.offset) c.note-2.new.self
+    (subst (λ i. KeepsCalls c.note-2.new.self (Polled ∷ SessionEstablished i c.args.offset ∷ calls_of log)) c.session_stream.ensures.stream
+    (c.in_ok-note-2.ensures.log (SessionEstablished c.session_stream.result c.args.offset ∷ calls_of log) (c.in_ok-note.ensures.log (calls_of log) k)))

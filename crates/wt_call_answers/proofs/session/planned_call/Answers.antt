@@ -3,7 +3,7 @@ use Rattle.wt_inbox.specs.State.{InboxState}
 use Rattle.wt_plan.specs.DriverAnswers.{answers_now}
 use Rattle.wt_plan.specs.FactsNow.{facts_now}
 use Rattle.wt_plan.specs.Planned.{defined_plan}
-use Rattle.wt_plan.specs.Tells.{session_of_table}
+use Rattle.wt_plan.specs.PlansAgree.{session_of_table}
 use Rattle.wt_seam.specs.State.{TransportState}
 use Rattle.wt_call_answers.proofs.Planning.{planned_by_log}
 use Rattle.wt_call_answers.proofs.session.planned_call.Goals as goal

@@ -1,6 +1,6 @@
 use Rattle.std.proofs.Common.{◌∙◌, ap, subst, sym, ℕ}
 use Rattle.wt_plan.specs.Planned.{defined_plan}
-use Rattle.wt_plan.specs.Tells.{KeepsRequestEnd}
+use Rattle.wt_plan.specs.PlansAgree.{KeepsRequestEnd}
 use Rattle.wt_calls.proofs.Ends.{kept_end, tells_one, told_end}
 use Rattle.wt_call_answers.proofs.session.request_end.Goals as goal
 use Rattle.wt_spec.specs.Answers.{call_effect}

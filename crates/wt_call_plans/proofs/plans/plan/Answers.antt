@@ -5,7 +5,7 @@ use Rattle.wt_plan.specs.DriverAnswers.{answers_now}
 use Rattle.wt_driver_spec.specs.DriverState.{requests_now}
 use Rattle.wt_plan.specs.FactsNow.{facts_now}
 use Rattle.wt_plan.specs.Planned.{defined_plan}
-use Rattle.wt_plan.specs.Tells.{session_of_table}
+use Rattle.wt_plan.specs.PlansAgree.{session_of_table}
 use Rattle.wt_call_plans.proofs.Handshakes.{awaiting_answers}
 use Rattle.wt_call_plans.proofs.plans.plan.Goals as goal
 use Rattle.wt_call_plans.specs.MayPlan.{MayAnswer}

@@ -1,6 +1,6 @@
 use Rattle.std.proofs.Common.{◌∙◌, Option, ap, sym, ℕ}
 use Rattle.wt_driver_spec.specs.Due.{reply_or}
-use Rattle.wt_calls.specs.Given.{wait_reply}
+use Rattle.wt_calls.specs.GivingCalls.{wait_reply}
 use Rattle.wt_spec.specs.Effect.{pending_or_failed}
 use Rattle.wt_calls.proofs.acting.accept_answer.Goals as goal
 

@@ -4,7 +4,7 @@ use Rattle.wt_calls.proofs.acting.accept_bi.Goals as goal
 use Rattle.wt_seam_spec.specs.Streams.{peer_bi}
 use Rattle.wt_driver_state.specs.Tie.{Follows}
 use Rattle.wt_driver_spec.specs.Due.{accept_outcome}
-use Rattle.wt_calls.specs.Given.{poll_reply}
+use Rattle.wt_calls.specs.GivingCalls.{poll_reply}
 use Rattle.wt_reply.specs.declared.reply.Reply.TheVariants as replies
 
 pub returns-clause-reply : goal.returns-clause-reply

@@ -9,8 +9,8 @@ pub returns : goal.returns
 returns c = record {
   log = λ side log taken f m.
       let same = c.session_stream.ensures.stream in
-      let may = subst (λ (i : ℕ). MayBeCalled side (with_actions c.args.own.items log) (SessionEstablished i c.args.at)) (sym same) m.1 in
+      let may = subst (λ (i : ℕ). MayBeCalled side (with_actions c.args.own.items log) (SessionEstablished i c.args.offset)) (sym same) m.1 in
       let stepped = c.in_ok-step.ensures.log side log taken f m.0 may in
-      subst (λ (i : ℕ). OnOk c.poll.result (Follows side c.poll.new.d (log_call side (log_call side log c.args.own.items (SessionEstablished i c.args.at)) [] Polled) taken)) same
-      (c.poll.ensures.log side (log_call side log c.args.own.items (SessionEstablished c.session_stream.result c.args.at)) taken stepped);
+      subst (λ (i : ℕ). OnOk c.poll.result (Follows side c.poll.new.d (log_call side (log_call side log c.args.own.items (SessionEstablished i c.args.offset)) [] Polled) taken)) same
+      (c.poll.ensures.log side (log_call side log c.args.own.items (SessionEstablished c.session_stream.result c.args.offset)) taken stepped);
 }

@@ -3,7 +3,7 @@ use Rattle.wt_driver_state.specs.Tie.{Follows}
 use Rattle.wt_driver_spec.specs.Due.{receive_outcome}
 use Rattle.wt_calls.proofs.Gives.{receive_log, receive_told}
 use Rattle.wt_calls.proofs.acting.receive.Goals as goal
-use Rattle.wt_calls.specs.Given.{poll_reply}
+use Rattle.wt_calls.specs.GivingCalls.{poll_reply}
 use Rattle.wt_reply.specs.declared.reply.Reply.TheVariants as replies
 
 pub returns-clause-reply : goal.returns-clause-reply

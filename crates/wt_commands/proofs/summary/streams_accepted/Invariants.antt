@@ -6,6 +6,6 @@ use Rattle.wt_commands.proofs.summary.streams_accepted.Given as goal
 -- the streams of the answers so far, at most one each
 abbrev pub invariant-loop-answer : goal.invariant-loop-answer
 invariant-loop-answer l = record {
-  counted : l.count ≡ count_by (λ answer. gives_uni answer.reply) (take l.answer-index l.answers);
+  count_is : l.count ≡ count_by (λ answer. gives_uni answer.reply) (take l.answer-index l.answers);
   few : l.count ≤ l.answer-index;
 }

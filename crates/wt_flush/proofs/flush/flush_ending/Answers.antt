@@ -2,7 +2,7 @@ use Rattle.std.proofs.Common.{ap, sym, ◌∙◌, Some}
 use Rattle.std.specs.Option.{option_copied}
 use Rattle.wt_flush.proofs.Flushed.{ending_open, ending_resets, ending_sends}
 use Rattle.std.proofs.lemmas.Result.{on_ok_weaker}
-use Rattle.wt_dispatch.specs.Places.{ending_of_kind}
+use Rattle.wt_dispatch.specs.Phases.{ending_of_kind}
 use Rattle.wt_seam_spec.specs.Joined.{newest_first}
 use Rattle.wt_spec.specs.Driver.{reset_if, session_id}
 use Rattle.wt_spec.specs.StreamTable.{Ending}

@@ -16,9 +16,9 @@ returns-then-not-may_send c = record {
 pub returns : goal.returns
 returns c = record {
   log = λ side log stage untaken r o own runs may.
-      sends_by side log stage untaken c.args.inbox.now c.args.sent.now r o own runs may c.send.new.self c.control_id-id.result c.in_ok-count.count c.in-Some.sum c.after.result.now
+      sends_by side log stage untaken c.args.inbox.now c.args.sent.now r o own runs may c.send.new.self c.control_id-id.result c.in_ok-count.count c.in-Some.sum c.bytes_after.result.now
       (c.control_id-id.ensures ∙ ap local_uni (c.side.ensures.log side log stage untaken r))
-      (c.after.ensures ∙ ap (drop c.args.sent.now) (c.as_slice.ensures.value ∙ c.in_ok-head.ensures))
+      (c.bytes_after.ensures ∙ ap (drop c.args.sent.now) (c.as_slice.ensures.value ∙ c.in_ok-head.ensures))
       (c.in_ok-count.ensures.log_count side log stage untaken r)
       c.in-Some.ensures.1
       (c.in_ok-count.ensures.log side log stage untaken r);

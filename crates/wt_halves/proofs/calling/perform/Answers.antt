@@ -1,5 +1,5 @@
 use Rattle.std.proofs.Common.{◌≡◌, IfOk, OnOk, subst}
-use Rattle.wt_halves.proofs.Told.{leads, may_perform}
+use Rattle.wt_halves.proofs.DriverAnswered.{leads, may_perform}
 use Rattle.wt_halves.proofs.calling.perform.Goals as goal
 use Rattle.wt_driver_state.specs.Tie.{Follows}
 use Rattle.wt_plan.specs.Planned.{defined_plan}

@@ -5,13 +5,13 @@ use Rattle.wt_print.specs.Print.{field_text}
 use Rattle.wt_print.proofs.PrintLaws.{drop_at}
 use Rattle.wt_print.proofs.print.push_fields.Goals as goal
 
-pub loop-place-preserved : goal.loop-place-preserved
-loop-place-preserved c =
+pub loop-index-preserved : goal.loop-index-preserved
+loop-index-preserved c =
     let headers = c.args.headers.now in
-    let rest = drop (c.loop-place.place + 1) headers in
+    let rest = drop (c.loop-index.index + 1) headers in
     let field : List ℕ × List ℕ = (c.at.result.0.now, c.at.result.1.now) in
-    let before = string_bytes c.loop-place.out in
+    let before = string_bytes c.loop-index.out in
     ap (λ text. text ++ flat_map field_text rest) (c.in_ok-push_field.ensures)
     ∙ append_assoc before (field_text field) (flat_map field_text rest)
-    ∙ ap (λ fields. before ++ flat_map field_text fields) (sym (drop_at headers c.loop-place.place field c.at.ensures))
-    ∙ c.loop-place.invariant
+    ∙ ap (λ fields. before ++ flat_map field_text fields) (sym (drop_at headers c.loop-index.index field c.at.ensures))
+    ∙ c.loop-index.invariant

@@ -4,7 +4,7 @@ use Rattle.std.specs.List.{flat_map}
 use Rattle.wt_print.specs.Print.{field_text}
 use Rattle.wt_print.proofs.print.push_fields.Given as goal
 
-abbrev pub invariant-loop-place : goal.invariant-loop-place
-invariant-loop-place l =
-    string_bytes l.out ++ flat_map field_text (drop l.place l.headers)
+abbrev pub invariant-loop-index : goal.invariant-loop-index
+invariant-loop-index l =
+    string_bytes l.out ++ flat_map field_text (drop l.index l.headers)
     ≡ string_bytes l.fn.out ++ flat_map field_text l.headers

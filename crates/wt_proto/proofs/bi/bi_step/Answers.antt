@@ -3,6 +3,6 @@ use Rattle.wt_proto.proofs.WalkLaws.{if_ok_same}
 use Rattle.wt_proto.proofs.BiLaws.{bi-headers}
 use Rattle.wt_proto.proofs.bi.bi_step.Goals as goal
 
-pub returns-in_ok-behind-in-Headers : goal.returns-in_ok-behind-in-Headers
-returns-in_ok-behind-in-Headers c =
-    if_ok_same _ _ _ c.headers_step.ensures (rw c.in_ok-behind-in-Headers.ensures (bi-headers c.args.at c.args.bytes.now c.in-Headers.header c.in-Headers.size (c.in-Headers.ensures.frame varint_at)))
+pub returns-in_ok-next_offset-in-Headers : goal.returns-in_ok-next_offset-in-Headers
+returns-in_ok-next_offset-in-Headers c =
+    if_ok_same _ _ _ c.headers_step.ensures (rw c.in_ok-next_offset-in-Headers.ensures (bi-headers c.args.at c.args.bytes.now c.in-Headers.header c.in-Headers.size (c.in-Headers.ensures.frame varint_at)))

@@ -1,5 +1,5 @@
 use Rattle.std.proofs.Common.{length, ◌-◌}
-use Rattle.wt_proto.specs.Progress.{Advances, at_item}
+use Rattle.wt_proto.specs.WalkProgress.{Advances, at_item}
 use Rattle.wt_proto.proofs.cursor.go_over.Given as goal
 
 abbrev pub invariant-loop-at : goal.invariant-loop-at

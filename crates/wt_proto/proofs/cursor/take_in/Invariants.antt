@@ -1,6 +1,6 @@
 use Rattle.std.proofs.Common.{length, ◌-◌}
 use Rattle.wt_proto.specs.Cursor.{IsPlaced, progress_of}
-use Rattle.wt_proto.specs.Progress.{Advances}
+use Rattle.wt_proto.specs.WalkProgress.{Advances}
 use Rattle.wt_proto.proofs.cursor.take_in.Given as goal
 
 abbrev pub invariant-loop-taken : goal.invariant-loop-taken

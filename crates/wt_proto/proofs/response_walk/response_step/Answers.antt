@@ -3,6 +3,6 @@ use Rattle.wt_proto.proofs.WalkLaws.{if_ok_same}
 use Rattle.wt_proto.proofs.ResponseWalkLaws.{response-headers}
 use Rattle.wt_proto.proofs.response_walk.response_step.Goals as goal
 
-pub returns-in_ok-behind-in-Headers : goal.returns-in_ok-behind-in-Headers
-returns-in_ok-behind-in-Headers c =
-    if_ok_same _ _ _ c.headers_step.ensures (rw c.in_ok-behind-in-Headers.ensures (response-headers c.args.at c.args.bytes.now c.in-Headers.header c.in-Headers.size (c.in-Headers.ensures.frame session_id_ignored)))
+pub returns-in_ok-next_offset-in-Headers : goal.returns-in_ok-next_offset-in-Headers
+returns-in_ok-next_offset-in-Headers c =
+    if_ok_same _ _ _ c.headers_step.ensures (rw c.in_ok-next_offset-in-Headers.ensures (response-headers c.args.at c.args.bytes.now c.in-Headers.header c.in-Headers.size (c.in-Headers.ensures.frame session_id_ignored)))

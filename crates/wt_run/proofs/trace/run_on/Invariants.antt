@@ -1,11 +1,11 @@
 use Rattle.std.proofs.Common.{◌≡◌, length, drop}
 use Rattle.wt_core.specs.CoreState.{Refines}
 use Rattle.wt_spec.specs.Answers.{run, run_from}
-use Rattle.wt_run.proofs.RunLaws.{behind}
+use Rattle.wt_run.proofs.RunLaws.{after_answers}
 use Rattle.wt_run.proofs.trace.run_on.Given as goal
 use Rattle.wt_turn.specs.Log.{Log}
 
 abbrev pub invariant-loop-at : goal.invariant-loop-at
 invariant-loop-at l = (log : Log) × Refines l.core log × (l.core.side ≡ l.fn.core.side)
-    × (behind l.answers (run_from l.fn.core.side log (drop l.at l.turns)) ≡ run l.fn.core.side l.turns)
+    × (after_answers l.answers (run_from l.fn.core.side log (drop l.at l.turns)) ≡ run l.fn.core.side l.turns)
     × (length l.answers ≡ l.at)

@@ -42,8 +42,8 @@ returns-clause-sessions c = answered c.args.side c.args.turns.now _ (Throughout 
 pub returns-clause-one_session : goal.returns-clause-one_session
 returns-clause-one_session c = answered c.args.side c.args.turns.now _ (AtEachTurn c.args.side (OneSession c.args.side) c.args.turns.now) c.run_turns.ensures.trace (laws c.args.side c.args.turns.now).one_session
 
-pub returns-clause-told : goal.returns-clause-told
-returns-clause-told c = answered c.args.side c.args.turns.now _ (AtEachTurn c.args.side (SessionTold c.args.side) c.args.turns.now) c.run_turns.ensures.trace (laws c.args.side c.args.turns.now).told
+pub returns-clause-reported : goal.returns-clause-reported
+returns-clause-reported c = answered c.args.side c.args.turns.now _ (AtEachTurn c.args.side (SessionTold c.args.side) c.args.turns.now) c.run_turns.ensures.trace (laws c.args.side c.args.turns.now).reported
 
 pub returns-clause-requests : goal.returns-clause-requests
 returns-clause-requests c = answered c.args.side c.args.turns.now _ (AtEachTurn c.args.side (RequestTold c.args.side) c.args.turns.now) c.run_turns.ensures.trace (laws c.args.side c.args.turns.now).requests
@@ -129,8 +129,8 @@ returns-clause-late c = answered c.args.side c.args.turns.now _ (AtEachTurn c.ar
 pub returns-clause-forgotten : goal.returns-clause-forgotten
 returns-clause-forgotten c = answered c.args.side c.args.turns.now _ (Throughout c.args.side (LateIsForgotten c.args.side) c.args.turns.now) c.run_turns.ensures.trace (laws c.args.side c.args.turns.now).forgotten
 
-pub returns-clause-settled : goal.returns-clause-settled
-returns-clause-settled c = answered c.args.side c.args.turns.now _ (Throughout c.args.side (SettledStays c.args.side) c.args.turns.now) c.run_turns.ensures.trace (laws c.args.side c.args.turns.now).settled
+pub returns-clause-settled_stay : goal.returns-clause-settled_stay
+returns-clause-settled_stay c = answered c.args.side c.args.turns.now _ (Throughout c.args.side (SettledStays c.args.side) c.args.turns.now) c.run_turns.ensures.trace (laws c.args.side c.args.turns.now).settled_stay
 
 pub returns-clause-settings : goal.returns-clause-settings
 returns-clause-settings c = answered c.args.side c.args.turns.now _ (Throughout c.args.side (SettingsOut c.args.side) c.args.turns.now) c.run_turns.ensures.trace (laws c.args.side c.args.turns.now).settings
@@ -156,8 +156,8 @@ returns-clause-sends_end c = answered c.args.side c.args.turns.now _ (AtEachTurn
 pub returns-clause-credit : goal.returns-clause-credit
 returns-clause-credit c = answered c.args.side c.args.turns.now _ (Throughout c.args.side (WithinCredit c.args.side) c.args.turns.now) c.run_turns.ensures.trace (laws c.args.side c.args.turns.now).credit
 
-pub returns-clause-taken : goal.returns-clause-taken
-returns-clause-taken c = answered c.args.side c.args.turns.now _ (Throughout c.args.side (TakenGoesOut c.args.side) c.args.turns.now) c.run_turns.ensures.trace (laws c.args.side c.args.turns.now).taken
+pub returns-clause-taken_goes_out : goal.returns-clause-taken_goes_out
+returns-clause-taken_goes_out c = answered c.args.side c.args.turns.now _ (Throughout c.args.side (TakenGoesOut c.args.side) c.args.turns.now) c.run_turns.ensures.trace (laws c.args.side c.args.turns.now).taken_goes_out
 
 pub returns-clause-opened_in_order : goal.returns-clause-opened_in_order
 returns-clause-opened_in_order c = answered c.args.side c.args.turns.now _ (Throughout c.args.side OpenedInOrder c.args.turns.now) c.run_turns.ensures.trace (laws c.args.side c.args.turns.now).opened_in_order

@@ -10,7 +10,7 @@ pub loop-at-preserved-in-Some : goal.loop-at-preserved-in-Some
 loop-at-preserved-in-Some c = λ side log stage untaken r o a g d b.
     let s = c.loop-at.invariant side log stage untaken r o a g d b in
     let lt : c.loop-at.at < length c.loop-at.slots.items = grind (arith, common_steps) in
-    let runs = c.goes_on.ensures.0 c.if-goes_on.true in
+    let runs = c.still_going.ensures.0 c.if-still_going.true in
     let rule = rule_of c.args.half (transport_view side log) in
     let before = known_by c.loop-at.dispatched c.loop-at.progress in
     let after = known_by c.visit.new.dispatched c.visit.new.progress in
@@ -25,7 +25,7 @@ pub loop-at-preserved : goal.loop-at-preserved
 loop-at-preserved c = λ side log stage untaken r o a g d b.
     let s = c.loop-at.invariant side log stage untaken r o a g d b in
     let lt : c.loop-at.at < length c.loop-at.slots.items = grind (arith, common_steps) in
-    let runs = c.goes_on.ensures.0 c.if-goes_on.true in
+    let runs = c.still_going.ensures.0 c.if-still_going.true in
     let rule = rule_of c.args.half (transport_view side log) in
     let before = known_by c.loop-at.dispatched c.loop-at.progress in
     let after = known_by c.visit.new.dispatched c.visit.new.progress in
@@ -37,12 +37,12 @@ loop-at-preserved c = λ side log stage untaken r o a g d b.
     (slot-goes-so side log untaken (settings_ready side log) c.args.half rule stage c.args.slots.now.items first c.loop-at.at c.loop-at.slots.items before after c.loop-at.inbox c.visit.new.inbox c.index.result.now s lt c.index.ensures runs
     (rw c.in-None.is at v))
 
-pub returns-else-goes_on : goal.returns-else-goes_on
-returns-else-goes_on c = record {
+pub returns-else-still_going : goal.returns-else-still_going
+returns-else-still_going c = record {
   log = λ side log stage untaken r o a g d b.
       scans-halted side log untaken (settings_ready side log) c.args.half (rule_of c.args.half (transport_view side log)) stage c.args.slots.now.items (known_by c.args.dispatched.now c.args.progress.now) c.loop-at.at
       c.loop-at.slots.items (known_by c.loop-at.dispatched c.loop-at.progress) c.loop-at.inbox (c.loop-at.invariant side log stage untaken r o a g d b)
-      (λ none. true≢false (sym (c.goes_on.ensures.1 none) ∙ c.if-goes_on.false));
+      (λ none. true≢false (sym (c.still_going.ensures.1 none) ∙ c.if-still_going.false));
 }
 
 pub returns-else-at-len : goal.returns-else-at-len

@@ -23,13 +23,13 @@ loop-at-preserved c = elim c.if-byte-eq10.branch [
       rw (w.draft-is, w.number-is, w.start-is) (record {
         joined = next_line c.args.script.now line c.loop-at.at c.loop-at.number c.loop-at.draft w.take_line.new.self c.loop-at-test.true w.if-byte-eq10.true taken ∙ c.loop-at.invariant.joined;
         begun = omega arith;
-        counted = omega arith;
+        count_is = omega arith;
       })
   | else-byte-eq10 w ↦
       let same = in_line c.args.script.now c.loop-at.start c.loop-at.at c.loop-at.invariant.begun c.loop-at-test.true w.if-byte-eq10.false in
       rw (w.draft-is, w.number-is, w.start-is) (record {
         joined = ap (read_lines c.loop-at.number c.loop-at.draft) (sym same) ∙ c.loop-at.invariant.joined;
         begun = omega arith;
-        counted = omega arith;
+        count_is = omega arith;
       })
 ]

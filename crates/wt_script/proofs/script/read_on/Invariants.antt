@@ -7,5 +7,5 @@ abbrev pub invariant-loop-at : goal.invariant-loop-at
 invariant-loop-at l = record {
   joined : read_lines l.number l.draft (lines_from (take (l.at - l.start) (drop l.start l.script)) (drop l.at l.script)) ≡ read_lines 1 l.fn.draft (lines l.script);
   begun : l.start ≤ l.at;
-  counted : l.number ≤ l.at + 1;
+  count_is : l.number ≤ l.at + 1;
 }

@@ -18,8 +18,8 @@ returns-then-is_open-clause-log c = λ side log taken f.
     subst (λ (x : Effect). OnOk c.wait_on.result (Follows side c.wait_on.new.d x.log taken))
     (sym (undelivered_open side c.args.d.now log taken f c.is_open.result (c.is_open.ensures.now ∙ ap (λ (x : TransportState). x.is_open) there) c.if-is_open.true)) (c.wait_on.ensures.log side log taken f)
 
-pub returns-then-is_open-clause-stands : goal.returns-then-is_open-clause-stands
-returns-then-is_open-clause-stands c = λ side log taken f may.
+pub returns-then-is_open-clause-in_log : goal.returns-then-is_open-clause-in_log
+returns-then-is_open-clause-in_log c = λ side log taken f may.
     let there = c.transport-t.ensures ∙ ap (λ (x : InboxState). x.transport) c.inbox.ensures in
     waiting_stands side c.args.d.now log taken f c.wait_on.result c.is_open.result (c.is_open.ensures.now ∙ ap (λ (x : TransportState). x.is_open) there) c.if-is_open.true may c.wait_on.ensures.given
 
@@ -36,5 +36,5 @@ returns-clause-log c = λ side log taken f.
     (sym (undelivered_over side c.args.d.now log taken f c.is_open.result (c.is_open.ensures.now ∙ ap (λ (x : TransportState). x.is_open) there) c.if-is_open.false c.in_ok-error.error
     (c.in_ok-error.ensures ∙ ap (λ (x : TransportState). error_now x c.args.d.now.state.progress.ending) there))) (c.fail.ensures.log side log taken f)
 
-pub returns-clause-stands : goal.returns-clause-stands
-returns-clause-stands c = λ side log taken f may. failing_stands side c.args.d.now log taken f c.fail.result c.in_ok-error.error c.fail.ensures.given
+pub returns-clause-in_log : goal.returns-clause-in_log
+returns-clause-in_log c = λ side log taken f may. failing_stands side c.args.d.now log taken f c.fail.result c.in_ok-error.error c.fail.ensures.given

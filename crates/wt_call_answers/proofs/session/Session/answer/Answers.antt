@@ -10,7 +10,7 @@ use Rattle.wt_session_spec.proofs.Theorems.{planned_theorem}
 use Rattle.wt_session_spec.specs.Plan.{perform}
 use Rattle.wt_spec.specs.Answers.{call_effect}
 use Rattle.wt_spec.specs.Effect.{Effect}
-use Rattle.wt_told.proofs.Theorems.{call_first_theorem}
+use Rattle.wt_agreement.proofs.Theorems.{call_first_theorem}
 use Rattle.wt_turn.specs.Log.{calls_of}
 
 pub returns-clause-reply : goal.returns-clause-reply

@@ -2,7 +2,7 @@ use Rattle.std.proofs.Common.{false}
 use Rattle.std.specs.Prelude.{codes}
 use Rattle.wt_message.specs.FixedBytes.{response_bytes}
 use Rattle.wt_plan.specs.FactsNow.{facts_now}
-use Rattle.wt_plan.specs.Tells.{session_of_table}
+use Rattle.wt_plan.specs.PlansAgree.{session_of_table}
 use Rattle.wt_call_plans.proofs.Handshakes.{started_with}
 use Rattle.wt_call_plans.proofs.plans.handshake.forbid.Goals as goal
 use Rattle.wt_session_spec.specs.Plans.{plan_of}

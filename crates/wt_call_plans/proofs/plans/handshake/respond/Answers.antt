@@ -1,5 +1,5 @@
 use Rattle.std.proofs.Common.{◌∙◌, ap, sym, ℕ}
-use Rattle.wt_plan.specs.Tells.{session_of_table}
+use Rattle.wt_plan.specs.PlansAgree.{session_of_table}
 use Rattle.wt_call_plans.proofs.plans.handshake.respond.Goals as goal
 
 pub returns-in-Some : goal.returns-in-Some

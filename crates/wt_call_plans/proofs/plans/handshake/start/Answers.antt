@@ -1,5 +1,5 @@
 use Rattle.wt_plan.specs.FactsNow.{facts_now}
-use Rattle.wt_plan.specs.Tells.{session_of_table}
+use Rattle.wt_plan.specs.PlansAgree.{session_of_table}
 use Rattle.wt_call_plans.proofs.Handshakes.{started}
 use Rattle.wt_call_plans.proofs.plans.handshake.start.Goals as goal
 

@@ -1,6 +1,6 @@
 use Rattle.std.proofs.Common.{◌≡◌, true}
 use Rattle.wt_plan.specs.FactsNow.{facts_now}
-use Rattle.wt_plan.specs.Tells.{session_of_table}
+use Rattle.wt_plan.specs.PlansAgree.{session_of_table}
 use Rattle.wt_call_plans.proofs.Sessions.{opening_polled}
 use Rattle.wt_call_plans.proofs.plans.in_session.poll_open.Goals as goal
 use Rattle.wt_session_spec.specs.SessionState.{is_opening_now}

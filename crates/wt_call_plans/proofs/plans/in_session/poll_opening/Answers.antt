@@ -1,6 +1,6 @@
 use Rattle.std.proofs.Common.{◌≡◌, Some}
 use Rattle.wt_plan.specs.FactsNow.{facts_now}
-use Rattle.wt_plan.specs.Tells.{session_of_table}
+use Rattle.wt_plan.specs.PlansAgree.{session_of_table}
 use Rattle.wt_call_plans.proofs.Sessions.{in_session}
 use Rattle.wt_call_plans.proofs.plans.in_session.poll_opening.Goals as goal
 use Rattle.wt_session_spec.specs.ConnectionPlans.{poll_plan}

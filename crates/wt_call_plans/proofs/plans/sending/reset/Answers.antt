@@ -1,5 +1,5 @@
 use Rattle.std.proofs.Common.{◌≡◌, true}
-use Rattle.wt_plan.specs.Tells.{session_of_table}
+use Rattle.wt_plan.specs.PlansAgree.{session_of_table}
 use Rattle.wt_call_plans.proofs.Halves.{sending_there_ok}
 use Rattle.wt_call_plans.proofs.plans.sending.reset.Goals as goal
 use Rattle.wt_session_spec.specs.Plans.{plan_of}

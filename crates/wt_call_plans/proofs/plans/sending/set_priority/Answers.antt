@@ -2,7 +2,7 @@ use Rattle.std.proofs.Common.{◌≡◌, subst, true}
 use Rattle.std.proofs.Math.Facts.{to_z-of_z}
 use Rattle.wt_plan.specs.FactsNow.{facts_now}
 use Rattle.wt_plan.specs.Planned.{defined_plan}
-use Rattle.wt_plan.specs.Tells.{session_of_table}
+use Rattle.wt_plan.specs.PlansAgree.{session_of_table}
 use Rattle.wt_call_plans.proofs.Halves.{sending_there}
 use Rattle.wt_call_plans.proofs.plans.sending.set_priority.Goals as goal
 use Rattle.wt_session_spec.specs.HalfPlans.{set_priority_plan}

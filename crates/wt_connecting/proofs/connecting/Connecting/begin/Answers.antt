@@ -17,8 +17,8 @@ returns-in-Ok-clause-log c = λ side log taken f reach may.
     dialled_log side log c.args.options.url c.args.options.headers c.args.lookup c.args.outcome c.in-Ok.target found c.args.d.now c.dial.new.d taken f reach may c.additional_headers-headers.result.now c.additional_headers-headers.ensures
     (λ send can. c.in_ok-connecting-in-Ok.ensures.log side log taken f send can)
 
-pub returns-in-Ok-clause-stands : goal.returns-in-Ok-clause-stands
-returns-in-Ok-clause-stands c = λ side log taken f reach may.
+pub returns-in-Ok-clause-in_log : goal.returns-in-Ok-clause-in_log
+returns-in-Ok-clause-in_log c = λ side log taken f reach may.
     let found = sym c.in-Ok.is ∙ c.in_ok-target.ensures.target ∙ ap (λ (text : List ℕ). target_of text c.args.lookup c.args.outcome) c.url.ensures in
     dialled_begins side log c.args.options.url c.args.options.headers c.args.lookup c.args.outcome c.in-Ok.target found c.in_ok-connecting-in-Ok.connecting c.additional_headers-headers.result.now c.additional_headers-headers.ensures
     c.in_ok-connecting-in-Ok.ensures.connecting
@@ -31,8 +31,8 @@ returns-clause-reply c = λ side log taken f reach may.
 pub returns-clause-log : goal.returns-clause-log
 returns-clause-log c = λ side log taken f reach may.
     let found = sym c.in-Err.is ∙ c.in_ok-target.ensures.target ∙ ap (λ (text : List ℕ). target_of text c.args.lookup c.args.outcome) c.url.ensures in
-    subst (λ (x : Effect). Follows side c.called.new.self x.log taken) (sym (failed_effect side log c.args.options.url c.args.options.headers c.args.lookup c.args.outcome c.in-Err.error found))
-    (c.in_ok-called-in-Err.ensures.log side log taken f (over_may side c.args.d.now log taken f))
+    subst (λ (x : Effect). Follows side c.record_call.new.self x.log taken) (sym (failed_effect side log c.args.options.url c.args.options.headers c.args.lookup c.args.outcome c.in-Err.error found))
+    (c.in_ok-record_call-in-Err.ensures.log side log taken f (over_may side c.args.d.now log taken f))
 
-pub returns-clause-stands : goal.returns-clause-stands
-returns-clause-stands c = λ side log taken f reach may. tt
+pub returns-clause-in_log : goal.returns-clause-in_log
+returns-clause-in_log c = λ side log taken f reach may. tt

@@ -9,8 +9,8 @@ pub returns-clause-reply : goal.returns-clause-reply
 returns-clause-reply c = λ side log taken f reach s.
     let later = c.in_ok-walk.ensures.log side log taken c.args.self.now f reach s in
     let by_log = c.in_ok-plan.ensures side log taken later reach s (c.in_ok-walk.ensures.walk side log taken c.args.self.now f reach s) in
-    let told = c.in_ok-reply.ensures.reply side log taken calls.Handshake later by_log in
-    c.connected.ensures (poll_reply side log c.args.self.now s c.in_ok-reply.reply told) ∙ told
+    let reported = c.in_ok-reply.ensures.reply side log taken calls.Handshake later by_log in
+    c.connected.ensures (poll_reply side log c.args.self.now s c.in_ok-reply.reply reported) ∙ reported
 
 pub returns-clause-log : goal.returns-clause-log
 returns-clause-log c = λ side log taken f reach s.
@@ -18,13 +18,13 @@ returns-clause-log c = λ side log taken f reach s.
     let by_log = c.in_ok-plan.ensures side log taken later reach s (c.in_ok-walk.ensures.walk side log taken c.args.self.now f reach s) in
     c.in_ok-reply.ensures.log side log taken calls.Handshake later reach (poll_may side log c.args.self.now s) by_log
 
-pub returns-clause-stands : goal.returns-clause-stands
-returns-clause-stands c = λ side log taken f reach s.
+pub returns-clause-in_log : goal.returns-clause-in_log
+returns-clause-in_log c = λ side log taken f reach s.
     let later = c.in_ok-walk.ensures.log side log taken c.args.self.now f reach s in
     let by_log = c.in_ok-plan.ensures side log taken later reach s (c.in_ok-walk.ensures.walk side log taken c.args.self.now f reach s) in
-    let told = c.in_ok-reply.ensures.reply side log taken calls.Handshake later by_log in
-    subst (StandsWith (call_effect side log calls.Handshake).log c.args.self.now) (sym (c.connected.ensures (poll_reply side log c.args.self.now s c.in_ok-reply.reply told)))
-    (poll_stands side log c.args.self.now s c.in_ok-reply.reply told)
+    let reported = c.in_ok-reply.ensures.reply side log taken calls.Handshake later by_log in
+    subst (StandsWith (call_effect side log calls.Handshake).log c.args.self.now) (sym (c.connected.ensures (poll_reply side log c.args.self.now s c.in_ok-reply.reply reported)))
+    (poll_stands side log c.args.self.now s c.in_ok-reply.reply reported)
 
 pub returns-clause-lawful : goal.returns-clause-lawful
 returns-clause-lawful c = λ side log s. poll_may side log c.args.self.now s

@@ -1,7 +1,7 @@
 use Rattle.std.proofs.Common.{◌∙◌, ap, subst}
 use Rattle.wt_connection.proofs.Sessions.{accept_uni_is}
 use Rattle.wt_driver_state.specs.Tie.{Follows}
-use Rattle.wt_calls.specs.Given.{poll_reply}
+use Rattle.wt_calls.specs.GivingCalls.{poll_reply}
 use Rattle.wt_spec.specs.Effect.{Effect}
 use Rattle.wt_reply.specs.declared.reply.Reply.TheVariants as replies
 use Rattle.wt_connection.proofs.Gives.{uni_stands}
@@ -15,5 +15,5 @@ pub returns-clause-log : goal.returns-clause-log
 returns-clause-log c = rw (← c.self.view_is) (λ side log taken f r s.
     subst (λ (x : Effect). Follows side c.accept_uni.new.d x.log taken) (accept_uni_is side log c.self.inside.session s) (c.in_ok-accept_uni.ensures.log side log taken f))
 
-pub returns-clause-stands : goal.returns-clause-stands
-returns-clause-stands c = λ side log taken f r s. uni_stands side log r c.args.self.now s c.receiving_half.result (returns-clause-reply c side log taken f r s)
+pub returns-clause-in_log : goal.returns-clause-in_log
+returns-clause-in_log c = λ side log taken f r s. uni_stands side log r c.args.self.now s c.receiving_half.result (returns-clause-reply c side log taken f r s)

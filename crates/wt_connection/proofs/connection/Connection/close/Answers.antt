@@ -1,6 +1,6 @@
 use Rattle.std.proofs.Common.{◌≡◌, List, subst, ℕ}
 use Rattle.wt_connection.proofs.Sessions.{close_planned, close_replies, may_use}
-use Rattle.wt_connection.specs.Standing.{HasSession}
+use Rattle.wt_connection.specs.TypesInLog.{HasSession}
 use Rattle.wt_halves.proofs.Answering.{on_of_each, whichever}
 use Rattle.wt_plan.specs.Planned.{defined_plan}
 use Rattle.wt_session_spec.specs.CallFacts.{facts_of}

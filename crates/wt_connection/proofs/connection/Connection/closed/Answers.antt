@@ -7,8 +7,8 @@ use Rattle.wt_connection.proofs.connection.Connection.closed.Goals as goal
 
 pub returns-clause-reply : goal.returns-clause-reply
 returns-clause-reply c = λ side log taken f r s.
-    let told = c.in_ok-perform.ensures.reply side log taken calls.Closed f (closed_planned side log c.args.self.now s c.args.d.now taken f r c.transport.result.now c.transport.ensures c.in_ok-plan.plan c.in_ok-plan.ensures) in
-    ap closed_poll_reply (c.closed_in.ensures ∙ ap (λ (x : Reply). closed_in x) told) ∙ end_comes side log c.args.self.now s c.args.d.now taken f r
+    let reported = c.in_ok-perform.ensures.reply side log taken calls.Closed f (closed_planned side log c.args.self.now s c.args.d.now taken f r c.transport.result.now c.transport.ensures c.in_ok-plan.plan c.in_ok-plan.ensures) in
+    ap closed_poll_reply (c.closed_in.ensures ∙ ap (λ (x : Reply). closed_in x) reported) ∙ end_comes side log c.args.self.now s c.args.d.now taken f r
 
 pub returns-clause-log : goal.returns-clause-log
 returns-clause-log c = λ side log taken f r s.

@@ -1,10 +1,10 @@
 use Rattle.std.proofs.Common.{◌∙◌, ◌≡◌, IfOk, ap, subst}
 use Rattle.wt_connection.proofs.Sessions.{receive_is}
-use Rattle.wt_connection.specs.Standing.{HasSession}
+use Rattle.wt_connection.specs.TypesInLog.{HasSession}
 use Rattle.wt_halves.proofs.Answering.{if_of_each}
-use Rattle.wt_halves.proofs.Told.{always}
+use Rattle.wt_halves.proofs.DriverAnswered.{always}
 use Rattle.wt_driver_state.specs.Tie.{Follows}
-use Rattle.wt_calls.specs.Given.{poll_reply}
+use Rattle.wt_calls.specs.GivingCalls.{poll_reply}
 use Rattle.wt_spec.specs.Effect.{Effect}
 use Rattle.wt_reply.specs.declared.reply.Reply.{Reply}
 use Rattle.wt_reply.specs.declared.reply.Reply.TheVariants as replies

@@ -7,8 +7,8 @@ use Rattle.wt_connection.proofs.connection.Connection.send_datagram.Goals as goa
 
 pub returns-clause-reply : goal.returns-clause-reply
 returns-clause-reply c = rw (← c.self.view_is) (λ side log taken f r s.
-    let told = c.in_ok-perform.ensures.reply side log taken (calls.SendDatagram c.args.payload.now) f (datagram_planned side log c.self.inside.session s c.args.d.now taken f r c.args.payload.now c.transport-t.result.now c.transport-t.ensures c.in_ok-plan.plan c.in_ok-plan.ensures) in
-    ap sent_reply (c.sent_in.ensures ∙ ap (λ (x : Reply). sent_in x) told) ∙ datagram_comes side log c.self.inside.session s c.args.d.now taken f r c.args.payload.now)
+    let reported = c.in_ok-perform.ensures.reply side log taken (calls.SendDatagram c.args.payload.now) f (datagram_planned side log c.self.inside.session s c.args.d.now taken f r c.args.payload.now c.transport-t.result.now c.transport-t.ensures c.in_ok-plan.plan c.in_ok-plan.ensures) in
+    ap sent_reply (c.sent_in.ensures ∙ ap (λ (x : Reply). sent_in x) reported) ∙ datagram_comes side log c.self.inside.session s c.args.d.now taken f r c.args.payload.now)
 
 pub returns-clause-log : goal.returns-clause-log
 returns-clause-log c = rw (← c.self.view_is) (λ side log taken f r s.

@@ -10,8 +10,8 @@ use Rattle.wt_connection.proofs.opening.OpeningBiStream.poll.Goals as goal
 
 pub returns-clause-reply : goal.returns-clause-reply
 returns-clause-reply c = rw (← c.self.view_is) (λ side log taken f r s.
-    let told = c.in_ok-perform.ensures.reply side log taken (calls.PollOpening c.self.inside.id) f (poll_planned side c.args.d.now log taken f r true (record { id = c.self.inside.id; session = c.self.inside.session }) s c.transport-t.result.now c.transport-t.ensures c.in_ok-plan.plan c.in_ok-plan.ensures) in
-    c.both_halves.ensures.reply ∙ ap (ready_reply replies.BiReady) (c.ready_in.ensures ∙ ap (λ (x : Reply). ready_in x) told) ∙ bi_ready_comes side c.args.d.now log taken f r true (record { id = c.self.inside.id; session = c.self.inside.session }) s refl)
+    let reported = c.in_ok-perform.ensures.reply side log taken (calls.PollOpening c.self.inside.id) f (poll_planned side c.args.d.now log taken f r true (record { id = c.self.inside.id; session = c.self.inside.session }) s c.transport-t.result.now c.transport-t.ensures c.in_ok-plan.plan c.in_ok-plan.ensures) in
+    c.both_halves.ensures.reply ∙ ap (ready_reply replies.BiReady) (c.ready_in.ensures ∙ ap (λ (x : Reply). ready_in x) reported) ∙ bi_ready_comes side c.args.d.now log taken f r true (record { id = c.self.inside.id; session = c.self.inside.session }) s refl)
 
 pub returns-clause-log : goal.returns-clause-log
 returns-clause-log c = rw (← c.self.view_is) (λ side log taken f r s.
@@ -24,5 +24,5 @@ returns-clause-send_stands c = λ side log taken f r s. both_send side log r tru
 pub returns-clause-recv_stands : goal.returns-clause-recv_stands
 returns-clause-recv_stands c = λ side log taken f r s. both_receive side log r true c.args.self.now s refl c.both_halves.result (returns-clause-reply c side log taken f r s) c.both_halves.ensures.halves
 
-pub returns-clause-goes_on : goal.returns-clause-goes_on
-returns-clause-goes_on c = λ side log taken f r s. waits_on side log r true c.args.self.now s (λ (halves : ℕ × ℕ). replies.BiReady halves.0) c.both_halves.result (returns-clause-reply c side log taken f r s)
+pub returns-clause-still_going : goal.returns-clause-still_going
+returns-clause-still_going c = λ side log taken f r s. waits_on side log r true c.args.self.now s (λ (halves : ℕ × ℕ). replies.BiReady halves.0) c.both_halves.result (returns-clause-reply c side log taken f r s)

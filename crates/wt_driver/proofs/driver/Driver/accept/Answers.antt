@@ -33,7 +33,7 @@ returns-then-left-eq0 c = record {
       let may = stream-passes side taken c.args.kind c.args.session c.loop-due.left _ c.loop-due.self s c.next_due.result c.next_due.ensures c.in-Some.due.0 c.in-Some.due.1 c.in-Some.is c.if-is_own.false in
       end-follows side taken (log_streams side c.args.kind c.args.session) _ _ c.loop-due.left
       (stream-passed side taken c.args.kind c.args.session c.loop-due.left _ c.loop-due.self s c.next_due.result c.next_due.ensures c.in-Some.due.0 c.in-Some.due.1 c.in-Some.is c.if-is_own.false)
-      c.pass_stream.new.self c.if-left-eq0.true (c.in_ok-pass_stream.ensures.log side s.log_now taken s.follows may.act may.called);
+      c.pass_stream.new.self c.if-left-eq0.true (c.in_ok-pass_stream.ensures.log side s.log_now taken s.follows may.act may.may_record);
   given = λ side log taken f.
       let s = c.loop-due.invariant.looks side log taken f in
       end-given side taken (log_streams side c.args.kind c.args.session) _ _ c.loop-due.left
@@ -50,6 +50,6 @@ loop-due-preserved c = record {
       let may = stream-passes side taken c.args.kind c.args.session c.loop-due.left _ c.loop-due.self s c.next_due.result c.next_due.ensures c.in-Some.due.0 c.in-Some.due.1 c.in-Some.is c.if-is_own.false in
       looks-again side taken (log_streams side c.args.kind c.args.session) _ _ c.loop-due.left
       (stream-passed side taken c.args.kind c.args.session c.loop-due.left _ c.loop-due.self s c.next_due.result c.next_due.ensures c.in-Some.due.0 c.in-Some.due.1 c.in-Some.is c.if-is_own.false)
-      c.pass_stream.new.self (c.in_ok-pass_stream.ensures.log side s.log_now taken s.follows may.act may.called) more;
+      c.pass_stream.new.self (c.in_ok-pass_stream.ensures.log side s.log_now taken s.follows may.act may.may_record) more;
   has_given = c.in_ok-pass_stream.ensures.has_given ∙ c.loop-due.invariant.has_given;
 }

@@ -2,7 +2,7 @@ use Rattle.std.proofs.Common.{◌≡◌, ℕ, sym, ap, subst, ◌∙◌}
 use Rattle.std.specs.Prelude.{IfOk, OnOk}
 use Rattle.wt_driver_state.proofs.AcceptSteps.{accepted-is}
 use Rattle.wt_driver_state.specs.DriverValue.{DriverValue}
-use Rattle.wt_driver_state.specs.Given.{given_by}
+use Rattle.wt_driver_state.specs.PollResults.{given_by}
 use Rattle.wt_driver_state.specs.Tie.{Follows, untaken_since}
 use Rattle.wt_driver_spec.specs.Due.{DueOutcome}
 use Rattle.wt_inbox.specs.Stage.{Refines}

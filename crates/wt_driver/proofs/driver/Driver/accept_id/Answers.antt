@@ -1,7 +1,7 @@
 use Rattle.std.proofs.Common.{sym, ◌≡◌, ◌∙◌}
 use Rattle.std.specs.Prelude.{None, suc}
 use Rattle.wt_driver_state.proofs.AcceptSteps.{always-ok, nothing-by, nothing-else}
-use Rattle.wt_driver_state.specs.Given.{given_by}
+use Rattle.wt_driver_state.specs.PollResults.{given_by}
 use Rattle.wt_driver_state.specs.Results.{result_of}
 use Rattle.wt_driver_spec.specs.Due.{log_streams, take_due}
 use Rattle.wt_driver.proofs.driver.Driver.accept_id.Goals as goal

@@ -16,12 +16,12 @@ returns-in_ok-walk_control-clause-log c = λ side log stage untaken r w.
     let d = c.args.self.now in
     let m = c.in_ok-walk_control.ensures.log side log stage untaken r (subst (WalkFrom control_offset stage) (sym c.control-control.ensures) w) in
     let kept = option_or (settings_read (transport_view side log) d.state.dispatched.control) d.settings in
-    with-settings side log untaken d c.walk_control.new.self _ _ kept _ (sym (unless-open d.state.progress.ending (λ k. option_or (settings_read (transport_view side log) d.state.dispatched.control) k) d.settings (c.goes_on-goes_on.ensures.0 c.if-goes_on.true)))
-    (open-moves side log untaken d.state.progress.ending d c.walk_control.new.self stage (control_stages d.state.dispatched.control stage) (check_control (transport_view side log) d.state.dispatched.control) kept (c.goes_on-goes_on.ensures.0 c.if-goes_on.true)
+    with-settings side log untaken d c.walk_control.new.self _ _ kept _ (sym (unless-open d.state.progress.ending (λ k. option_or (settings_read (transport_view side log) d.state.dispatched.control) k) d.settings (c.still_going-still_going.ensures.0 c.if-still_going.true)))
+    (open-moves side log untaken d.state.progress.ending d c.walk_control.new.self stage (control_stages d.state.dispatched.control stage) (check_control (transport_view side log) d.state.dispatched.control) kept (c.still_going-still_going.ensures.0 c.if-still_going.true)
     (subst (λ (z : Option (ℕ × ℕ)). Moves side log untaken d c.walk_control.new.self (control_stages z stage) (record d.state { progress = check_control (transport_view side log) z d.state.progress }) (option_or (settings_read (transport_view side log) z) d.settings)) c.control-control.ensures m))
 
-pub returns-else-goes_on-clause-log : goal.returns-else-goes_on-clause-log
-returns-else-goes_on-clause-log c = λ side log stage untaken r w.
+pub returns-else-still_going-clause-log : goal.returns-else-still_going-clause-log
+returns-else-still_going-clause-log c = λ side log stage untaken r w.
     let d = c.args.self.now in
-    with-settings side log untaken d d _ _ d.settings _ (sym (unless-over d.state.progress.ending (λ k. option_or (settings_read (transport_view side log) d.state.dispatched.control) k) d.settings (λ none. true≢false (sym (c.goes_on-goes_on.ensures.1 none) ∙ c.if-goes_on.false))))
-    (ended-moves side log untaken d.state.progress.ending d stage (control_stages d.state.dispatched.control stage) (check_control (transport_view side log) d.state.dispatched.control) (λ none. true≢false (sym (c.goes_on-goes_on.ensures.1 none) ∙ c.if-goes_on.false)) r)
+    with-settings side log untaken d d _ _ d.settings _ (sym (unless-over d.state.progress.ending (λ k. option_or (settings_read (transport_view side log) d.state.dispatched.control) k) d.settings (λ none. true≢false (sym (c.still_going-still_going.ensures.1 none) ∙ c.if-still_going.false))))
+    (ended-moves side log untaken d.state.progress.ending d stage (control_stages d.state.dispatched.control stage) (check_control (transport_view side log) d.state.dispatched.control) (λ none. true≢false (sym (c.still_going-still_going.ensures.1 none) ∙ c.if-still_going.false)) r)

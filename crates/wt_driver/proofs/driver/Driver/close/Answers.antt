@@ -10,7 +10,7 @@ pub returns-clause-log : goal.returns-clause-log
 returns-clause-log c = λ side log taken f.
     let closed = with_actions (if_open log (actions.Close c.args.code c.args.reason)) log in
     let g = c.in_ok-close_if_open.ensures.log side log taken f in
-    c.called.ensures.log side closed taken g (may-poll side closed taken c.close_if_open.new.self g)
+    c.record_call.ensures.log side closed taken g (may-poll side closed taken c.close_if_open.new.self g)
 
 pub returns-clause-has_given : goal.returns-clause-has_given
-returns-clause-has_given c = on_ok_weaker c.called.result (λ e. e ∙ c.in_ok-close_if_open.ensures.has_given) c.called.ensures.has_given
+returns-clause-has_given c = on_ok_weaker c.record_call.result (λ e. e ∙ c.in_ok-close_if_open.ensures.has_given) c.record_call.ensures.has_given

@@ -1,5 +1,5 @@
 use Rattle.wt_driver_state.proofs.Answering.{given-follows}
-use Rattle.wt_inbox.proofs.Asked.{on-ok}
+use Rattle.wt_inbox.proofs.AnswersStay.{on-ok}
 use Rattle.wt_driver.proofs.driver.Driver.give_settings.Goals as goal
 
 pub returns-clause-log : goal.returns-clause-log

@@ -1,7 +1,7 @@
 use Rattle.std.proofs.Common.{◌≡◌, sym, ap, ◌∙◌}
 use Rattle.wt_driver_state.proofs.AcceptSteps.{always-ok, nothing-else, nothing-own, nothing-paid}
 use Rattle.std.specs.Prelude.{List, None, Option, Some, ℕ}
-use Rattle.wt_driver_state.specs.Given.{is_own, payload_by, payload_in}
+use Rattle.wt_driver_state.specs.PollResults.{is_own, payload_by, payload_in}
 use Rattle.wt_driver_state.specs.Results.{result_of}
 use Rattle.wt_driver_spec.specs.Due.{receive_outcome}
 use Rattle.wt_spec.specs.Connection.{read_datagram}

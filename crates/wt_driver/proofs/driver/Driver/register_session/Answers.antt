@@ -4,7 +4,7 @@ use Rattle.wt_driver.proofs.driver.Driver.register_session.Goals as goal
 
 pub returns-in-Some-clause-log : goal.returns-in-Some-clause-log
 returns-in-Some-clause-log c = λ side log taken f may.
-    registered-late side log taken c.args.self.now c.args.self.now f c.args.id c.args.at (shut-now side log taken c.args.self.now c.in-Some.error f (sym c.in_ok-error.ensures ∙ c.in-Some.is))
+    registered-late side log taken c.args.self.now c.args.self.now f c.args.id c.args.offset (shut-now side log taken c.args.self.now c.in-Some.error f (sym c.in_ok-error.ensures ∙ c.in-Some.is))
 
 pub returns-in_ok-register-in-None-clause-log : goal.returns-in_ok-register-in-None-clause-log
 returns-in_ok-register-in-None-clause-log c = λ side log taken f may.

@@ -1,7 +1,7 @@
 use Rattle.std.specs.Prelude.{is_some}
 use Rattle.std.proofs.Common.{ap, sym, ◌∙◌}
 use Rattle.wt_proto.specs.declared.control_walk.ControlWalk.{ControlWalk}
-use Rattle.wt_inbox.proofs.Asked.{control-same, control-others, control-quiet, control-answered, control-read}
+use Rattle.wt_inbox.proofs.AnswersStay.{control-same, control-others, control-quiet, control-answered, control-read}
 use Rattle.wt_inbox.proofs.Staging.{control-says, control_read_refines}
 use Rattle.wt_inbox.proofs.Counting.{control-readers}
 use Rattle.wt_inbox.proofs.inbox.Inbox.control_walk.Goals as goal

@@ -1,6 +1,6 @@
 use Rattle.std.proofs.Common.{ap, sym, ◌∙◌}
 use Rattle.wt_proto.specs.Uni.{is_final}
-use Rattle.wt_inbox.proofs.Asked.{bi-same, bi-others, bi-quiet, bi-answered, bi-read}
+use Rattle.wt_inbox.proofs.AnswersStay.{bi-same, bi-others, bi-quiet, bi-answered, bi-read}
 use Rattle.wt_inbox.proofs.Staging.{bi-says, bi_read_refines}
 use Rattle.wt_inbox.proofs.Counting.{bi-readers}
 use Rattle.wt_inbox.proofs.inbox.Inbox.has_bi_verdict.Goals as goal

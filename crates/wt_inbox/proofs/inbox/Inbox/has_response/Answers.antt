@@ -1,6 +1,6 @@
 use Rattle.std.proofs.Common.{ap, sym, ◌∙◌}
 use Rattle.wt_proto.specs.ResponseWalk.{is_answered}
-use Rattle.wt_inbox.proofs.Asked.{response-same, response-others, response-quiet, response-answered, response-read}
+use Rattle.wt_inbox.proofs.AnswersStay.{response-same, response-others, response-quiet, response-answered, response-read}
 use Rattle.wt_inbox.proofs.Staging.{response-says, response_read_refines}
 use Rattle.wt_inbox.proofs.Counting.{response-readers}
 use Rattle.wt_inbox.proofs.inbox.Inbox.has_response.Goals as goal

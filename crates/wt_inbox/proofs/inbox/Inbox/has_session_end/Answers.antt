@@ -1,6 +1,6 @@
 use Rattle.std.proofs.Common.{ap, ◌∙◌}
 use Rattle.wt_proto.specs.SessionWalk.{is_over}
-use Rattle.wt_inbox.proofs.Asked.{session-same, session-others, session-quiet, session-answered, session-over}
+use Rattle.wt_inbox.proofs.AnswersStay.{session-same, session-others, session-quiet, session-answered, session-over}
 use Rattle.wt_inbox.proofs.Staging.{session-says, session_read_refines}
 use Rattle.wt_inbox.proofs.Counting.{session-readers}
 use Rattle.wt_inbox.proofs.inbox.Inbox.has_session_end.Goals as goal

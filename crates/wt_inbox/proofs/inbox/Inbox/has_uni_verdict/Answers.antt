@@ -1,6 +1,6 @@
 use Rattle.std.proofs.Common.{ap, sym, ◌∙◌}
 use Rattle.wt_proto.specs.Uni.{is_final}
-use Rattle.wt_inbox.proofs.Asked.{uni-same, uni-others, uni-quiet, uni-answered, uni-read}
+use Rattle.wt_inbox.proofs.AnswersStay.{uni-same, uni-others, uni-quiet, uni-answered, uni-read}
 use Rattle.wt_inbox.proofs.Staging.{uni-says, uni_read_refines}
 use Rattle.wt_inbox.proofs.Counting.{uni-readers}
 use Rattle.wt_inbox.proofs.inbox.Inbox.has_uni_verdict.Goals as goal

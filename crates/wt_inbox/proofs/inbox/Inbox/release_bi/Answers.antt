@@ -1,5 +1,5 @@
 use Rattle.std.proofs.Common.{◌∙◌}
-use Rattle.wt_inbox.proofs.Asked.{bi-answered, bi-released-others, bi-released-quiet}
+use Rattle.wt_inbox.proofs.AnswersStay.{bi-answered, bi-released-others, bi-released-quiet}
 use Rattle.wt_inbox.proofs.Staging.{bi-says, bi_released_refines}
 use Rattle.wt_inbox.proofs.Counting.{bi-released-readers}
 use Rattle.wt_inbox.proofs.inbox.Inbox.release_bi.Goals as goal

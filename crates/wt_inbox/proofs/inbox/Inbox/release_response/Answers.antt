@@ -1,5 +1,5 @@
 use Rattle.std.proofs.Common.{◌∙◌}
-use Rattle.wt_inbox.proofs.Asked.{response-answered, response-released-others, response-released-quiet}
+use Rattle.wt_inbox.proofs.AnswersStay.{response-answered, response-released-others, response-released-quiet}
 use Rattle.wt_inbox.proofs.Staging.{response-says, response_released_refines}
 use Rattle.wt_inbox.proofs.Counting.{response-released-readers}
 use Rattle.wt_inbox.proofs.inbox.Inbox.release_response.Goals as goal

@@ -1,7 +1,7 @@
 use Rattle.std.proofs.Common.{ap, ◌∙◌}
 use Rattle.wt_wire.specs.declared.side.StreamEnd.TheVariants.{Running}
 use Rattle.wt_proto.specs.SessionWalk.{is_over}
-use Rattle.wt_inbox.proofs.Asked.{session-answered, session-released-others, session-released-quiet}
+use Rattle.wt_inbox.proofs.AnswersStay.{session-answered, session-released-others, session-released-quiet}
 use Rattle.wt_inbox.proofs.Staging.{session-says, session-says-by, session_released_refines}
 use Rattle.wt_inbox.proofs.Counting.{session-released-readers}
 use Rattle.wt_inbox.proofs.inbox.Inbox.release_session.Goals as goal

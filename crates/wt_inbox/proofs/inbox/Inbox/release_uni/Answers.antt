@@ -1,5 +1,5 @@
 use Rattle.std.proofs.Common.{◌∙◌}
-use Rattle.wt_inbox.proofs.Asked.{uni-answered, uni-released-others, uni-released-quiet}
+use Rattle.wt_inbox.proofs.AnswersStay.{uni-answered, uni-released-others, uni-released-quiet}
 use Rattle.wt_inbox.proofs.Staging.{uni-says, uni_released_refines}
 use Rattle.wt_inbox.proofs.Counting.{uni-released-readers}
 use Rattle.wt_inbox.proofs.inbox.Inbox.release_uni.Goals as goal

@@ -1,6 +1,6 @@
 use Rattle.std.proofs.Common.{refl, subst, ◌∙◌, ap}
 use Rattle.wt_proto.specs.Reading.{outcome_in}
-use Rattle.wt_inbox.specs.Kept.{reading_of}
+use Rattle.wt_inbox.specs.KeptReaders.{reading_of}
 use Rattle.wt_inbox.specs.State.{InboxState}
 use Rattle.wt_inbox.specs.Moves.{SessionTaken}
 use Rattle.wt_proto.specs.SessionWalk.{session_unfinished}

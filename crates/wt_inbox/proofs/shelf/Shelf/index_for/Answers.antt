@@ -1,6 +1,6 @@
 use Rattle.std.specs.Prelude.{is_ok}
 use Rattle.std.proofs.Common.{refl, sym, subst, ◌∙◌, ℕ}
-use Rattle.wt_inbox.specs.Kept.{StandsAt}
+use Rattle.wt_inbox.specs.KeptReaders.{StandsAt}
 use Rattle.wt_inbox.proofs.Shelves.{found-at, pushed-at, pushed-same}
 use Rattle.wt_inbox.proofs.Counting.{found-count, pushed-count, pushed-one-each}
 use Rattle.wt_inbox.proofs.shelf.Shelf.index_for.Goals as goal

@@ -10,19 +10,19 @@ use Rattle.wt_turn.specs.declared.call.Call.TheVariants as calls
 
 pub returns-in-Some-clause-reply : goal.returns-in-Some-clause-reply
 returns-in-Some-clause-reply c = if_of_each c.args.d.now (MayCall calls.Incoming) c.give.result _ (λ side log taken f reach may.
-    let told = sym (ap told_of c.in-Some.is) ∙ c.in_ok-request.ensures (first_is_request side c.args.d.now log taken f reach may) in
-    given_reply side c.args.d.now log taken f reach may c.in-Some.request told c.give.result c.give.ensures.given)
+    let reported = sym (ap told_of c.in-Some.is) ∙ c.in_ok-request.ensures (first_is_request side c.args.d.now log taken f reach may) in
+    given_reply side c.args.d.now log taken f reach may c.in-Some.request reported c.give.result c.give.ensures.given)
 
 pub returns-in-Some-clause-log : goal.returns-in-Some-clause-log
 returns-in-Some-clause-log c = on_of_each c.args.d.now (MayCall calls.Incoming) c.give.result _ (λ side log taken f reach may.
-    let told = sym (ap told_of c.in-Some.is) ∙ c.in_ok-request.ensures (first_is_request side c.args.d.now log taken f reach may) in
-    subst (λ (x : Effect). OnOk c.give.result (Follows side c.give.new.d x.log taken)) (sym (delivered_effect side c.args.d.now log taken f reach may c.in-Some.request told))
-    (c.give.ensures.log side log taken f (may_deliver side c.args.d.now log taken f reach may c.in-Some.request told)))
+    let reported = sym (ap told_of c.in-Some.is) ∙ c.in_ok-request.ensures (first_is_request side c.args.d.now log taken f reach may) in
+    subst (λ (x : Effect). OnOk c.give.result (Follows side c.give.new.d x.log taken)) (sym (delivered_effect side c.args.d.now log taken f reach may c.in-Some.request reported))
+    (c.give.ensures.log side log taken f (may_deliver side c.args.d.now log taken f reach may c.in-Some.request reported)))
 
-pub returns-in-Some-clause-stands : goal.returns-in-Some-clause-stands
-returns-in-Some-clause-stands c = if_of_each c.args.d.now (MayCall calls.Incoming) c.give.result _ (λ side log taken f reach may.
-    let told = sym (ap told_of c.in-Some.is) ∙ c.in_ok-request.ensures (first_is_request side c.args.d.now log taken f reach may) in
-    given_stands side c.args.d.now log taken f reach may c.in-Some.request told c.give.result c.give.ensures.given)
+pub returns-in-Some-clause-in_log : goal.returns-in-Some-clause-in_log
+returns-in-Some-clause-in_log c = if_of_each c.args.d.now (MayCall calls.Incoming) c.give.result _ (λ side log taken f reach may.
+    let reported = sym (ap told_of c.in-Some.is) ∙ c.in_ok-request.ensures (first_is_request side c.args.d.now log taken f reach may) in
+    given_stands side c.args.d.now log taken f reach may c.in-Some.request reported c.give.result c.give.ensures.given)
 
 pub returns-in-None-clause-reply : goal.returns-in-None-clause-reply
 returns-in-None-clause-reply c = if_of_each c.args.d.now (MayCall calls.Incoming) c.wait.result _ (λ side log taken f reach may.
@@ -34,7 +34,7 @@ returns-in-None-clause-log c = on_of_each c.args.d.now (MayCall calls.Incoming) 
     let none = sym (ap told_of c.in-None.is) ∙ c.in_ok-request.ensures (first_is_request side c.args.d.now log taken f reach may) in
     subst (λ (x : Effect). OnOk c.wait.result (Follows side c.wait.new.d x.log taken)) (sym (undelivered_effect side c.args.d.now log taken f reach may none)) (c.wait.ensures.log side log taken f))
 
-pub returns-in-None-clause-stands : goal.returns-in-None-clause-stands
-returns-in-None-clause-stands c = if_of_each c.args.d.now (MayCall calls.Incoming) c.wait.result _ (λ side log taken f reach may.
+pub returns-in-None-clause-in_log : goal.returns-in-None-clause-in_log
+returns-in-None-clause-in_log c = if_of_each c.args.d.now (MayCall calls.Incoming) c.wait.result _ (λ side log taken f reach may.
     let none = sym (ap told_of c.in-None.is) ∙ c.in_ok-request.ensures (first_is_request side c.args.d.now log taken f reach may) in
-    subst (λ (x : Effect). IfOk c.wait.result (λ p. StandsWith side x.log p)) (sym (undelivered_effect side c.args.d.now log taken f reach may none)) (c.wait.ensures.stands side log taken f may))
+    subst (λ (x : Effect). IfOk c.wait.result (λ p. StandsWith side x.log p)) (sym (undelivered_effect side c.args.d.now log taken f reach may none)) (c.wait.ensures.in_log side log taken f may))

@@ -15,7 +15,7 @@ pub returns-clause-kind : goal.returns-clause-kind
 returns-clause-kind c = λ call q side log taken f reach s.
     poll_reply side log c.args.accepts c.args.self.now s call q c.in_ok-reply.reply (c.in_ok-reply.ensures.reply side log taken call f (c.in_ok-plan.ensures side log taken call f reach s q))
 
-pub returns-clause-stands : goal.returns-clause-stands
-returns-clause-stands c = λ call q side log taken f reach s.
+pub returns-clause-in_log : goal.returns-clause-in_log
+returns-clause-in_log c = λ call q side log taken f reach s.
     subst (λ (x : Response). StandsWith side (call_effect side log call).log c.args.accepts (record x { has_begun = true }) c.in_ok-reply.reply) (sym c.self.view_is)
     (poll_stands side log c.args.accepts c.args.self.now s call q c.in_ok-reply.reply reach (c.in_ok-reply.ensures.reply side log taken call f (c.in_ok-plan.ensures side log taken call f reach s q)))

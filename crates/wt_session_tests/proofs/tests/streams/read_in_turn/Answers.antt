@@ -8,7 +8,7 @@ use Rattle.wt_session_tests.proofs.tests.streams.read_in_turn.Goals as goal
 pub returns-clause-first : goal.returns-clause-first
 returns-clause-first c = λ side log taken f r h k. c.read-one.ensures.reply side log taken f r h
 
--- the second half stood before the first one's read, and stands behind it
+-- the second half stood before the first one's read, and stands after it
 pub returns-clause-second : goal.returns-clause-second
 returns-clause-second c = λ side log taken f r h k.
     let read = calls.Read c.args.first.now (length c.args.left.now) in

@@ -1,6 +1,6 @@
 use Rattle.std.proofs.Common.{◌≡◌, ◌-◌, ◌∷◌, ◌++◌, ℕ, List, length, drop, ap, subst, ◌∙◌, arith}
 use Rattle.std.proofs.lemmas.List.{length-drop, take-append-drop}
-use Rattle.wt_proto.specs.Progress.{Advances}
+use Rattle.wt_proto.specs.WalkProgress.{Advances}
 use Rattle.wt_proto.proofs.AdvanceLaws.{advance-then}
 use Rattle.wt_seam.specs.Step.{after_consume, unread_now}
 use Rattle.wt_typed.proofs.Consuming.{taken-unread, taken-more}

@@ -14,7 +14,7 @@ returns-clause-prefix c =
     (writes_prefix c.args.t.now.is_open half c.args.self.now (frame_bytes c.args.frame.now) (frame_some c.args.frame.now)))
     c.poll.ensures.write
 
-pub returns-clause-goes_on : goal.returns-clause-goes_on
-returns-clause-goes_on c =
+pub returns-clause-still_going : goal.returns-clause-still_going
+returns-clause-still_going c =
     either_continues c.poll.result c.args.t.now.is_open (sending_half_now c.args.t.now c.args.id) c.args.self.now c.begin_frame.new.self c.poll.new.self (frame_bytes c.args.frame.now)
     c.in_ok-begin_frame.ensures.write c.poll.ensures.write c.poll.ensures.kept

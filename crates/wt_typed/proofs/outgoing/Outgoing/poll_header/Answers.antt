@@ -14,7 +14,7 @@ returns-clause-prefix c =
     (writes_prefix c.args.t.now.is_open half c.args.self.now (header_bytes c.args.header) (header_some c.args.header)))
     c.poll.ensures.write
 
-pub returns-clause-goes_on : goal.returns-clause-goes_on
-returns-clause-goes_on c =
+pub returns-clause-still_going : goal.returns-clause-still_going
+returns-clause-still_going c =
     either_continues c.poll.result c.args.t.now.is_open (sending_half_now c.args.t.now c.args.id) c.args.self.now c.begin_header.new.self c.poll.new.self (header_bytes c.args.header)
     c.in_ok-begin_header.ensures.write c.poll.ensures.write c.poll.ensures.kept

@@ -5,7 +5,7 @@ use Rattle.wt_commands.proofs.outside.sure.SureSourceSource.read.Goals as goal
 pub returns-clause-bytes : goal.returns-clause-bytes
 returns-clause-bytes c =
     let bytes = c.self.inside.bytes.items in
-    let at = c.self.inside.at in
+    let at = c.self.inside.offset in
     let count = c.min-count.result in
     let e : count ≡ min (length c.args.buf.now) (length bytes - at) = search rules in
     let p : c.copy_from_slice.new.self ≡ take (at + count - at) (drop at bytes) = search rules in (

@@ -1,0 +1,119 @@
+-- What a driver that refines a log of lawful turns tells of it, as the functions' contracts say it.
+use Rattle.std.specs.Prelude.{[], ◌∷◌, ◌≡◌, Bool, List, None, Option, Some, if◌then◌else◌, true, ℕ}
+use Rattle.std.proofs.Common.{◌∙◌, ap, refl, subst, sym}
+use Rattle.wt_driver_state.proofs.LetGo.{let-go-gone, unwanted-gone}
+use Rattle.wt_driver_state.proofs.StageAnswers.{read-staged}
+use Rattle.wt_driver_state.specs.DriverValue.{DriverValue}
+use Rattle.wt_dispatch.specs.Requests.{first_request, request_in}
+use Rattle.wt_driver_state.specs.Stages.{is_let_go, is_unwanted}
+use Rattle.wt_driver_state.specs.Tie.{Refines}
+use Rattle.wt_driver_spec.specs.DriverState.{DriverState, requests_now, state_of}
+use Rattle.wt_driver_spec.specs.Uses.{classified_of}
+use Rattle.wt_inbox.specs.Stage.{GivenUp, IsAt, Stage}
+use Rattle.wt_laws.specs.Reachable.{IsReachable}
+use Rattle.wt_plan.proofs.AnswersSame.{answers_same}
+use Rattle.wt_plan.proofs.ReadsSame.{inbox_tells}
+use Rattle.wt_plan.specs.DriverAnswers.{answers_now, error_now}
+use Rattle.wt_plan.specs.PlansAgree.{AnswersLog, KeepsRequestEnd, TellsFacts, driver_facts}
+use Rattle.wt_proto.specs.declared.response_walk.ResponseWalk.{ResponseWalk}
+use Rattle.wt_proto.specs.declared.verdict.Verdict.{Verdict}
+use Rattle.wt_proto.specs.declared.verdict.Verdict.TheVariants as verdicts
+use Rattle.wt_seam.proofs.Refining.{refined_unread}
+use Rattle.wt_seam.specs.State.{TransportState}
+use Rattle.wt_seam.specs.Step.{unread_now}
+use Rattle.wt_seam_spec.specs.Streams.{contents}
+use Rattle.wt_seam_spec.specs.Unread.{ReadPosition, from_position}
+use Rattle.wt_seam_spec.specs.Unread as positions
+use Rattle.wt_session_spec.specs.CallFacts.{facts_of}
+use Rattle.wt_session_spec.specs.Plan.{Step}
+use Rattle.wt_session_spec.specs.Plans.{plan_of}
+use Rattle.wt_session_spec.specs.SessionState.{session_state}
+use Rattle.wt_spec.specs.Answers.{call_effect, is_first, may_call}
+use Rattle.wt_spec.specs.Driver.{stream_table}
+use Rattle.wt_spec.specs.Effect.{driver_error, pending_or_failed}
+use Rattle.wt_spec.specs.Handshake.{Connecting, handshake_state, queued_requests}
+use Rattle.wt_spec.specs.StreamTable.{Classified}
+use Rattle.wt_agreement.proofs.Theorems.{delivered_theorem}
+use Rattle.wt_turn.specs.Log.{Log, RequestDelivered, calls_of, is_open}
+use Rattle.wt_turn.specs.declared.action.Action.{Action}
+use Rattle.wt_turn.specs.declared.call.Call.{Call}
+use Rattle.wt_reply.specs.declared.reply.Reply.{Reply}
+use Rattle.wt_reply.specs.declared.reply.Reply.TheVariants as replies
+use Rattle.wt_wire.specs.HeaderList.{Fields}
+use Rattle.wt_wire.specs.declared.side.Side.{Side}
+
+-- with whether anything happened, where the delivered request ends, and the walk over the response while a connect goes on
+pub drivers_tell_theorem : (side : Side) (d : DriverValue) (log : Log) (untaken : List Action) (first : Bool) (end : ℕ) (walk : ResponseWalk)
+    → Refines side d log untaken → first ≡ is_first log → KeepsRequestEnd side log end
+    → ((reserved : Option (List ℕ)) (head : List ℕ) → handshake_state (calls_of log) ≡ Connecting reserved head → walk ≡ (driver_facts side log).response)
+    → IsReachable side log → TellsFacts side log d.inbox.transport (answers_now d.inbox.transport d.state first end walk)
+drivers_tell_theorem side d log untaken first end walk r f k w reach =
+    inbox_tells side log d.inbox r.stage untaken (answers_now d.inbox.transport d.state first end walk) r.inbox (λ j h. read-staged side log r.stage j r.fits r.uses r.staged h)
+    (subst (λ (s : DriverState). AnswersLog side log (answers_now d.inbox.transport s first end walk)) (sym r.state_is)
+    (answers_same side log d.inbox.transport r.inbox.position untaken first end walk r.inbox.transport f k w)) reach
+
+pub driver_error_theorem : (side : Side) (d : DriverValue) (log : Log) (untaken : List Action) → Refines side d log untaken → error_now d.inbox.transport d.state.progress.ending ≡ driver_error side log
+driver_error_theorem side d log untaken r =
+    let own = driver_facts side log in
+    subst (λ (s : DriverState). error_now d.inbox.transport s.progress.ending ≡ driver_error side log) (sym r.state_is)
+    (answers_same side log d.inbox.transport r.inbox.position untaken (is_first log) own.request_end own.response r.inbox.transport refl (λ a. refl) (λ reserved head c. refl)).driver_error
+
+pub transport_open_theorem : (side : Side) (d : DriverValue) (log : Log) (untaken : List Action) → Refines side d log untaken → d.inbox.transport.is_open ≡ is_open log
+transport_open_theorem side d log untaken r = ap (λ (t : TransportState). t.is_open) r.inbox.transport.state
+
+pub state_open_theorem : (side : Side) (d : DriverValue) (log : Log) (untaken : List Action) → Refines side d log untaken → d.state.is_open ≡ is_open log
+unfolding state_of
+state_open_theorem side d log untaken r = ap (λ (s : DriverState). s.is_open) r.state_is
+
+pub pending_theorem : (side : Side) (d : DriverValue) (log : Log) (untaken : List Action) → Refines side d log untaken
+    → pending_or_failed side log ≡ (if d.inbox.transport.is_open then replies.Pending else replies.Failed (error_now d.inbox.transport d.state.progress.ending))
+pending_theorem side d log untaken r =
+    ap (λ (open_ : Bool). if open_ then replies.Pending else replies.Failed (driver_error side log)) (sym (transport_open_theorem side d log untaken r))
+    ∙ ap (λ e. if d.inbox.transport.is_open then replies.Pending else replies.Failed e) (sym (driver_error_theorem side d log untaken r))
+
+pub requests_theorem : (side : Side) (d : DriverValue) (log : Log) (untaken : List Action) → Refines side d log untaken → requests_now d.state ≡ queued_requests side log
+unfolding state_of
+requests_theorem side d log untaken r = ap requests_now r.state_is
+
+-- ---- where a request ends that is told
+
+abbrev told_fields : Option (ℕ × Fields × ℕ) → Fields
+told_fields None = []
+told_fields (Some reported) = reported.1
+
+abbrev told_end : Option (ℕ × Fields × ℕ) → ℕ
+told_end None = 0
+told_end (Some reported) = reported.2
+
+request-told : (j id : ℕ) (v : Verdict) (headers : Fields) (at : ℕ) → request_in j v ≡ Some (id, headers, at) → v ≡ verdicts.Request headers at
+request-told j id (verdicts.Request fields end) headers at e =
+    let x : fields ≡ headers = ap told_fields e in
+    let y : end ≡ at = ap told_end e in
+    rw (x, y) refl
+request-told j id _ headers at e = absurd (cc)
+
+first-told : (id : ℕ) (headers : Fields) (at : ℕ) (cs : List Classified) → first_request cs ≡ Some (id, headers, at) → (queued : Classified) × (later : List Classified) × (cs ≡ queued ∷ later) × (queued.verdict ≡ verdicts.Request headers at)
+first-told id headers at [] e = absurd (cc)
+first-told id headers at (c ∷ later) e = (c, later, refl, request-told c.id id c.verdict headers at e)
+
+pub told_end_theorem : (side : Side) (d : DriverValue) (log : Log) (untaken : List Action) (call : Call) (own : List Action) (k : ℕ) (reply : Reply) (id : ℕ) (headers : Fields) (at : ℕ)
+    → Refines side d log untaken → may_call side log call ≡ true → plan_of (facts_of side log) (session_state log) call ≡ Step own (RequestDelivered k) reply
+    → first_request (requests_now d.state) ≡ Some (id, headers, at) → KeepsRequestEnd side (call_effect side log call).log at
+told_end_theorem side d log untaken call own k reply id headers at r l e f =
+    let t = first-told id headers at (requests_now d.state) f in
+    delivered_theorem side log call own k reply t.0 t.1 headers at l e (sym (requests_theorem side d log untaken r) ∙ t.2) t.3
+
+-- ---- streams that are let go
+
+module _ (side : Side) (d : DriverValue) (log : Log) (untaken : List Action) (k : ℕ) (r : Refines side d log untaken) where
+  -- no byte of a stream that is given up is held
+  none-held : r.stage k ≡ GivenUp → unread_now d.inbox.transport k ≡ []
+  none-held e =
+      let position_is : r.inbox.position k ≡ positions.GivenUp = subst (λ (s : Stage). IsAt d.inbox k (contents log k) (r.inbox.position k) s) e (r.inbox.staged k) in
+      refined_unread side d.inbox.transport log r.inbox.position untaken r.inbox.transport k ∙ ap (λ (p : ReadPosition). from_position p (contents log k)) position_is
+
+  pub let_go_theorem : is_let_go side log k ≡ true → unread_now d.inbox.transport k ≡ []
+  let_go_theorem e = none-held (let-go-gone side log r.stage k r.fits r.uses r.staged e)
+
+  pub unwanted_theorem : is_unwanted (classified_of k (stream_table side log).classified) ≡ true → unread_now d.inbox.transport k ≡ []
+  unwanted_theorem e = none-held (unwanted-gone side log r.stage k r.staged e)

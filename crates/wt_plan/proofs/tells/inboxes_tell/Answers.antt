@@ -1,6 +1,0 @@
-use Rattle.wt_plan.proofs.ReadsSame.{inbox_tells}
-use Rattle.wt_plan.proofs.tells.inboxes_tell.Goals as goal
-
--- src/tells.rt:1:1
-pub returns : goal.returns
-returns c side log x stage untaken d r s a reach = inbox_tells side log x stage untaken d r s a reach

@@ -1,5 +1,0 @@
-use Rattle.wt_told.proofs.DriverTheorems.{requests_theorem}
-use Rattle.wt_told.proofs.drivers.drivers_tell_the_requests.Goals as goal
-
-pub returns : goal.returns
-returns c side d log untaken r = requests_theorem side d log untaken r
