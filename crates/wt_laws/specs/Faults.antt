@@ -48,7 +48,7 @@ pub record TakenLast (before after : StreamTable) (k : ℕ) (v : Verdict) : Type
   pub order : after.classified ≡ earlier ++ last ∷ []
   pub same : last.id ≡ k
 
--- This datagram is taken by the moment that ends the log, which leads from one table to the other: it is the next that came after it
+-- This datagram is taken by the moment that ends the log, which leads from one table to the other: it is the next that came after
 -- those that were dequeued before, all of which were received or passed.
 pub record TakesDatagram (log : Log) (before after : StreamTable) (piece : List ℕ) : Type 0 where
   pub next : slice_get (datagrams_of (events_of log)) before.progress.datagrams ≡ Some piece
